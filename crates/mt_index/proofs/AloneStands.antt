@@ -7,18 +7,17 @@ use Rattle.mt_types.specs.declared.numbers.CallNo.{CallNo}
 use Rattle.mt_types.specs.declared.event.Event.TheVariants.{Begin, Step}
 use Rattle.mt_types.specs.declared.event.Request.{Request}
 use Rattle.std.specs.Prelude.{All, IsSome}
-use Rattle.std.specs.Option.{option_map}
 use Rattle.std.specs.FinMap.{get}
 use Rattle.std.proofs.lemmas.List.Elements.{All-nil, All-cons, All-head, All-tail}
 use Rattle.mt_types.specs.Rows.{Rows, shown}
 use Rattle.mt_types.specs.declared.row.Row.{Row}
-use Rattle.mt_types.specs.declared.event.Answer.TheVariants.{Absent, Found, Rows as RowsAnswer}
+use Rattle.mt_types.specs.declared.event.Answer.TheVariants.{Rows as RowsAnswer}
 use Rattle.mt_types.specs.declared.event.Request.TheVariants.{Get as GetRequest, Put as PutRequest, PutIf as PutIfRequest, Remove as RemoveRequest, Range as RangeRequest, Tidy as TidyRequest, Build as BuildRequest}
 use Rattle.mt_slice.specs.Place.{AreBytes, place_of}
 use Rattle.mt_chart.specs.ScanRun.{Stood, AllHave}
 use Rattle.mt_chart.specs.KeyAnswer.{KeysAreBytes}
 use Rattle.mt_tree.specs.Seen.{arena_seen}
-use Rattle.mt_steps.specs.Lone.{IsLoneTree, IsRightNow}
+use Rattle.mt_steps.specs.Lone.{IsRightNow}
 use Rattle.mt_types.specs.declared.event.Reply.{Reply}
 use Rattle.mt_types.specs.declared.event.Outcome.{Outcome}
 use Rattle.mt_types.specs.declared.event.Outcome.TheVariants.{Call as Called, Moved, Commit, Done, Refused}
@@ -52,8 +51,7 @@ use Rattle.mt_index.specs.Calls.{CallsView, call_at, with_changed, with_work, wi
 use Rattle.mt_index.specs.Paired.{Paired}
 use Rattle.mt_index.specs.Stands.{MachineView, Stands, CallStands, Begins, Steps, StepsOpen, EndsBuild, outcome_of, calls_after, log_after, views_after, pinned, fault_of}
 use Rattle.mt_index.specs.Alone.{IsIdle, pass_0, next_call, IsShort, AnswersFrom, AnswersPlainly, RefusesPlainly}
-use Rattle.mt_index.proofs.EventStands.{begins-stands, begins-columns}
-use Rattle.mt_index.proofs.PastLemmas.{lacks_now}
+use Rattle.mt_index.proofs.BeginStands.{begins-stands, begins-columns}
 use Rattle.mt_index.proofs.ViewEvents.{steps-stand, steps-columns}
 
 -- ---- the machine
@@ -131,10 +129,7 @@ ComesTo s work number made _ t = ⊥
 -- a get leaves the tree as it is
 read_only : (a after : ArenaView) (work : Work) → WorkReads a after work → IsGet work → after ≡ a
 read_only a after (Get own) reads is = reads
-read_only a after (Write write) reads is = absurd is
-read_only a after (Range range) reads is = absurd is
-read_only a after (Tidy tidy) reads is = absurd is
-read_only a after (Build building) reads is = absurd is
+read_only a after _ reads is = absurd is
 
 module _ (laws : LoneLaws) (s t : MachineView) (number made : ℕ) (runs : IsRunning s number made) where
   there : call_at number s.calls.calls ≡ Some runs.call
@@ -278,10 +273,7 @@ runs_from_begin laws s t request number idle h st begins =
 
 get_before : (work new : Work) → request_of new ≡ request_of work → IsGet new → IsGet work
 get_before work (Get own) equal is = asks_get work own.key own.columns (sym equal)
-get_before work (Write write) equal is = absurd is
-get_before work (Range range) equal is = absurd is
-get_before work (Tidy tidy) equal is = absurd is
-get_before work (Build building) equal is = absurd is
+get_before work _ equal is = absurd is
 
 runs_on : (begun s t : MachineView) (request : Request) (number : CallNo) (outcome : Outcome) → (from : RunsFrom begun s request number) → Steps s number.0 outcome t → GoesOnBy outcome
     → GoesFurther s from.runs.call.work number.0 from.made t → RunsFrom begun t request number
@@ -393,18 +385,6 @@ went_on laws begun s t request number outcome (inr (commit, committed)) from ste
     (runs_on begun s t request number (Commit commit) from made tt further, further.falls)
 
 -- ---- reads of an idle machine
--- nothing in its tree is taken
-pub lone_tree : (s : MachineView) (h : History) → Stands s h → IsIdle s → IsLoneTree s.tree
-lone_tree s h st idle = record {
-  now = s.epoch;
-  w = st.w;
-  world = st.world;
-  free = λ n taken. let (k, i, owned) = st.owned n taken in none_among k (subst (λ (l : List (ℕ × Call)). Among k l) idle i);
-}
-  where
-    none_among : (k : ℕ × Call) → Among k [] → ⊥
-    none_among k i = elim i [ ]
-
 -- what a range reads are the pairs of the rows
 module _ (s : MachineView) (h : History) (st : Stands s h) (asked : List ℕ) where
   abbrev map : Rows
@@ -434,15 +414,3 @@ module _ (s : MachineView) (h : History) (st : Stands s h) (asked : List ℕ) wh
     stood = all_shown pairs right.bytes right.answers.stood;
     once = λ key from there enough. right.answers.once key from (stands_so key (get map key) refl there) enough;
   }
-
--- what a get reads is the row of the rows
-pub read_found : (s : MachineView) (h : History) → Stands s h → (key asked : List ℕ) (row : Row) → IsRightNow s.tree (GetRequest key asked) (Found row)
-    → ◌≡◌ {A = Option Row} (Some row) (option_map (shown asked) (get (rows s.columns (moment h)) key))
-read_found s h st key asked row (bytes, stood) =
-    let (there, stands, shows) = shows_so s h st asked key row bytes stood in
-    ap (λ (r : Row). Some r) shows ∙ sym (ap (option_map (shown asked)) stands)
-
-pub read_none : (s : MachineView) (h : History) → Stands s h → (key asked : List ℕ) → IsRightNow s.tree (GetRequest key asked) Absent
-    → ◌≡◌ {A = Option Row} None (option_map (shown asked) (get (rows s.columns (moment h)) key))
-read_none s h st key asked (bytes, inl lacks) = sym (ap (option_map (shown asked)) (lacks_now s.columns s.tree h st.content key bytes lacks))
-read_none s h st key asked (bytes, inr never) = absurd never

@@ -150,14 +150,6 @@ module _ (s : MachineView) (h : History) (st : Stands s h) where
   pub view_held : (number : ℕ) (state : StateView) → state_at number s.views.views ≡ Some state → Contains s.log.holders state.at
   view_held number state there = counted_is_held state.at s.log.holders (view_reaches number state there).1
 
-  pub view_within : (number : ℕ) (state : StateView) → state_at number s.views.views ≡ Some state → (s.log.held_after ≤ state.at) × (state.at ≤ newest s.log)
-  view_within number state there =
-      let is = exact_at s.columns (moment h) number state s.views.views st.views.exact there in
-      let low = (view_reaches number state there).0 in
-      let r = is.reached in
-      let all = st.commits in
-      (low, omega (arith, r, all))
-
   -- an apply that changes nothing
   apply_current : (asked : ViewNo) → MayApply (moment h) asked.0 (meant_view asked.0 (moment h).views) Current → Stands s (happening (Apply asked) Current 0 ∷ h)
   apply_current asked may = same_stands s h (happening (Apply asked) Current 0) st may refl refl refl refl refl refl
@@ -331,15 +323,3 @@ module _ (s : MachineView) (h : History) (st : Stands s h) where
       subst (λ (u : MachineView). Stands u (happening (ViewDrop view) outcome 0 ∷ h)) (sym same) (subst (λ (z : Outcome). Stands s (happening (ViewDrop view) z 0 ∷ h)) (sym is)
       (same_stands s h (happening (ViewDrop view) (Refused NoSuchView) 0) st (subst (λ (z : Option StandingView). MayDrop z (Refused NoSuchView)) (sym (ap (view_of view.0) st.views.standing ∙ view-of-none view.0 s.views.views none)) refl) refl refl refl refl refl refl))
   drops-stand t view outcome (inr o) = dropped t view outcome o
-
-  pub applies-columns : (t : MachineView) (asked : ℕ) (outcome : Outcome) → Applies s asked outcome t → t.columns ≡ s.columns
-  applies-columns t asked outcome (inl (none, is, same)) = ap (λ (m : MachineView). m.columns) same
-  applies-columns t asked outcome (inr a) = elim a.comes [
-    | inl (up, is, same) ↦ ap (λ (m : MachineView). m.columns) same
-    | inr (inl (behind, is, same)) ↦ ap (λ (m : MachineView). m.columns) same
-    | inr (inr takes) ↦ ap (λ (m : MachineView). m.columns) takes.is_next
-  ]
-
-  pub drops-columns : (t : MachineView) (view : ℕ) (outcome : Outcome) → Drops s view outcome t → t.columns ≡ s.columns
-  drops-columns t view outcome (inl (none, is, same)) = ap (λ (m : MachineView). m.columns) same
-  drops-columns t view outcome (inr o) = ap (λ (m : MachineView). m.columns) o.is_next

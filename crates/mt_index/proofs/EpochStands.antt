@@ -148,7 +148,3 @@ collects_some s tree upto count oldest exactly keeps = record {
   is_outcome = refl;
   is_next = refl;
 }
-
-pub advances-columns : (s t : MachineView) (outcome : Outcome) → Advances s outcome t → t.columns ≡ s.columns
-advances-columns s t outcome (inl (spent, is, same)) = ap (λ (m : MachineView). m.columns) same
-advances-columns s t outcome (inr (more, is, next)) = ap (λ (m : MachineView). m.columns) next

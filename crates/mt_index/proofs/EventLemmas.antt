@@ -16,7 +16,7 @@ use Rattle.mt_types.specs.declared.refusal.Refusal.{Refusal}
 use Rattle.mt_types.specs.declared.refusal.Refusal.TheVariants.{NoSuchCall}
 use Rattle.mt_commit.specs.Log.{newest}
 use Rattle.mt_steps.specs.declared.progress.Progress.{Progress}
-use Rattle.mt_steps.specs.declared.progress.Progress.TheVariants.{Moved as WentOn, Waits, Committed, Answered, Refused as EndsProgress}
+use Rattle.mt_steps.specs.declared.progress.Progress.TheVariants.{Moved as WentOn, Committed}
 use Rattle.mt_works.specs.declared.work.Work.{Work}
 use Rattle.mt_index.specs.declared.calls.Call.{Call}
 use Rattle.mt_index.specs.Calls.{CallsView, call_at, pass_at, with_changed, with_work}
@@ -115,9 +115,7 @@ by_step : (s : MachineView) (n : ℕ) (pass : PassNo) (from to : ℕ) (p : Progr
     → pass_at n (calls_after n p calls).calls ≡ pass_at n s.calls.calls
 by_step s n pass from to WentOn work calls changed on = ap (λ (c : CallsView). pass_at n c.calls) changed ∙ pass_changed n work s.calls.calls
 by_step s n pass from to (Committed commit) work calls changed on = ap (λ (c : CallsView). pass_at n c.calls) changed ∙ pass_changed n work s.calls.calls
-by_step s n pass from to Waits work calls changed on = absurd on
-by_step s n pass from to (Answered answer) work calls changed on = absurd on
-by_step s n pass from to (EndsProgress refusal) work calls changed on = absurd on
+by_step s n pass from to _ work calls changed on = absurd on
 
 ends_on : (outcome : Outcome) (reply : Reply) → outcome ≡ Done reply → GoesOnAtOnce outcome → ⊥
 ends_on outcome reply is on = subst (λ (o : Outcome). GoesOnAtOnce o) is on

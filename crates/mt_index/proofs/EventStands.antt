@@ -1,91 +1,59 @@
--- Each event leads from a machine at a history to a machine at the next one.
+-- Each step leads from a machine at a history to a machine at the next one.
 use Rattle.std.proofs.Common.{true, false, ℕ, ◌≡◌, ◌+◌, inl, inr, List, [], ◌∷◌, ◌++◌, length, Option, Some, None, IsSome, refl, sym, ap, subst, ◌∙◌, arith, ◌-◌, ◌==◌, Bool, cond, map, ◌≤◌, ◌<◌}
-use Rattle.std.specs.FinMap.{insert, get-empty}
+use Rattle.std.specs.FinMap.{insert}
 use Rattle.std.specs.Prelude.{IsTrue as IsTrueBool}
-use Rattle.mt_types.specs.Keys.{key_cmp}
-use Rattle.mt_tree.specs.Seen.{arena_seen, HasRow}
-use Rattle.std.specs.Prelude.{min, nat_le, count_by, Contains, filter, MatchOption, Result, Ok, Err}
+use Rattle.mt_tree.specs.Seen.{arena_seen}
+use Rattle.std.specs.Prelude.{Contains, filter}
 use Rattle.mt_types.specs.declared.refusal.Refusal.{Refusal}
 use Rattle.mt_types.specs.declared.row.Row.{Row}
 use Rattle.mt_types.specs.declared.numbers.PassNo.{PassNo}
-use Rattle.mt_types.specs.declared.numbers.CallNo.{CallNo}
-use Rattle.mt_types.specs.declared.event.Event.TheVariants.{Begin}
 use Rattle.mt_types.specs.declared.event.Request.{Request}
 use Rattle.mt_types.specs.Rows.{version_of}
 use Rattle.mt_types.specs.declared.event.Request.TheVariants.{Put as PutRequest, PutIf, Remove}
 use Rattle.mt_types.specs.declared.event.Outcome.{Outcome}
-use Rattle.mt_types.specs.declared.event.Outcome.TheVariants.{Call as Called, Moved as MovedOutcome, Again, Commit, Done, Applied, Current, View, Dropped, Epoch, Freed, Refused as RefusedOutcome}
-use Rattle.mt_types.specs.declared.refusal.Refusal.TheVariants.{NoSuchCall, TooManyCalls, TooManyViews, Spent}
-use Rattle.mt_promise.specs.History.{History, Happening, OpenCall, StandingView, happening, moment, rows, after_step, after_call_step, change_of, new_call, view_built}
-use Rattle.mt_promise.specs.Legal.{MayBegin, MayStepAt, MayEnd, MayCommit, begin_fault, view_places, is_get, is_build}
+use Rattle.mt_types.specs.declared.event.Outcome.TheVariants.{Moved as MovedOutcome, Again, Done, Refused as RefusedOutcome}
+use Rattle.mt_types.specs.declared.refusal.Refusal.TheVariants.{NoSuchCall}
+use Rattle.mt_promise.specs.History.{History, OpenCall, StandingView, happening, moment, rows, after_step, after_call_step, change_of, view_built}
+use Rattle.mt_promise.specs.Legal.{MayStepAt, MayEnd, MayCommit, is_get, is_build}
 use Rattle.mt_promise.specs.RightAnswers.{RightAnswer}
-use Rattle.mt_promise.proofs.HistoryLemmas.{happened_is}
-use Rattle.std.proofs.lemmas.Bool.{leb-false}
 use Rattle.std.proofs.lemmas.List.{append-nil, length-map, length-append}
 use Rattle.std.proofs.Math.Nat.{min-le_left}
 use Rattle.std.proofs.lemmas.List.Sums.{length-filter, count_by-le-length}
-use Rattle.mt_types.specs.Limits.{refused_if, request_fault}
-use Rattle.mt_types.specs.Numbers.{greatest_number}
-use Rattle.mt_types.specs.declared.limits.TheConstants.{MAX_COLUMNS, MAX_OPEN_CALLS, MAX_VIEWS}
 use Rattle.mt_types.specs.declared.event.Answer.{Answer}
 use Rattle.mt_types.specs.declared.event.Reply.{Reply}
 use Rattle.mt_promise.specs.Legal.{held_from, reads_log}
 use Rattle.mt_commit.specs.Log.{LogView, IsLog, newest, trimmed}
 use Rattle.mt_commit.specs.Laws.{times_held}
-use Rattle.mt_commit.specs.Holders.{with_holder, without_holder}
+use Rattle.mt_commit.specs.Holders.{without_holder}
 use Rattle.mt_arena.specs.Arena.{ArenaView}
-use Rattle.mt_chart.specs.Tree.{Among, Has}
-use Rattle.mt_chart.specs.Tree.{PlainNode, head}
-use Rattle.mt_chart.specs.Chart.{Chart, Spot}
-use Rattle.mt_interior.specs.Head.{HeadView, new_head}
-use Rattle.mt_tree.specs.Seen.{head_seen}
-use Rattle.mt_tree.proofs.SeenLemmas.{seen-head}
 use Rattle.mt_index.specs.declared.calls.Call.{Call}
 use Rattle.mt_works.specs.declared.work.Work.{Work}
 use Rattle.mt_works.specs.declared.work.Work.TheVariants.{Get as GetWork, Write as WriteWork, Range as RangeWork, Tidy as TidyWork, Build as BuildWork}
-use Rattle.mt_slice.specs.Place.{Place}
 use Rattle.mt_steps.specs.declared.progress.Progress.{Progress}
 use Rattle.mt_steps.specs.declared.progress.Progress.TheVariants.{Moved, Waits, Committed, Answered, Refused}
-use Rattle.std.proofs.lemmas.List.Elements.{All-nil}
-use Rattle.mt_arena.specs.declared.retired.Retired.{Retired}
-use Rattle.mt_arena.specs.declared.node.Node.{Node}
-use Rattle.mt_arena.specs.declared.node.Node.TheVariants.{Head as HeadIn, Border as BorderIn}
-use Rattle.mt_border.specs.Border.{new_border}
-use Rattle.mt_tree.specs.Keeping.{IsIndexAt}
-use Rattle.mt_tree.specs.Descent.{is_marked}
-use Rattle.mt_steps.proofs.AliveLemmas.{alive_node}
-use Rattle.std.specs.Prelude.{IsSomeAnd, All, ◌⊎◌}
-use Rattle.std.specs.Option.{option_and_then}
-use Rattle.mt_arena.specs.Node.{node_at, head_at, head_of}
-use Rattle.mt_arena.proofs.NodeLemmas.{node-from_head, node-from_border}
-use Rattle.mt_chart.proofs.Basics.{same_number}
-use Rattle.mt_tree.specs.NewTree.{IsNewTree}
-use Rattle.mt_steps.specs.World.{IsLocked, IsTaken, World, IsWorld, RowsAreOfKeys, HeadsStand, is_locked, IsAliveIfFree, FreeAreAlive, TwinsAreLocked, IsGone, RetiredAreGone, Goes}
-use Rattle.mt_steps.specs.Step.{Held, IsQuiet, IsRight, Stepped, Commits, bounds, put_row}
+use Rattle.mt_steps.specs.World.{World, Goes}
+use Rattle.mt_steps.specs.Step.{IsQuiet, IsRight, Stepped, Commits, bounds, put_row}
 use Rattle.mt_chart.specs.Tree.{Arena}
 use Rattle.mt_types.specs.declared.row.Change.TheVariants.{Put as PutChange, Drop}
 use Rattle.mt_write.specs.declared.writing.Write.{Write}
 use Rattle.mt_write.specs.declared.writing.Edit.{Edit}
 use Rattle.mt_write.specs.declared.writing.Edit.TheVariants.{Put as PutEdit, Remove as RemoveEdit}
 use Rattle.mt_write.specs.Writing.{edit_request}
-use Rattle.mt_works.specs.Works.{request_of, held, IsTrue, IsNew, OpensAt, IsBuiltWork, WorkBuilds}
+use Rattle.mt_works.specs.Works.{request_of, held, IsTrue, IsBuiltWork, WorkBuilds}
 use Rattle.mt_views.specs.Views.{ViewsView, places, standing}
-use Rattle.mt_index.specs.Viewing.{ViewsStand, ReadsFrom, ReadsOf}
+use Rattle.mt_index.specs.Viewing.{ReadsOf}
 use Rattle.mt_index.proofs.Reading.{reads_on, has_next}
-use Rattle.mt_index.proofs.ViewStands.{all_exact_still, builds_of, paired-builds, least_held}
-use Rattle.mt_index.specs.Paired.{Paired}
+use Rattle.mt_index.proofs.ViewStands.{builds_of, least_held}
 use Rattle.mt_index.specs.Calls.{CallsView, call_at, with_changed, with_work, without, total, all_reserved, StepsCall, MayStepOf, IsBuiltCall}
-use Rattle.mt_index.specs.Stands.{MachineView, CallStands, WasBlocked, HasRowsOf, IsPast, Stands, HasBounds, StepsOpen, Steps, holding, pinned, placed, log_after, views_after, outcome_of, calls_after, Begins, fault_of, with_call}
+use Rattle.mt_index.specs.Stands.{MachineView, CallStands, WasBlocked, HasRowsOf, Stands, HasBounds, StepsOpen, Steps, holding, log_after, views_after, outcome_of, calls_after}
 use Rattle.mt_index.proofs.NumberLemmas.{Entries}
-use Rattle.mt_index.proofs.PairedLemmas.{Found, paired-some, paired-none, paired-append, paired-length, paired-each}
-use Rattle.mt_index.proofs.ListLemmas.{reserves, among_before, among_append, total_append, total_changed, total_without, without_changed, order_append, order_changed, order_without}
-use Rattle.mt_index.proofs.NumberLemmas.{or_none}
-use Rattle.mt_index.proofs.LogStands.{holds_from, froms, holders_after, log_after_is, pinned_is, least_pinned, held_less, held_more, reader_counts, reader_holds, length_by_counts, slowest_is, all-held}
-use Rattle.mt_index.proofs.StepStands.{HoldersAre, held_before, builds_before, with_building, step_event, may_end, right_answer, apart_changed, apart_without, owned_on, owned_end, next_seen, calls_on, calls_end, content_still, keys_still, grows_still, still, commit_stands}
-use Rattle.mt_index.proofs.PastLemmas.{past_new}
-use Rattle.mt_index.proofs.LaterStands.{all_later, same_stands, seen}
+use Rattle.mt_index.proofs.PairedLemmas.{Found, paired-some, paired-none, paired-length}
+use Rattle.mt_index.proofs.ListLemmas.{reserves, total_changed, total_without, without_changed, order_changed, order_without}
+use Rattle.mt_index.proofs.LogStands.{holds_from, froms, holders_after, log_after_is, held_less, reader_counts, reader_holds, length_by_counts, slowest_is}
+use Rattle.mt_index.proofs.StepStands.{HoldersAre, held_before, builds_before, with_building, step_event, apart_changed, apart_without, owned_on, owned_end, next_seen, calls_on, calls_end, content_still, keys_still, grows_still, still, commit_stands}
+use Rattle.mt_index.proofs.RightStands.{may_end, right_answer}
+use Rattle.mt_index.proofs.LaterStands.{same_stands, seen}
 
--- ---- the places of builds after a step
 abbrev building_after : Bool → Progress → ℕ → ℕ
 building_after builds (Answered answer) building = cond builds (building - 1) building
 building_after builds (Refused refusal) building = cond builds (building - 1) building
@@ -97,8 +65,7 @@ views_after_is false (Answered answer) views = refl
 views_after_is true (Refused refusal) views = refl
 views_after_is false (Refused refusal) views = refl
 views_after_is builds Moved views = refl
-views_after_is builds Waits views = refl
-views_after_is builds (Committed number) views = refl
+views_after_is builds _ views = refl
 
 -- the log reaches back to the begin of a call that reads it
 pub held_reaches : (s : MachineView) (h : History) (st : Stands s h) (n : ℕ) (kept : Call) → call_at n s.calls.calls ≡ Some kept → reads_log (request_of kept.work) ≡ true → s.log.held_after ≤ kept.from
@@ -305,164 +272,6 @@ unknown s n h at st =
     (ap (λ r. (after_call_step (moment h) r (RefusedOutcome NoSuchCall) 0).built) of)
     (ap (λ r. (after_call_step (moment h) r (RefusedOutcome NoSuchCall) 0).epoch) of)
 
--- ---- begins
-machine_fault : (s : MachineView) (h : History) (request : Request) → Stands s h → fault_of s request ≡ begin_fault s.columns (moment h).begun (length (moment h).calls) (view_places (moment h)) request
-machine_fault s h request st =
-    let views = ap (λ (vs : List StandingView). length vs) st.views.standing ∙ length-map s.views.views standing in
-    let all = st.views.building in
-    let places : length s.views.views + s.views.building ≡ view_places (moment h) = omega (arith, views, all) in
-    ap (λ (n : ℕ). begin_fault s.columns n (length s.calls.calls) (length s.views.views + s.views.building) request) st.begun
-    ∙ ap (λ (n : ℕ). begin_fault s.columns (moment h).begun n (length s.views.views + s.views.building) request) (paired-length _ _ _ _ _ st.calls)
-    ∙ ap (λ (n : ℕ). begin_fault s.columns (moment h).begun (length (moment h).calls) n request) places
-
--- a build that can begin finds a place
-pub begun_place : (C begun opened taken : ℕ) (request : Request) → begin_fault C begun opened taken request ≡ None → is_build request ≡ true → taken < MAX_VIEWS
-begun_place C begun opened taken request none builds =
-    leb-false MAX_VIEWS taken (not_refused (nat_le MAX_VIEWS taken)
-    (sym (ap (λ (b : Bool). cond b (refused_if (nat_le MAX_VIEWS taken) TooManyViews) None) builds)
-    ∙ or_none (refused_if (nat_le MAX_OPEN_CALLS opened) TooManyCalls) _ (or_none (refused_if (nat_le greatest_number begun) Spent) _ (or_none (request_fault C request) _ none))))
-  where
-    not_refused : (b : Bool) → refused_if b TooManyViews ≡ None → b ≡ false
-    not_refused false e = refl
-    not_refused true e = absurd (let clash : ◌≡◌ {A = Option Refusal} (Some TooManyViews) None = e in cc)
-
-pub called : (s : MachineView) (pass : PassNo) (request : Request) (work : Work) (h : History) → Stands s h → fault_of s request ≡ None → request_of work ≡ request → IsNew s.columns (newest s.log) work
-    → Stands (with_call s pass work) (happening (Begin pass request) (Called (record { 0 = s.calls.begun + 1 })) 0 ∷ h)
-called s pass request work h st none is new =
-    let log_is = pinned_is (reads_log (request_of work)) s.log in
-    subst (λ (g : LogView). Stands (record s { log = g; calls = calls; views = placed (is_build (request_of work)) s.views }) (x ∷ h)) (sym log_is) (record {
-      legal = (
-        st.legal,
-        subst (λ r. MayBegin (moment h) r (Called (record { 0 = s.calls.begun + 1 }))) (sym none ∙ machine_fault s h request st)
-            (inl (ap (λ (n : ℕ). Called (record { 0 = n + 1 })) st.begun)),
-      );
-      few = st.few;
-      commits = st.commits;
-      begun = ap (λ (n : ℕ). n + 1) st.begun;
-      epoch = st.epoch;
-      in_order = order_append 0 s.calls.calls (s.calls.begun + 1, call) st.in_order (omega arith) (λ k i. (paired-each (CallStands s.columns s.epoch s.tree st.w h) 0 s.calls.begun s.calls.calls (moment h).calls st.calls k i).1.epoch);
-      w = st.w;
-      world = st.world;
-      content = st.content;
-      keys = st.keys;
-      logged = st.logged;
-      trimmed = st.trimmed ∙ ap (λ (n : ℕ). min n (length (moment h).commits - s.log.keep)) still_bound;
-      held = now_holds;
-      views = now_placed;
-      calls = paired;
-      apart = λ one other i j ne number owned mine. elim (among_append s.calls.calls (s.calls.begun + 1, call) one i) [
-        | inl a ↦ elim (among_append s.calls.calls (s.calls.begun + 1, call) other j) [
-          | inl b ↦ st.apart one other a b ne number owned mine
-          | inr b ↦ owns_none number (subst (λ (l : List ℕ). Among number l) (ap (λ (k : ℕ × Call). (held k.1.work).owns) b ∙ ap (λ (d : Held). d.owns) new.has) mine)
-        ]
-        | inr a ↦ owns_none number (subst (λ (l : List ℕ). Among number l) (ap (λ (k : ℕ × Call). (held k.1.work).owns) a ∙ ap (λ (d : Held). d.owns) new.has) owned)
-      ];
-      owned = λ number taken. let (k, i, o) = st.owned number taken in (k, among_before s.calls.calls (s.calls.begun + 1, call) k i, o);
-      reserved = let more = total_append reserves s.calls.calls (s.calls.begun + 1, call) in let zero = ap (λ (d : Held). d.reserves) new.has in let all = st.reserved in omega (arith, more, zero, all);
-    })
-  where
-    x : Happening
-    x = happening (Begin pass request) (Called (record { 0 = s.calls.begun + 1 })) 0
-
-    call : Call
-    call = record { pass = pass; from = newest s.log; epoch = s.epoch; work = work }
-
-    calls : CallsView
-    calls = record { begun = s.calls.begun + 1; calls = s.calls.calls ++ (s.calls.begun + 1, call) ∷ [] }
-
-    owns_none : (number : ℕ) → Among number [] → ⊥
-    owns_none number i = elim i [ ]
-
-    -- a build opens at the commits that there are
-    new_reads : (w : Work) → OpensAt s.columns (newest s.log) w → ReadsOf s.columns (moment h).commits (length (moment h).commits) w
-    new_reads (BuildWork building) (scans, at, columns) = (columns, subst (λ (u : Option ℕ). ReadsFrom s.columns (moment h).commits (length (moment h).commits) u building.build.state) (sym scans) (at ∙ st.commits))
-    new_reads (GetWork g) opens = tt
-    new_reads (WriteWork g) opens = tt
-    new_reads (RangeWork g) opens = tt
-    new_reads (TidyWork g) opens = tt
-
-    paired : Paired (CallStands s.columns s.epoch s.tree st.w (x ∷ h)) 0 (s.calls.begun + 1) (s.calls.calls ++ (s.calls.begun + 1, call) ∷ []) (moment (x ∷ h)).calls
-    paired = paired-append (CallStands s.columns s.epoch s.tree st.w (x ∷ h)) 0 s.calls.begun s.calls.calls (moment h).calls (s.calls.begun + 1, call) (new_call (moment h) pass.0 request (s.calls.begun + 1)) (all_later s h x st refl) (ap (λ (n : ℕ). n + 1) refl) refl
-        (record {
-          pass = refl;
-          request = sym is;
-          from = sym st.commits;
-          began = let e = happened_is h in omega arith;
-          epoch = omega arith;
-          committed = sym (ap (λ (d : Held). d.committed) new.has);
-          blocked = subst (λ (b : Option ℕ). WasBlocked (moment h).happened (x ∷ h) b) (sym (ap (λ (d : Held). d.blocked) new.has)) tt;
-          past = [];
-          passed = subst (λ (m : ℕ). IsPast s.columns m (length (moment h).commits) (x ∷ h) (arena_seen s.tree ∷ [])) (sym (happened_is h)) (past_new s.columns x h s.tree st.content st.keys);
-          true = new.true s.tree s.epoch s.epoch st.w st.world;
-          reads = new_reads work new.opens;
-        })
-
-    -- a build keeps a place
-    now_placed : ViewsStand s.columns (moment (x ∷ h)) (placed (is_build (request_of work)) s.views)
-    now_placed = by_kind (is_build (request_of work)) refl
-      where
-        counted : s.views.building + cond (is_build (request_of work)) 1 0 ≡ count_by (λ (call : OpenCall). is_build call.request) (moment (x ∷ h)).calls
-        counted =
-            let all = builds_before s h st in
-            let more = total_append builds_of s.calls.calls (s.calls.begun + 1, call) in
-            let there = paired-builds (CallStands s.columns s.epoch s.tree st.w (x ∷ h)) (λ k c r. r.request) 0 (s.calls.begun + 1) (s.calls.calls ++ (s.calls.begun + 1, call) ∷ []) (moment (x ∷ h)).calls paired in
-            omega (arith, all, more, there)
-
-        by_kind : (b : Bool) → is_build (request_of work) ≡ b → ViewsStand s.columns (moment (x ∷ h)) (placed b s.views)
-        by_kind true builds = record {
-          built = st.views.built;
-          standing = st.views.standing;
-          exact = all_exact_still s.columns (moment h) (moment (x ∷ h)) (inl refl) s.views.views st.views.exact;
-          rises = st.views.rises;
-          building = let one : ◌≡◌ {A = ℕ} (cond (is_build (request_of work)) 1 0) 1 = ap (λ (t : Bool). cond t 1 0) builds in let all = counted in omega (arith, one, all);
-          few = let room = begun_place s.columns s.calls.begun (length s.calls.calls) (places s.views) request none (ap is_build (sym is) ∙ builds) in omega (arith, room);
-        }
-        by_kind false builds = record {
-          built = st.views.built;
-          standing = st.views.standing;
-          exact = all_exact_still s.columns (moment h) (moment (x ∷ h)) (inl refl) s.views.views st.views.exact;
-          rises = st.views.rises;
-          building = let zero : ◌≡◌ {A = ℕ} (cond (is_build (request_of work)) 1 0) 0 = ap (λ (t : Bool). cond t 1 0) builds in let all = counted in omega (arith, zero, all);
-          few = st.views.few;
-        }
-
-    -- it holds the log, if it reads it, from the newest commit on
-    now_holds : (number : ℕ) → times_held number (cond (reads_log (request_of work)) (with_holder (newest s.log) s.log.holders) s.log.holders) ≡ times_held number (holding (moment (x ∷ h)))
-    now_holds number =
-        held_more (reads_log (request_of work)) (newest s.log) number _ _ _ s.log.holders (held_before s h st number) (total_append (holds_from number) s.calls.calls (s.calls.begun + 1, call))
-        ∙ sym (all-held (CallStands s.columns s.epoch s.tree st.w (x ∷ h)) (λ k c r. r.from) (λ k c r. r.request) number 0 (s.calls.begun + 1) (s.calls.calls ++ (s.calls.begun + 1, call) ∷ []) (moment (x ∷ h)) paired)
-
-    -- so it is held from where it was
-    still_bound : held_from (moment h) ≡ held_from (moment (x ∷ h))
-    still_bound =
-        sym (slowest_is s.log (moment h) st.commits st.held)
-        ∙ sym (least_pinned (reads_log (request_of work)) s.log)
-        ∙ slowest_is (record s.log { holders = cond (reads_log (request_of work)) (with_holder (newest s.log) s.log.holders) s.log.holders }) (moment (x ∷ h)) st.commits now_holds
-
-pub begins-stands : (s t : MachineView) (pass : PassNo) (request : Request) (outcome : Outcome) (h : History)
-    → Begins s pass request outcome t → Stands s h → Stands t (happening (Begin pass request) outcome 0 ∷ h)
-begins-stands s t pass request (Called number) h b st =
-    subst (λ (n : CallNo). Stands t (happening (Begin pass request) (Called n) 0 ∷ h)) (sym b.1)
-    (subst (λ (u : MachineView). Stands u (happening (Begin pass request) (Called (record { 0 = s.calls.begun + 1 })) 0 ∷ h)) (sym b.5) (called s pass request b.2 h st b.0 b.3 b.4))
-begins-stands s t pass request (RefusedOutcome refusal) h b st =
-    subst (λ (u : MachineView). Stands u (happening (Begin pass request) (RefusedOutcome refusal) 0 ∷ h)) (sym b.1)
-    (same_stands s h (happening (Begin pass request) (RefusedOutcome refusal) 0) st
-    (elim b.0 [
-      | inl e ↦ subst (λ r. MayBegin (moment h) r (RefusedOutcome refusal)) (sym e ∙ machine_fault s h request st) refl
-      | inr e ↦ subst (λ r. MayBegin (moment h) r (RefusedOutcome refusal)) (sym e.0 ∙ machine_fault s h request st) (inr (ap (λ r. RefusedOutcome r) e.1))
-    ])
-    refl refl refl refl refl refl)
-begins-stands s t pass request MovedOutcome h b st = absurd b
-begins-stands s t pass request Again h b st = absurd b
-begins-stands s t pass request (Commit n) h b st = absurd b
-begins-stands s t pass request (Done r) h b st = absurd b
-begins-stands s t pass request (Applied n) h b st = absurd b
-begins-stands s t pass request Current h b st = absurd b
-begins-stands s t pass request (View p) h b st = absurd b
-begins-stands s t pass request Dropped h b st = absurd b
-begins-stands s t pass request (Epoch n) h b st = absurd b
-begins-stands s t pass request (Freed n) h b st = absurd b
-
 -- ---- each call may step
 pub may_step : (s : MachineView) (h : History) (n : ℕ) → Stands s h → (IsBuiltCall (call_at n s.calls.calls) → ⊥) → MayStepOf s.epoch s.columns s.tree s.log (call_at n s.calls.calls)
 may_step s h n st = go (call_at n s.calls.calls) refl
@@ -522,30 +331,6 @@ may_vacate s h n calls then_tree left pass reads builds from p steps st is =
 pub settled_bounds : (reads : Bool) (from : ℕ) (p : Progress) (left : LogView) (feed keep : ℕ) → (left.feed ≡ feed) × (left.keep ≡ keep) → HasBounds feed keep (trimmed (log_after reads from p left))
 settled_bounds reads from p left feed keep had = subst (λ (l : LogView). HasBounds feed keep (trimmed l)) (sym (log_after_is reads from p left)) had
 
--- ---- the new machine
-pub opens-stands : (C feed keep : ℕ) (a : ArenaView) (log : LogView) (w : World) → C ≤ MAX_COLUMNS → IsWorld a 0 w → ((number : ℕ) → IsTaken a w number → ⊥) → ((key : List ℕ) (row : Row) → HasRow a key row → ⊥) → log ≡ record { held_after = 0; deltas = []; reserved = 0; holders = []; feed = feed; keep = keep }
-    → Stands (record { columns = C; epoch = 0; tree = a; log = log; calls = record { begun = 0; calls = [] }; views = record { built = 0; building = 0; views = [] } }) []
-opens-stands C feed keep a log w few world nobody empty is = subst (λ (l : LogView). Stands (record { columns = C; epoch = 0; tree = a; log = l; calls = record { begun = 0; calls = [] }; views = record { built = 0; building = 0; views = [] } }) []) (sym is) (record {
-  legal = tt;
-  few = few;
-  commits = refl;
-  begun = refl;
-  epoch = refl;
-  in_order = tt;
-  w = w;
-  world = world;
-  content = λ key bytes row. ((λ has. absurd (empty key row has)), (λ e. absurd (let clash : ◌≡◌ {A = Option Row} None (Some row) = sym (get-empty key_cmp key) ∙ e in cc)));
-  keys = λ key row e. absurd (let clash : ◌≡◌ {A = Option Row} None (Some row) = sym (get-empty key_cmp key) ∙ e in cc);
-  logged = refl;
-  trimmed = let none : 0 ≡ min 0 (0 - keep) = omega arith in none;
-  held = λ number. refl;
-  views = record { built = refl; standing = refl; exact = tt; rises = omega arith; building = refl; few = omega arith };
-  calls = omega arith;
-  apart = λ one other i. elim i [ ];
-  owned = λ number taken. absurd (nobody number taken);
-  reserved = refl;
-})
-
 -- ---- as the code takes it
 module _ (C epoch : ℕ) (a after_tree : ArenaView) (log left : LogView) (calls new final : CallsView) (views kept_views : ViewsView) (n : ℕ) (pass : PassNo) (reads builds : Bool) (from : ℕ) (p : Progress)
     (unbuilt : IsBuiltCall (call_at n calls.calls) → ⊥) (steps : StepsCall epoch C n calls new a after_tree log left pass reads builds from p) (last : final ≡ calls_after n p new) (settled_log : LogView) (log_is : settled_log ≡ log_after reads from p left) (views_are : kept_views ≡ views_after builds p views) (sound : IsLog settled_log) where
@@ -579,110 +364,3 @@ module _ (C epoch : ℕ) (a after_tree : ArenaView) (log left : LogView) (calls 
     happening (step_event n) (outcome_of n pass from (newest left) p) 0 ∷ h,
     subst (λ (g : LogView). Stands (seen C epoch after_tree g final kept_views) (happening (step_event n) (outcome_of n pass from (newest left) p) 0 ∷ h)) (sym done) (step_open _ _ n _ h taken st),
   )
-
--- a begin leaves the machine with its call
-pub begun-stands : (s : MachineView) (pinned_log : LogView) (new : CallsView) (kept_views : ViewsView) (pass : PassNo) (from : ℕ) (request : Request) (work : Work) → fault_of s request ≡ None → request_of work ≡ request → IsNew s.columns (newest s.log) work → from ≡ newest s.log
-    → new ≡ record { begun = s.calls.begun + 1; calls = s.calls.calls ++ (s.calls.begun + 1, record { pass = pass; from = from; epoch = s.epoch; work = work }) ∷ [] } → pinned_log ≡ pinned (reads_log (request_of work)) s.log → kept_views ≡ placed (is_build (request_of work)) s.views
-    → seen s.columns s.epoch s.tree pinned_log new kept_views ≡ with_call s pass work
-begun-stands s pinned_log new kept_views pass from request work none is is_new from_is more log_is views_are =
-    ap (λ (g : LogView). seen s.columns s.epoch s.tree g new kept_views) log_is
-    ∙ ap (λ (c : CallsView). seen s.columns s.epoch s.tree (pinned (reads_log (request_of work)) s.log) c kept_views)
-    (more ∙ ap (λ (m : ℕ). record { begun = s.calls.begun + 1; calls = s.calls.calls ++ (s.calls.begun + 1, record { pass = pass; from = m; epoch = s.epoch; work = work }) ∷ [] }) from_is)
-    ∙ ap (seen s.columns s.epoch s.tree (pinned (reads_log (request_of work)) s.log) (record { begun = s.calls.begun + 1; calls = s.calls.calls ++ (s.calls.begun + 1, record { pass = pass; from = newest s.log; epoch = s.epoch; work = work }) ∷ [] })) views_are
-
--- a new tree has no row
-pub new_keys : (a : ArenaView) → ((place : Place) (row : Row) → Has (arena_seen a) place row → ⊥) → RowsAreOfKeys a
-new_keys a empty = record { key_of = λ place row has. absurd (empty place row has) }
-
--- it has no twins
-pub new_twins : (a : ArenaView) (chart : Chart) → TwinsAreLocked a chart []
-new_twins a chart = record { locked = λ one other pair. elim pair [ ] }
-
--- nothing is retired
-pub new_retired : (a : ArenaView) → IsNewTree a → (now : ℕ) (chart : Chart) → RetiredAreGone a now chart
-new_retired a new now chart = record { each = subst (λ (r : List Retired). All (IsGone a now chart) r) (sym new.retired) (All-nil (IsGone a now chart)) }
-
--- its only head is not marked deleted or locked, and nothing is closing
-pub new_heads : (a : ArenaView) → IsNewTree a → (chart : Chart) → HeadsStand a [] chart
-new_heads a new chart = record {
-  alive = λ number prefix head place is. elim (same_number number 0) [
-    | inl e ↦ (let both : ◌≡◌ {A = Option HeadView} (Some (new_head new.root 0 false)) (Some head) = sym new.top ∙ (ap (λ (m : ℕ). head_at a.nodes m) (sym e) ∙ is) in
-        let same : new_head new.root 0 false ≡ head = cc in (inl (ap (λ (h : HeadView). h.version.deleted) (sym same)), ap (λ (h : HeadView). h.version.locked) (sym same)))
-    | inr apart ↦ elim (same_number number new.root.0) [
-      | inl e ↦ no_head (sym (ap (option_and_then head_of) (ap (λ (m : ℕ). node_at a.nodes m) e ∙ node-from_border a.nodes new.root.0 _ new.below)) ∙ is)
-      | inr other ↦ no_head (sym (ap (option_and_then head_of) (new.rest number apart other)) ∙ is)
-    ]
-  ];
-  roots = λ number i. elim i [ ];
-}
-  where
-    no_head : {head : HeadView} → ◌≡◌ {A = Option HeadView} None (Some head) → ((head.version.deleted ≡ false) ⊎ Among head.root.0 []) × (head.version.locked ≡ false)
-    no_head e = absurd (cc)
-
--- nor is its only border
-pub new_alive : (a : ArenaView) → IsNewTree a → (chart : Chart) → FreeAreAlive a chart
-new_alive a new chart = record {
-  each = λ number. elim (same_number number 0) [
-    | inl e ↦ subst (λ (m : ℕ). IsAliveIfFree a chart m) (sym e) (alive_node a chart 0 (HeadIn (new_head new.root 0 false)) (node-from_head a.nodes 0 _ new.top) (inr refl))
-    | inr apart ↦ elim (same_number number new.root.0) [
-      | inl e ↦ subst (λ (m : ℕ). IsAliveIfFree a chart m) (sym e) (alive_node a chart new.root.0 (BorderIn (new_border 0 0 false)) (node-from_border a.nodes new.root.0 _ new.below) (inr refl))
-      | inr other ↦ λ prefix stands node is. no_node (sym (new.rest number apart other) ∙ is)
-    ]
-  ];
-}
-  where
-    no_node : {node : Node} → ◌≡◌ {A = Option Node} None (Some node) → is_locked node ≡ false → is_marked node ≡ false
-    no_node e = absurd (cc)
-
--- so it is a world, if it is an index without a row
-pub new_world : (a : ArenaView) → IsNewTree a → (chart : Chart) → IsIndexAt a 0 [] chart → ((place : Place) (row : Row) → Has (arena_seen a) place row → ⊥) → IsWorld a 0 (record { twins = []; closing = []; chart = chart })
-new_world a new chart index empty = record { index = index; keys = new_keys a empty; heads = new_heads a new chart; alive = new_alive a new chart; twins = new_twins a chart; retired = new_retired a new 0 chart }
-
--- and nothing in it is locked
-pub new_unlocked : (a : ArenaView) → IsNewTree a → (number : ℕ) → IsLocked (node_at a.nodes number) → ⊥
-new_unlocked a new number locked = elim (same_number number 0) [
-  | inl e ↦ (let here : false ≡ true = subst (λ (x : Option Node). IsLocked x) (ap (λ (m : ℕ). node_at a.nodes m) e ∙ node-from_head a.nodes 0 _ new.top) locked in cc)
-  | inr apart ↦ elim (same_number number new.root.0) [
-    | inl e ↦ (let here : false ≡ true = subst (λ (x : Option Node). IsLocked x) (ap (λ (m : ℕ). node_at a.nodes m) e ∙ node-from_border a.nodes new.root.0 _ new.below) locked in cc)
-    | inr other ↦ subst (λ (x : Option Node). IsLocked x) (new.rest number apart other) locked
-  ]
-]
-
--- nor is a head marked deleted
-new_unmarked : (a : ArenaView) → IsNewTree a → (number : ℕ) → IsSomeAnd (head_at a.nodes number) (λ h. h.version.deleted ≡ true) → ⊥
-new_unmarked a new number marked = elim (same_number number 0) [
-  | inl e ↦ (let here : false ≡ true = subst (λ (o : Option HeadView). IsSomeAnd o (λ h. h.version.deleted ≡ true)) (ap (λ (m : ℕ). head_at a.nodes m) e ∙ new.top) marked in cc)
-  | inr apart ↦ elim (same_number number new.root.0) [
-    | inl e ↦ subst (λ (o : Option HeadView). IsSomeAnd o (λ h. h.version.deleted ≡ true)) (ap (option_and_then head_of) (ap (λ (m : ℕ). node_at a.nodes m) e ∙ node-from_border a.nodes new.root.0 _ new.below)) marked
-    | inr other ↦ subst (λ (o : Option HeadView). IsSomeAnd o (λ h. h.version.deleted ≡ true)) (ap (option_and_then head_of) (new.rest number apart other)) marked
-  ]
-]
-
--- and nothing in it is a spare
-pub new_untaken : (a : ArenaView) (new : IsNewTree a) (now : ℕ) (w : World) → IsWorld a now w → (number : ℕ) → IsTaken a w number → ⊥
-new_untaken a new now w world number (inl locked) = new_unlocked a new number locked
-new_untaken a new now w world number (inr (inr marked)) = new_unmarked a new number marked.marked
-new_untaken a new now w world number (inr (inl spare)) = elim (same_number number 0) [
-  | inl e ↦ known w.chart number _ (ap w.chart e ∙ world.index.tree.layer_0) spare.1
-  | inr apart ↦ elim (same_number number new.root.0) [
-    | inl e ↦ (let at = world.index.tree.heads 0 [] 0 true world.index.tree.layer_0 in
-        let both : ◌≡◌ {A = Option PlainNode} (Some (head at.node)) (Some (head (head_seen (new_head new.root 0 false)))) = sym at.is_node ∙ seen-head a 0 (new_head new.root 0 false) new.top in
-        let same : at.node.root ≡ new.root.0 = cc in
-        known w.chart number _ (ap w.chart (e ∙ sym same) ∙ at.root) spare.1)
-    | inr other ↦ (let some : IsSome (let nothing : Option Node = None in nothing) = subst (λ (x : Option Node). IsSome x) (new.rest number apart other) spare.0 in cc)
-  ]
-]
-  where
-    known : (chart : Chart) (m : ℕ) (place : Spot) → chart m ≡ Some place → chart m ≡ None → ⊥
-    known chart m place some none = (let clash : ◌≡◌ {A = Option Spot} None (Some place) = sym none ∙ some in cc)
-
--- what was opened broke no limit
-pub no_fault : (M P : Type 0) (machine : M) (fault : Option Refusal) → MatchOption fault P (λ refusal. ◌≡◌ {A = Result M Refusal} (Ok machine) (Err refusal)) → fault ≡ None
-no_fault M P machine None h = refl
-no_fault M P machine (Some refusal) h = absurd (cc)
-
--- an event leaves the number of columns
-pub begins-columns : (s t : MachineView) (pass : PassNo) (request : Request) (outcome : Outcome) → Begins s pass request outcome t → t.columns ≡ s.columns
-begins-columns s t pass request (Called number) (none, numbered, work, asks, new, next) = ap (λ (m : MachineView). m.columns) next
-begins-columns s t pass request (RefusedOutcome refusal) (why, same) = ap (λ (m : MachineView). m.columns) same
-begins-columns s t pass request _ never = absurd never

@@ -2,16 +2,13 @@
 use Rattle.std.proofs.Common.{ℕ, zero, suc, ◌≡◌, ◌≤◌, ◌+◌, ◌-◌, List, [], ◌∷◌, ◌++◌, length, take, drop, Option, Some, None, refl, sym, ap, ◌∙◌, arith, Bool, true, false}
 use Rattle.std.specs.Prelude.{min, nat_lt, slice_get}
 use Rattle.std.proofs.lemmas.Bool.{ltb-false}
-use Rattle.std.proofs.lemmas.List.{drop-drop, length-drop}
+use Rattle.std.proofs.lemmas.List.{length-drop}
 use Rattle.mt_types.specs.Limits.{limit_fault, refused_if}
 use Rattle.mt_types.specs.declared.refusal.Refusal.{Refusal}
 use Rattle.mt_types.specs.declared.row.Delta.{Delta}
 use Rattle.mt_types.specs.declared.refusal.Refusal.TheVariants.{Behind}
 use Rattle.mt_commit.specs.Log.{LogView, newest, delta_of}
-use Rattle.mt_promise.specs.History.{History, moment}
-use Rattle.mt_commit.specs.Logged.{deltas_of}
 use Rattle.mt_index.specs.Feed.{feed_fault, deltas_after}
-use Rattle.mt_index.specs.Stands.{MachineView, Stands}
 use Rattle.mt_index.proofs.NumberLemmas.{or_none}
 use Rattle.mt_index.proofs.LawLemmas.{slice_get-drop}
 
@@ -52,12 +49,3 @@ pub read_all : (log : LogView) (from limit count : ℕ) → log.held_after ≤ f
 read_all log from limit count here is =
     let long = length-drop (from - log.held_after) log.deltas in
     take_within count limit (drop (from - log.held_after) log.deltas) (omega (arith, here, is, long))
-
--- they are those of the commits after the number
-pub read_tells : (s : MachineView) (h : History) (from limit : ℕ) → Stands s h → feed_fault s.log from limit ≡ None → deltas_after s.log from limit ≡ take limit (drop from (deltas_of s.columns (moment h).commits))
-read_tells s h from limit st none =
-    let here = read_from s.log from limit none in
-    let all : s.log.held_after + (from - s.log.held_after) ≡ from = omega (arith, here) in
-    ap (λ (ds : List Delta). take limit (drop (from - s.log.held_after) ds)) st.logged
-    ∙ ap (λ (ds : List Delta). take limit ds) (drop-drop (from - s.log.held_after) s.log.held_after (deltas_of s.columns (moment h).commits))
-    ∙ ap (λ (m : ℕ). take limit (drop m (deltas_of s.columns (moment h).commits))) all

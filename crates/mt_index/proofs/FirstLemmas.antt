@@ -1,5 +1,5 @@
 -- The call in `first`, before those in the map.
-use Rattle.std.proofs.Common.{ℕ, ◌≡◌, ◌≤◌, ◌+◌, ◌++◌, true, false, [], ◌∷◌, length, Option, Some, None, inl, inr, refl, sym, ap, subst, ◌∙◌, arith}
+use Rattle.std.proofs.Common.{ℕ, ◌≡◌, ◌≤◌, ◌+◌, ◌++◌, false, [], ◌∷◌, length, Option, Some, None, inl, inr, refl, sym, ap, subst, ◌∙◌, arith}
 use Rattle.std.proofs.lemmas.Bool.Decides.{eqb_tells}
 use Rattle.mt_index.specs.declared.calls.Call.{Call}
 use Rattle.mt_index.specs.Calls.{CallsView, AreBegun, call_at, with_changed, with_work, without, with_first, is_of, IsBuiltCall, FindsCall, Finds}
@@ -7,7 +7,7 @@ use Rattle.mt_index.specs.declared.calls.Found.{Found}
 use Rattle.mt_index.specs.declared.calls.Found.TheVariants.{Missing, Built, Stepped}
 use Rattle.mt_arena.specs.Arena.{ArenaView}
 use Rattle.mt_commit.specs.Log.{LogView}
-use Rattle.mt_index.proofs.NumberLemmas.{Entries, call_at-here, call_at-there, found-here, found-there, changed-here, changed-there, without-here, without-there, insert-next, remove-without, set-changed}
+use Rattle.mt_index.proofs.NumberLemmas.{Entries, call_at-there, found-here, found-there, changed-here, changed-there, without-here, without-there, insert-next, remove-without, set-changed}
 use Rattle.std.specs.Map.{set_value, remove_entry}
 use Rattle.std.specs.Ordering.{nat_cmp}
 use Rattle.std.specs.BTreeMap.{insert_entry, is_at}
@@ -25,38 +25,10 @@ pub without_other : (number : ℕ) (first : Option (ℕ × Call)) (others : Entr
 without_other number None others is = refl
 without_other number (Some k) others is = without-there number k others is
 
--- if it has this number
-pub call_first : (number : ℕ) (first : Option (ℕ × Call)) (others : Entries) (k : ℕ × Call) → is_of number first ≡ true → first ≡ Some k → call_at number (with_first first others) ≡ Some k.1
-call_first number first others k is there =
-    ap (λ (f : Option (ℕ × Call)). call_at number (with_first f others)) there ∙ call_at-here number k others (sym (ap (is_of number) there) ∙ is)
-
-pub changed_first : (change : Call → Call) (number : ℕ) (first : Option (ℕ × Call)) (others : Entries) (k : ℕ × Call) → is_of number first ≡ true → first ≡ Some k
-    → with_changed change number (with_first first others) ≡ (k.0, change k.1) ∷ others
-changed_first change number first others k is there =
-    ap (λ (f : Option (ℕ × Call)). with_changed change number (with_first f others)) there ∙ changed-here number k others (sym (ap (is_of number) there) ∙ is) change
-
-pub without_first : (number : ℕ) (first : Option (ℕ × Call)) (others : Entries) (k : ℕ × Call) → is_of number first ≡ true → first ≡ Some k → without number (with_first first others) ≡ others
-without_first number first others k is there =
-    ap (λ (f : Option (ℕ × Call)). without number (with_first f others)) there ∙ without-here number k others (sym (ap (is_of number) there) ∙ is)
-
--- it is there, then
-pub first_there : (number : ℕ) (first : Option (ℕ × Call)) → is_of number first ≡ true → first ≡ None → (P : Type 0) → P
-first_there number first is none P = absurd (let clash : false ≡ true = sym (ap (is_of number) none) ∙ is in cc)
-
 -- one more call comes after all others
 pub append_other : (first : Option (ℕ × Call)) (others : Entries) (new : ℕ × Call) → with_first first (others ++ new ∷ []) ≡ with_first first others ++ new ∷ []
 append_other None others new = refl
 append_other (Some k) others new = refl
-
--- none is open
-pub none_first : (first : Option (ℕ × Call)) (others : Entries) → length (with_first first others) ≡ 0 → first ≡ None
-none_first None others none = refl
-none_first (Some k) others none = absurd (omega (arith, none))
-
-pub none_other : (first : Option (ℕ × Call)) (others : Entries) → length (with_first first others) ≡ 0 → others ≡ []
-none_other None [] none = refl
-none_other None (k ∷ others) none = absurd (omega (arith, none))
-none_other (Some k) others none = absurd (omega (arith, none))
 
 pub no_calls : (calls : Entries) → length calls ≡ 0 → calls ≡ []
 no_calls [] none = refl

@@ -9,8 +9,11 @@ pub mod PastLemmas
 pub mod LogStands
 pub mod Reading
 pub mod ViewStands
+pub mod RightStands
 pub mod StepStands
 pub mod LaterStands
+pub mod OpenStands
+pub mod BeginStands
 pub mod EventStands
 pub mod ViewEvents
 pub mod ApplyStands

@@ -18,7 +18,7 @@ use Rattle.mt_commit.specs.Holders.{with_holder, without_holder}
 use Rattle.mt_commit.proofs.CountLemmas.{pinning_counts, unpinning_counts, counted_is_held, least_is_by_counts}
 use Rattle.mt_commit.proofs.LogLemmas.{trim_rises, newest-trimmed}
 use Rattle.mt_steps.specs.declared.progress.Progress.{Progress}
-use Rattle.mt_steps.specs.declared.progress.Progress.TheVariants.{Moved, Waits, Committed, Answered, Refused}
+use Rattle.mt_steps.specs.declared.progress.Progress.TheVariants.{Moved, Answered, Refused}
 use Rattle.mt_index.specs.declared.calls.Call.{Call}
 use Rattle.mt_works.specs.Works.{request_of}
 use Rattle.mt_commit.specs.Logged.{deltas_of}
@@ -112,8 +112,7 @@ log_after_is false from (Answered answer) log = refl
 log_after_is true from (Refused refusal) log = refl
 log_after_is false from (Refused refusal) log = refl
 log_after_is reads from Moved log = refl
-log_after_is reads from Waits log = refl
-log_after_is reads from (Committed number) log = refl
+log_after_is reads from _ log = refl
 
 -- a call that ends holds it no longer
 pub held_less : (reads : Bool) (from number views all rest : ℕ) (holders : List ℕ) → times_held number holders ≡ views + all → rest + cond reads (cond (from == number) 1 0) 0 ≡ all
@@ -208,6 +207,3 @@ with_holds number holders =
 -- and what was held is held still
 pub still_holds : (number other : ℕ) (holders : List ℕ) → 0 < times_held other holders → Contains (with_holder number holders) other
 still_holds number other holders held = let more = pinning_counts number other holders in counted_is_held other (with_holder number holders) (omega (arith, more, held))
-
-pub still_holds_after : (number other : ℕ) (holders : List ℕ) → 0 < times_held other holders → 0 < times_held other (with_holder number holders)
-still_holds_after number other holders held = let more = pinning_counts number other holders in omega (arith, more, held)

@@ -11,11 +11,10 @@ use Rattle.mt_commit.specs.Log.{LogView, IsLog, newest, delta_of, trimmed}
 use Rattle.mt_commit.specs.Laws.{times_held}
 use Rattle.mt_commit.specs.Holders.{with_holder, without_holder}
 use Rattle.mt_view.specs.State.{StateView}
-use Rattle.mt_views.specs.Views.{ViewsView, places, standing, state_at, without}
+use Rattle.mt_views.specs.Views.{ViewsView, standing, state_at, without}
 use Rattle.mt_views.proofs.StandingLemmas.{view-of-state}
-use Rattle.mt_types.specs.declared.event.Request.{Request}
 use Rattle.std.specs.Prelude.{Result, Ok, Err, IfOk, IfErr, OnOk, OnErr}
-use Rattle.mt_promise.specs.Legal.{is_build as is_build_request, reads_log, begin_fault}
+use Rattle.mt_promise.specs.Legal.{is_build as is_build_request, reads_log}
 use Rattle.mt_works.specs.declared.work.Work.{Work}
 use Rattle.mt_works.specs.declared.work.Work.TheVariants.{Build as BuildWork}
 use Rattle.mt_works.specs.declared.building.Building.{Building}
@@ -24,7 +23,7 @@ use Rattle.mt_works.specs.Works.{request_of, IsBuiltWork}
 use Rattle.mt_index.specs.declared.calls.Call.{Call}
 use Rattle.mt_index.specs.Calls.{CallsView, IsBuiltCall, call_at, without as without_call}
 use Rattle.mt_index.specs.Viewing.{TakesView, CopiesView}
-use Rattle.mt_index.specs.Stands.{MachineView, CallStands, Stands, Applies, Drops, EndsBuild, HasBounds, built_outcome, fault_of, meant_number, with_view, vacated}
+use Rattle.mt_index.specs.Stands.{MachineView, CallStands, Stands, Applies, Drops, EndsBuild, HasBounds, built_outcome, meant_number, with_view, vacated}
 use Rattle.mt_index.proofs.ListLemmas.{total_without}
 use Rattle.mt_index.proofs.PairedLemmas.{paired-some, paired-length}
 use Rattle.mt_index.proofs.OpenLemmas.{few_open}
@@ -196,11 +195,5 @@ bounds_kept s t number outcome ends = elim ends.comes [
 ]
 
 -- ---- begins and steps
-pub no_fault_of : (s : MachineView) (request : Request) (begun opened taken : ℕ) → begun ≡ s.calls.begun → opened ≡ length s.calls.calls → taken ≡ places s.views → begin_fault s.columns begun opened taken request ≡ None → fault_of s request ≡ None
-no_fault_of s request begun opened taken begun_is opened_is taken_is none =
-    ap (λ (n : ℕ). begin_fault s.columns n (length s.calls.calls) (places s.views) request) (sym begun_is)
-    ∙ ap (λ (n : ℕ). begin_fault s.columns begun n (places s.views) request) (sym opened_is)
-    ∙ ap (λ (n : ℕ). begin_fault s.columns begun opened n request) (sym taken_is) ∙ none
-
 pub is_built_of : (o : Option Call) (call : Call) (building : Building) → o ≡ Some call → call.work ≡ BuildWork building → IsBuiltCall o → IsUpTo building.upto building.build.state.at
 is_built_of o call building is work built = subst IsBuiltWork work (subst IsBuiltCall is built)

@@ -10,14 +10,11 @@ use Rattle.mt_types.specs.declared.event.Request.{Request}
 use Rattle.mt_types.specs.declared.event.Event.TheVariants.{Begin, Step}
 use Rattle.mt_types.specs.declared.event.Outcome.{Outcome}
 use Rattle.mt_types.specs.declared.event.Outcome.TheVariants.{Commit}
-use Rattle.mt_types.specs.Limited.{OutcomeIsLimited}
-use Rattle.mt_promise.specs.History.{History}
-use Rattle.mt_index.specs.Stands.{MachineView, Stands, HasBounds, Begins}
+use Rattle.mt_index.specs.Stands.{MachineView, HasBounds, Begins}
 use Rattle.mt_index.specs.declared.running.Run.{Run}
 use Rattle.mt_index.specs.Events.{GoesOnAtOnce, GoesThrough, Makes, MakesSteps, commit_count}
 use Rattle.mt_index.proofs.EventLemmas.{begin-does, makes_more}
-use Rattle.mt_index.proofs.EventStands.{begins-stands, begins-columns}
-use Rattle.mt_index.proofs.LimitedLemmas.{outcome-limited}
+use Rattle.mt_index.proofs.BeginStands.{begins-stands, begins-columns}
 
 module _ (s t : MachineView) (pass : PassNo) (request : Request) (outcome : Outcome) (begins : Begins s pass request outcome t) where
   pub makes_begin : HasBounds s.log.feed s.log.keep t.log → Makes s (Begin pass request) outcome t
@@ -27,9 +24,6 @@ module _ (s t : MachineView) (pass : PassNo) (request : Request) (outcome : Outc
     columns = begins-columns s t pass request outcome begins;
     bounds = bounds;
   }
-
-  pub begin_limited : (h : History) → Stands s h → OutcomeIsLimited outcome
-  begin_limited h st = outcome-limited t h (Begin pass request) outcome 0 (begins-stands s t pass request outcome h begins st)
 
 -- ---- a run so far
 pub record Going (s : MachineView) (call : CallNo) (steps commits : ℕ) (t : MachineView) : Type 0 where

@@ -1,5 +1,5 @@
 -- A machine on which no call is open that changes the tree: what is read of it directly.
-use Rattle.std.proofs.Common.{ℕ, ◌≡◌, Bool, true, false, List, [], ◌∷◌, Option, Some, None, refl, sym, ap, subst, inl, inr, cond, arith}
+use Rattle.std.proofs.Common.{ℕ, ◌≡◌, Bool, true, false, List, [], ◌∷◌, Option, Some, None, refl, sym, subst, inl, inr, cond, arith}
 use Rattle.std.specs.FinMap.{get}
 use Rattle.mt_types.specs.declared.row.Row.{Row}
 use Rattle.mt_slice.specs.Place.{AreBytes}
@@ -13,12 +13,12 @@ use Rattle.mt_write.specs.declared.writing.Edit.{Edit}
 use Rattle.mt_write.specs.declared.writing.Edit.TheVariants.{Put, Remove}
 use Rattle.mt_write.specs.Writing.{put_request, edit_request}
 use Rattle.mt_works.specs.declared.work.Work.{Work}
-use Rattle.mt_works.specs.declared.work.Work.TheVariants.{Get, Write, Range, Tidy, Build}
+use Rattle.mt_works.specs.declared.work.Work.TheVariants.{Write, Tidy}
 use Rattle.mt_works.specs.Works.{request_of, held}
 use Rattle.mt_index.specs.declared.calls.Call.{Call}
 use Rattle.mt_index.specs.Calls.{changing}
 use Rattle.mt_index.specs.Stands.{MachineView, Stands}
-use Rattle.mt_index.specs.Alone.{IsIdle, IsQuiet}
+use Rattle.mt_index.specs.Alone.{IsQuiet}
 use Rattle.mt_index.proofs.NumberLemmas.{Entries}
 
 -- a put reads no log
@@ -32,11 +32,9 @@ edit_reads_none key Remove e = let clash : false ≡ true = e in cc
 
 -- a call that only reads owns no number
 pub reader_owns : (work : Work) → reads_log (request_of work) ≡ true → (held work).owns ≡ []
-reader_owns (Get get) reads = refl
-reader_owns (Range range) reads = refl
-reader_owns (Build building) reads = refl
 reader_owns (Tidy tidy) reads = absurd (let clash : false ≡ true = reads in cc)
 reader_owns (Write write) reads = absurd (edit_reads_none write.key write.edit reads)
+reader_owns _ reads = refl
 
 counts_none : (b : Bool) → ◌≡◌ {A = ℕ} (cond b 0 1) 0 → b ≡ true
 counts_none true e = refl
@@ -63,10 +61,6 @@ quiet_tree s h st quiet = record {
       let (k, i, owned) = st.owned n taken in
       none_among n (subst (λ (l : List ℕ). Among n l) (reader_owns k.1.work (all_read s.calls.calls quiet k i)) owned);
 }
-
--- an idle machine is quiet
-pub idle_quiet : (s : MachineView) → IsIdle s → IsQuiet s
-idle_quiet s idle = ap changing idle
 
 -- ---- the row of a key is that of the rows
 pub read_row : (s : MachineView) (h : History) → Stands s h → (key : List ℕ) → AreBytes key → (found : Option Row) → RowIs s.tree key found

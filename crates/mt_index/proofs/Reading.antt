@@ -76,9 +76,7 @@ module _ (C : ℕ) (m later : Moment) (grows : Grows C m later) where
   pub reads_still : (from : ℕ) (work : Work) → ReadsOf C m.commits from work → ReadsOf C later.commits from work
   reads_still from (BuildWork building) (columns, reads) = (columns, from_still from building.upto building.build.state reads)
   reads_still from (GetWork g) reads = tt
-  reads_still from (WriteWork g) reads = tt
-  reads_still from (RangeWork g) reads = tt
-  reads_still from (TidyWork g) reads = tt
+  reads_still from _ reads = tt
 
 -- ---- a step of a build
 drop_next : (ds : List Delta) (at : ℕ) (d : Delta) → slice_get ds at ≡ Some d → drop at ds ≡ d ∷ drop (suc at) ds
@@ -174,10 +172,7 @@ module _ (s : MachineView) (h : History) (st : Stands s h) where
     -- a call that isn't a build
     no_build : (work : Work) → ((spec : ViewSpec) → request_of work ≡ BuildRequest spec → ⊥) → ReadsOf s.columns (moment h).commits from work
     no_build (BuildWork g) never = absurd (never g.build.state.spec refl)
-    no_build (GetWork g) never = tt
-    no_build (WriteWork g) never = tt
-    no_build (RangeWork g) never = tt
-    no_build (TidyWork g) never = tt
+    no_build _ never = tt
 
     no_edit : (key : List ℕ) (edit : Edit) (spec : ViewSpec) → edit_request key edit ≡ BuildRequest spec → ⊥
     no_edit key (PutEdit sets None) spec is = let clash : PutRequest key sets ≡ BuildRequest spec = is in cc
@@ -192,11 +187,9 @@ module _ (s : MachineView) (h : History) (st : Stands s h) where
     reads_on (WriteWork g) work p reaches builds same moves truth unbuilt goes reads = no_build work (λ spec is. no_edit g.key g.edit spec (sym same ∙ is))
     reads_on (TidyWork g) work p reaches builds same moves truth unbuilt goes reads = no_build work (λ spec is. let clash : TidyRequest g.key ≡ BuildRequest spec = sym same ∙ is in cc)
     reads_on (BuildWork old) (GetWork g) p reaches builds same moves truth unbuilt goes reads = absurd builds
-    reads_on (BuildWork old) (RangeWork g) p reaches builds same moves truth unbuilt goes reads = absurd builds
-    reads_on (BuildWork old) (WriteWork g) p reaches builds same moves truth unbuilt goes reads = absurd builds
-    reads_on (BuildWork old) (TidyWork g) p reaches builds same moves truth unbuilt goes reads = absurd builds
     reads_on (BuildWork old) (BuildWork new) (Refused refusal) reaches builds same moves truth unbuilt goes reads = absurd (goes refusal refl)
     reads_on (BuildWork old) (BuildWork new) Moved reaches builds same moves truth unbuilt goes (columns, reads) = build_reads old.upto new.upto old.build new.build old.node.0 old.listing (reaches refl) builds truth unbuilt columns reads
     reads_on (BuildWork old) (BuildWork new) Waits reaches builds same moves truth unbuilt goes (columns, reads) = build_reads old.upto new.upto old.build new.build old.node.0 old.listing (reaches refl) builds truth unbuilt columns reads
     reads_on (BuildWork old) (BuildWork new) (Committed number) reaches builds same moves truth unbuilt goes (columns, reads) = build_reads old.upto new.upto old.build new.build old.node.0 old.listing (reaches refl) builds truth unbuilt columns reads
     reads_on (BuildWork old) (BuildWork new) (Answered answer) reaches builds same moves truth unbuilt goes (columns, reads) = build_reads old.upto new.upto old.build new.build old.node.0 old.listing (reaches refl) builds truth unbuilt columns reads
+    reads_on (BuildWork old) _ p reaches builds same moves truth unbuilt goes reads = absurd builds

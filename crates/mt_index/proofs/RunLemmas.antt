@@ -22,7 +22,7 @@ use Rattle.mt_steps.specs.Step.{Held}
 use Rattle.mt_write.specs.declared.running.WriteRun.{WriteRun}
 use Rattle.mt_write.specs.declared.writing.Write.{Write}
 use Rattle.mt_write.specs.declared.writing.Edit.{Edit}
-use Rattle.mt_write.specs.declared.writing.Edit.TheVariants.{Put as PutEdit, Remove as RemoveEdit}
+use Rattle.mt_write.specs.declared.writing.Edit.TheVariants.{Put as PutEdit}
 use Rattle.mt_write.specs.Writing.{edit_request, write_request}
 use Rattle.mt_write.specs.Runs.{Advances, HasRun, IsTrimmed, MayRun, RunStep, RunSteps, WriteState, commits_in}
 use Rattle.mt_works.specs.declared.work.Work.TheVariants.{Write as WriteWork}
@@ -39,7 +39,7 @@ use Rattle.mt_index.specs.Events.{EventDoes, GoesOnAtOnce, Makes, MakesSteps, co
 use Rattle.mt_index.specs.Runs.{BeginsAndGoes, BeginsOrNot, CallGoes, RunIsLimited, StepsGo, has_ended}
 use Rattle.mt_index.specs.Stands.{MachineView, CallStands, Stands, HasBounds, Begins, Steps, StepsOpen, calls_after, fault_of, log_after, outcome_of, pinned, placed, views_after}
 use Rattle.mt_index.proofs.EventLemmas.{step-happens}
-use Rattle.mt_index.proofs.EventStands.{begins-stands}
+use Rattle.mt_index.proofs.BeginStands.{begins-stands}
 use Rattle.mt_index.proofs.LimitedLemmas.{outcome-limited}
 use Rattle.mt_index.proofs.LogStands.{slowest_is}
 use Rattle.mt_index.proofs.MakesLemmas.{makes_begin}
@@ -50,50 +50,30 @@ use Rattle.mt_index.proofs.ViewEvents.{steps-stand, steps-columns}
 -- ---- a put or remove reads no log, and builds nothing
 no_reader : (key : List ℕ) (edit : Edit) → reads_log (edit_request key edit) ≡ false
 no_reader key (PutEdit sets None) = refl
-no_reader key (PutEdit sets (Some version)) = refl
-no_reader key RemoveEdit = refl
+no_reader key _ = refl
 
 no_build : (key : List ℕ) (edit : Edit) → is_build (edit_request key edit) ≡ false
 no_build key (PutEdit sets None) = refl
-no_build key (PutEdit sets (Some version)) = refl
-no_build key RemoveEdit = refl
+no_build key _ = refl
 
 -- ---- what is left after a step that came to this
 log_same : (from : ℕ) (p : Progress) (log : LogView) → log_after false from p log ≡ log
 log_same from Moved log = refl
-log_same from Waits log = refl
-log_same from (Committed number) log = refl
-log_same from (Answered answer) log = refl
-log_same from (Refused refusal) log = refl
+log_same from _ log = refl
 
 views_same : (p : Progress) (views : ViewsView) → views ≡ views_after false p views
 views_same Moved views = refl
-views_same Waits views = refl
-views_same (Committed number) views = refl
-views_same (Answered answer) views = refl
-views_same (Refused refusal) views = refl
+views_same _ views = refl
 
 -- an outcome and what the step came to
 count_same : (number : ℕ) (pass : PassNo) (from to : ℕ) (p : Progress) → commit_count (outcome_of number pass from to p) ≡ commits_in p
 count_same number pass from to Moved = refl
-count_same number pass from to Waits = refl
-count_same number pass from to (Committed commit) = refl
-count_same number pass from to (Answered answer) = refl
-count_same number pass from to (Refused refusal) = refl
+count_same number pass from to _ = refl
 
 goes_on : (number : ℕ) (pass : PassNo) (from to : ℕ) (p : Progress) → Advances p → GoesOnAtOnce (outcome_of number pass from to p)
 goes_on number pass from to Moved on = tt
 goes_on number pass from to (Committed commit) on = tt
-goes_on number pass from to Waits on = absurd on
-goes_on number pass from to (Answered answer) on = absurd on
-goes_on number pass from to (Refused refusal) on = absurd on
-
-pub advances_if : (number : ℕ) (pass : PassNo) (from to : ℕ) (p : Progress) → GoesOnAtOnce (outcome_of number pass from to p) → Advances p
-advances_if number pass from to Moved on = tt
-advances_if number pass from to (Committed commit) on = tt
-advances_if number pass from to Waits on = absurd on
-advances_if number pass from to (Answered answer) on = absurd on
-advances_if number pass from to (Refused refusal) on = absurd on
+goes_on number pass from to _ on = absurd on
 
 -- what the log has after it is trimmed
 newest_after : (log left : LogView) → IsLog log → left ≡ trimmed log → newest left ≡ newest log
@@ -132,11 +112,9 @@ module _ (s : MachineView) (pass : PassNo) where
 
   -- the calls after the step
   calls_same : (old new : Write) (p : Progress) → ◌≡◌ {A = CallsView} (record { begun = number; calls = entries_left p new }) (calls_after number p (record { begun = number; calls = with_changed (with_work (WriteWork new)) number ((number, as_call old) ∷ []) }))
-  calls_same old new Moved = ap (λ (l : Entries). record { begun = number; calls = l }) (sym (changed old new))
-  calls_same old new Waits = ap (λ (l : Entries). record { begun = number; calls = l }) (sym (changed old new))
-  calls_same old new (Committed commit) = ap (λ (l : Entries). record { begun = number; calls = l }) (sym (changed old new))
   calls_same old new (Answered answer) = ap (λ (l : Entries). record { begun = number; calls = l }) (sym (ap (without number) (changed old new) ∙ without-here number (number, as_call new) [] own))
   calls_same old new (Refused refusal) = ap (λ (l : Entries). record { begun = number; calls = l }) (sym (ap (without number) (changed old new) ∙ without-here number (number, as_call new) [] own))
+  calls_same old new _ = ap (λ (l : Entries). record { begun = number; calls = l }) (sym (changed old new))
 
   -- A STEP OF THE RUN IS ONE OF THE MACHINE
   module _ (x y : WriteState) (p : Progress) (r : RunStep s.columns x p y) where
@@ -200,9 +178,7 @@ module _ (s : MachineView) (pass : PassNo) where
   open_still : (p : Progress) → Advances p → (y : WriteState) → after_step p y ≡ while_open y
   open_still Moved on y = refl
   open_still (Committed commit) on y = refl
-  open_still Waits on y = absurd on
-  open_still (Answered answer) on y = absurd on
-  open_still (Refused refusal) on y = absurd on
+  open_still _ on y = absurd on
 
   -- so are steps one after the other
   pub record Going (x : WriteState) (ps : List Progress) (y : WriteState) : Type 0 where
@@ -368,20 +344,16 @@ module _ (s : MachineView) (pass : PassNo) (idle : IsIdle s) where
   pub left_counted : (p : Progress) (y : WriteState) (calls : CallsView) → has_ended p ≡ true → calls ≡ record s.calls { begun = s.calls.begun + 1 } → calls_with (entries_left s pass p y.write) ≡ calls
   left_counted (Answered answer) y calls ended is = ap calls_with (sym idle) ∙ sym is
   left_counted (Refused refusal) y calls ended is = ap calls_with (sym idle) ∙ sym is
-  left_counted Moved y calls ended is = absurd (let clash : false ≡ true = ended in cc)
-  left_counted Waits y calls ended is = absurd (let clash : false ≡ true = ended in cc)
-  left_counted (Committed commit) y calls ended is = absurd (let clash : false ≡ true = ended in cc)
+  left_counted _ y calls ended is = absurd (let clash : false ≡ true = ended in cc)
 
   -- or it is stored
   abbrev stored : Write → List (ℕ × Call)
   stored write = (s.calls.begun + 1, record { pass = pass; from = newest s.log; epoch = s.epoch; work = WriteWork write }) ∷ []
 
   pub left_stored : (p : Progress) (y : WriteState) (calls : CallsView) → has_ended p ≡ false → calls ≡ calls_with (s.calls.calls ++ stored y.write) → calls_with (entries_left s pass p y.write) ≡ calls
-  left_stored Moved y calls open_ is = ap (λ (others : Entries). calls_with (others ++ stored y.write)) (sym idle) ∙ sym is
-  left_stored Waits y calls open_ is = ap (λ (others : Entries). calls_with (others ++ stored y.write)) (sym idle) ∙ sym is
-  left_stored (Committed commit) y calls open_ is = ap (λ (others : Entries). calls_with (others ++ stored y.write)) (sym idle) ∙ sym is
   left_stored (Answered answer) y calls open_ is = absurd (let clash : true ≡ false = open_ in cc)
   left_stored (Refused refusal) y calls open_ is = absurd (let clash : true ≡ false = open_ in cc)
+  left_stored _ y calls open_ is = ap (λ (others : Entries). calls_with (others ++ stored y.write)) (sym idle) ∙ sym is
 
   -- a call that has begun and run, with the numbers that the code has read
   pub has_begun_and_run : (write : Write) (request : Request) (run : WriteRun) (y : WriteState) (number from to : ℕ) (calls : CallsView) → IsNew s.columns from (WriteWork write) → fault_of s request ≡ None → write_request write ≡ request → HasRun s.columns (record { tree = s.tree; log = s.log; write = write }) run y

@@ -1,49 +1,31 @@
 -- A step of one call leads from a machine at a history to a machine at the next one.
-use Rattle.std.proofs.Common.{ℕ, ◌≡◌, ◌≢◌, ◌≤◌, ◌+◌, ◌⊎◌, ◌↔◌, inl, inr, cond, List, [], ◌∷◌, ◌++◌, length, Option, Some, None, refl, sym, ap, subst, ◌∙◌, arith, drop, map}
-use Rattle.std.specs.FinMap as fin
+use Rattle.std.proofs.Common.{ℕ, ◌≡◌, ◌≢◌, ◌≤◌, ◌+◌, ◌⊎◌, ◌↔◌, inl, inr, List, [], ◌∷◌, ◌++◌, length, Option, Some, refl, sym, ap, subst, ◌∙◌, arith, drop, map}
 use Rattle.std.specs.FinMap.{get}
-use Rattle.std.specs.Cmp.{IsTotalOrder}
-use Rattle.std.specs.Cmp.Lexicographic.{nat_list_cmp_total}
-use Rattle.std.specs.declared.cmp.Ordering.{Ordering}
-use Rattle.std.specs.declared.cmp.Ordering.TheVariants.{Less, Equal, Greater}
-use Rattle.std.specs.Ordering.{is_eq}
-use Rattle.std.proofs.lemmas.Cmp.{tied_itself}
 use Rattle.std.proofs.lemmas.List.{length-append, drop-append-le}
-use Rattle.mt_types.specs.Keys.{key_cmp}
-use Rattle.mt_types.specs.Rows.{Rows, after, after_change, version_of}
+use Rattle.mt_types.specs.Rows.{Rows, after, after_change}
 use Rattle.mt_types.specs.declared.row.Row.{Row}
 use Rattle.mt_types.specs.declared.row.Delta.{Delta}
 use Rattle.mt_types.specs.declared.row.Change.{Change}
 use Rattle.mt_types.specs.declared.event.Event.{Event}
 use Rattle.mt_types.specs.declared.event.Event.TheVariants.{Step}
-use Rattle.mt_types.specs.declared.event.Answer.{Answer}
-use Rattle.mt_types.specs.declared.event.Answer.TheVariants.{Absent, Found as FoundAnswer, Stored as StoredAnswer, Removed, Rows as RowsAnswer, Tidied, Built}
 use Rattle.mt_types.specs.declared.event.Outcome.{Outcome}
 use Rattle.mt_types.specs.declared.event.Outcome.TheVariants.{Commit}
-use Rattle.mt_types.specs.declared.refusal.Refusal.{Refusal}
-use Rattle.mt_types.specs.declared.refusal.Refusal.TheVariants.{NoMemory, ArenaFull, FeedFull, Spent, OtherVersion}
 use Rattle.mt_promise.specs.History.{History, Happening, Moment, OpenCall, StandingView, happening, moment, rows, call_of, without_call, replace_call, after_step, after_call_step, change_of}
-use Rattle.mt_promise.specs.RightAnswers.{RightAnswer, Lacks, HasVersion}
-use Rattle.mt_promise.specs.Legal.{MayStepAt, MayStep, MayEnd, MayCommit}
-use Rattle.mt_promise.proofs.HistoryLemmas.{after-append, Sometime-here}
+use Rattle.mt_promise.specs.Legal.{MayStepAt, MayStep, MayCommit}
+use Rattle.mt_promise.proofs.HistoryLemmas.{after-append}
 use Rattle.mt_slice.specs.Place.{AreBytes, place_of}
 use Rattle.mt_slice.proofs.Canonical.{same_from_place_of}
 use Rattle.mt_commit.specs.Log.{LogView, IsLog, newest, slowest, with_delta, trimmed}
 use Rattle.mt_commit.specs.Laws.{times_held}
 use Rattle.mt_commit.specs.Deltas.{with_row}
-use Rattle.mt_commit.proofs.RowLemmas.{get-with_row}
 use Rattle.mt_arena.specs.Arena.{ArenaView}
-use Rattle.mt_chart.specs.Tree.{Arena, Among}
+use Rattle.mt_chart.specs.Tree.{Among}
 use Rattle.mt_chart.proofs.Basics.{same_number}
 use Rattle.mt_tree.specs.Seen.{arena_seen, HasRow}
 use Rattle.mt_index.specs.declared.calls.Call.{Call}
 use Rattle.mt_works.specs.declared.work.Work.{Work}
-use Rattle.mt_works.specs.declared.work.Work.TheVariants.{Get as GetWork, Write as WriteWork, Range as RangeWork, Tidy as TidyWork, Build as BuildWork}
 use Rattle.mt_steps.specs.World.{IsTaken, World, IsSame, Goes, NotAmong}
-use Rattle.mt_steps.specs.Step.{RowIs, IsQuiet, Changes, IsRight, MayRefuse, TellsVersion, blocked_by, bounds}
-use Rattle.mt_write.specs.declared.writing.Edit.{Edit}
-use Rattle.mt_write.specs.declared.writing.Edit.TheVariants.{Put as PutEdit, Remove as RemoveEdit}
-use Rattle.mt_write.specs.Writing.{edit_request}
+use Rattle.mt_steps.specs.Step.{IsQuiet, Changes, bounds}
 use Rattle.mt_works.specs.Works.{request_of, held, IsTrue}
 use Rattle.mt_commit.specs.Logged.{key_of, delta_made, deltas_of}
 use Rattle.mt_index.specs.Paired.{Paired}
@@ -53,136 +35,19 @@ use Rattle.mt_commit.proofs.DeltaLemmas.{delta_is, deltas_of-append, deltas_of-l
 use Rattle.mt_index.proofs.LogStands.{holds_from, all-held, slowest_is, trims, was_later, blocked_now}
 use Rattle.mt_views.specs.Views.{ViewsView}
 use Rattle.mt_index.specs.Viewing.{ViewsStand, ReadsOf}
-use Rattle.mt_index.proofs.PastLemmas.{Grows, past_more, right_range}
+use Rattle.mt_index.proofs.PastLemmas.{Grows, past_more}
 use Rattle.mt_index.proofs.Reading.{reads_still}
 use Rattle.mt_index.proofs.ViewStands.{all_exact_still, builds_of, paired-builds}
 use Rattle.mt_index.proofs.NumberLemmas.{Entries}
 use Rattle.mt_index.proofs.PairedLemmas.{Others, Found, paired-change, paired-without, paired-each, paired-one}
 use Rattle.mt_index.proofs.ListLemmas.{among_kept, among_new, among_left, among_at, among_changed, among_without, order_changed}
 use Rattle.mt_works.proofs.WorkLemmas.{stays, owned_taken}
+use Rattle.mt_index.proofs.RightStands.{row_is, put_get, HasKeys}
 
 abbrev pub step_event : ℕ → Event
 step_event n = Step (record { 0 = n })
 
 -- two options that hold the same rows are one
-pub same_option : {A : Type 0} (x y : Option A) → ((r : A) → (x ≡ Some r) → (y ≡ Some r)) → ((r : A) → (y ≡ Some r) → (x ≡ Some r)) → x ≡ y
-same_option None None f g = refl
-same_option None (Some y) f g = g y refl
-same_option (Some x) y f g = sym (f x refl)
-
--- the row that the tree has at a key is that of the history
-row_is : (s : MachineView) (h : History) (st : Stands s h) (key : List ℕ) (there : Option Row) → AreBytes key → RowIs s.tree key there → get (rows s.columns (moment h)) key ≡ there
-row_is s h st key there bytes is = same_option _ _ (λ r e. (is r).0 ((st.content key bytes r).1 e)) (λ r e. (st.content key bytes r).0 ((is r).1 e))
-
--- ---- a row at a key of the history's rows
-key_order : IsTotalOrder key_cmp
-key_order = nat_list_cmp_total
-
-key_apart : fin.IsAntisymmetric key_cmp
-key_apart = fin.slice_cmp-IsAntisymmetric fin.nat_cmp-IsAntisymmetric
-
-put_get : (rs : Rows) (key q : List ℕ) (then : Option Row) → ((q ≡ key) × (get (with_row key then rs) q ≡ then)) ⊎ ((q ≢ key) × (get (with_row key then rs) q ≡ get rs q))
-put_get rs key q then = elim (key_cmp q key) as (λ r. key_cmp q key ≡ r → ((q ≡ key) × (get (with_row key then rs) q ≡ then)) ⊎ ((q ≢ key) × (get (with_row key then rs) q ≡ get rs q))) [
-  | Less ↦ λ e. inr (apart e (λ c. let clash : Less ≡ Equal = c in cc), get-with_row key then rs q ∙ ap (λ o. cond (is_eq o) then (get rs q)) e)
-  | Equal ↦ λ e. inl (key_apart q key e, get-with_row key then rs q ∙ ap (λ o. cond (is_eq o) then (get rs q)) e)
-  | Greater ↦ λ e. inr (apart e (λ c. let clash : Greater ≡ Equal = c in cc), get-with_row key then rs q ∙ ap (λ o. cond (is_eq o) then (get rs q)) e)
-] refl
-  where
-    apart : {o : Ordering} → key_cmp q key ≡ o → (o ≡ Equal → ⊥) → q ≢ key
-    apart e never same = never (sym e ∙ ap (λ (k : List ℕ). key_cmp k key) same ∙ itself)
-      where
-        itself : key_cmp key key ≡ Equal
-        itself = tied_itself key_order key
-
--- ---- refusals and answers, by the kind of the call
--- a write may end so
-end_write : (s : MachineView) (past : History) (st : Stands s past) (began : ℕ) → began ≤ length past → (key : List ℕ) (edit : Edit) (refusal : Refusal) → WasBlocked began past (blocked_by refusal) → MayRefuse (edit_request key edit) refusal → TellsVersion s.tree (edit_request key edit) refusal
-    → MayEnd s.columns past began (edit_request key edit) refusal
-end_write s past st began since key (PutEdit sets None) NoMemory was m told = tt
-end_write s past st began since key (PutEdit sets None) ArenaFull was m told = tt
-end_write s past st began since key (PutEdit sets None) (FeedFull slowest) was m told = was
-end_write s past st began since key (PutEdit sets None) Spent was m told = tt
-end_write s past st began since key (PutEdit sets None) _ was m told = absurd m
-end_write s past st began since key (PutEdit sets (Some version)) NoMemory was m told = tt
-end_write s past st began since key (PutEdit sets (Some version)) ArenaFull was m told = tt
-end_write s past st began since key (PutEdit sets (Some version)) (FeedFull slowest) was m told = was
-end_write s past st began since key (PutEdit sets (Some version)) Spent was m told = tt
-end_write s past st began since key (PutEdit sets (Some version)) (OtherVersion other) was m told =
-    (m, Sometime-here began (HasVersion s.columns key other) past since (ap version_of (row_is s past st key told.there told.bytes told.stands) ∙ told.is))
-end_write s past st began since key (PutEdit sets (Some version)) _ was m told = absurd m
-end_write s past st began since key RemoveEdit NoMemory was m told = tt
-end_write s past st began since key RemoveEdit (FeedFull slowest) was m told = was
-end_write s past st began since key RemoveEdit Spent was m told = tt
-end_write s past st began since key RemoveEdit _ was m told = absurd m
-
-pub may_end : (s : MachineView) (past : History) (st : Stands s past) (began : ℕ) → began ≤ length past → (work : Work) (refusal : Refusal) → WasBlocked began past (blocked_by refusal) → MayRefuse (request_of work) refusal → TellsVersion s.tree (request_of work) refusal
-    → MayEnd s.columns past began (request_of work) refusal
-may_end s past st began since (WriteWork g) refusal was m told = end_write s past st began since g.key g.edit refusal was m told
-may_end s past st began since (GetWork g) NoMemory was m told = tt
-may_end s past st began since (GetWork g) _ was m told = absurd m
-may_end s past st began since (RangeWork g) NoMemory was m told = tt
-may_end s past st began since (RangeWork g) _ was m told = absurd m
-may_end s past st began since (TidyWork g) NoMemory was m told = tt
-may_end s past st began since (TidyWork g) _ was m told = absurd m
-may_end s past st began since (BuildWork g) NoMemory was m told = tt
-may_end s past st began since (BuildWork g) _ was m told = absurd m
-
--- and what it answers is right
-answer_write : (s : MachineView) (h : History) (st : Stands s h) (call : OpenCall) (key : List ℕ) (edit : Edit) (committed : Option ℕ) (answer : Answer) (past : List Arena) → call.began ≤ length h → call.committed ≡ committed → IsRight past s.tree (edit_request key edit) committed answer
-    → RightAnswer s.columns h call (edit_request key edit) answer 0
-answer_write s h st call key (PutEdit sets None) committed Absent past began is m = absurd m
-answer_write s h st call key (PutEdit sets None) committed (FoundAnswer row) past began is m = absurd m
-answer_write s h st call key (PutEdit sets None) committed (StoredAnswer number) past began is m = is ∙ m
-answer_write s h st call key (PutEdit sets None) committed (Removed number) past began is m = absurd m
-answer_write s h st call key (PutEdit sets None) committed (RowsAnswer pairs) past began is m = absurd m
-answer_write s h st call key (PutEdit sets None) committed (Tidied rule) past began is m = absurd m
-answer_write s h st call key (PutEdit sets None) committed (Built view) past began is m = absurd m
-answer_write s h st call key (PutEdit sets (Some version)) committed Absent past began is m = absurd m
-answer_write s h st call key (PutEdit sets (Some version)) committed (FoundAnswer row) past began is m = absurd m
-answer_write s h st call key (PutEdit sets (Some version)) committed (StoredAnswer number) past began is m = is ∙ m
-answer_write s h st call key (PutEdit sets (Some version)) committed (Removed number) past began is m = absurd m
-answer_write s h st call key (PutEdit sets (Some version)) committed (RowsAnswer pairs) past began is m = absurd m
-answer_write s h st call key (PutEdit sets (Some version)) committed (Tidied rule) past began is m = absurd m
-answer_write s h st call key (PutEdit sets (Some version)) committed (Built view) past began is m = absurd m
-answer_write s h st call key RemoveEdit committed Absent past began is (none, bytes, there) = (is ∙ none, Sometime-here call.began (Lacks s.columns key) h began (row_is s h st key None bytes there))
-answer_write s h st call key RemoveEdit committed (FoundAnswer row) past began is m = absurd m
-answer_write s h st call key RemoveEdit committed (StoredAnswer number) past began is m = absurd m
-answer_write s h st call key RemoveEdit committed (Removed number) past began is m = is ∙ m
-answer_write s h st call key RemoveEdit committed (RowsAnswer pairs) past began is m = absurd m
-answer_write s h st call key RemoveEdit committed (Tidied rule) past began is m = absurd m
-answer_write s h st call key RemoveEdit committed (Built view) past began is m = absurd m
-
-pub right_answer : (s : MachineView) (h : History) (st : Stands s h) (call : OpenCall) (work : Work) (answer : Answer) → call.began ≤ length h → call.committed ≡ (held work).committed → (past : List Arena) → IsPast s.columns call.began call.from h (arena_seen s.tree ∷ past) → IsRight past s.tree (request_of work) (held work).committed answer
-    → RightAnswer s.columns h call (request_of work) answer 0
-right_answer s h st call (WriteWork g) answer began committed past passed m = answer_write s h st call g.key g.edit (held (WriteWork g)).committed answer past began committed m
-right_answer s h st call (GetWork g) Absent began committed past passed (bytes, lacked) = passed.lacked g.key bytes lacked
-right_answer s h st call (GetWork g) (FoundAnswer row) began committed past passed (bytes, stood) = passed.stood g.columns g.key row bytes stood
-right_answer s h st call (GetWork g) (StoredAnswer number) began committed past passed m = absurd m
-right_answer s h st call (GetWork g) (Removed number) began committed past passed m = absurd m
-right_answer s h st call (GetWork g) (RowsAnswer pairs) began committed past passed m = absurd m
-right_answer s h st call (GetWork g) (Tidied rule) began committed past passed m = absurd m
-right_answer s h st call (GetWork g) (Built view) began committed past passed m = absurd m
-right_answer s h st call (RangeWork g) Absent began committed past passed m = absurd m
-right_answer s h st call (RangeWork g) (FoundAnswer row) began committed past passed m = absurd m
-right_answer s h st call (RangeWork g) (StoredAnswer number) began committed past passed m = absurd m
-right_answer s h st call (RangeWork g) (Removed number) began committed past passed m = absurd m
-right_answer s h st call (RangeWork g) (RowsAnswer pairs) began committed past passed m = right_range s.columns call.began call.from h (arena_seen s.tree ∷ past) g.start g.columns g.limit pairs began passed st.keys m
-right_answer s h st call (RangeWork g) (Tidied rule) began committed past passed m = absurd m
-right_answer s h st call (RangeWork g) (Built view) began committed past passed m = absurd m
-right_answer s h st call (TidyWork g) (Tidied rule) began committed past passed m = tt
-right_answer s h st call (TidyWork g) _ began committed past passed m = absurd m
-right_answer s h st call (BuildWork g) Absent began committed past passed m = absurd m
-right_answer s h st call (BuildWork g) (FoundAnswer row) began committed past passed m = absurd m
-right_answer s h st call (BuildWork g) (StoredAnswer number) began committed past passed m = absurd m
-right_answer s h st call (BuildWork g) (Removed number) began committed past passed m = absurd m
-right_answer s h st call (BuildWork g) (RowsAnswer pairs) began committed past passed m = absurd m
-right_answer s h st call (BuildWork g) (Tidied rule) began committed past passed m = absurd m
-right_answer s h st call (BuildWork g) (Built view) began committed past passed m = absurd m
-
--- each row of a history is under a key of bytes
-abbrev pub HasKeys : ℕ → History → Type 0
-HasKeys C h = (key : List ℕ) (row : Row) → get (rows C (moment h)) key ≡ Some row → AreBytes key
-
 -- ---- the list of calls: one step of one call leaves what is true of the others, and keeps what they own apart
 module _ (s : MachineView) (h : History) (n : ℕ) (kept : Call) (st : Stands s h) (at : call_at n s.calls.calls ≡ Some kept) (f : Found (CallStands s.columns s.epoch s.tree st.w h) n kept (moment h).calls)
     (after_tree : ArenaView) (work : Work) (owns : List ℕ) (Then : World → Type 0) (goes : Goes s.epoch s.tree after_tree st.w (held kept.work).owns owns Then) where

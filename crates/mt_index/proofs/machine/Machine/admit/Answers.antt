@@ -8,7 +8,7 @@ use Rattle.mt_works.specs.Works.{IsNew}
 use Rattle.mt_index.specs.Calls.{CallsView}
 use Rattle.mt_index.specs.Stands.{MachineView, Stands, fault_of, pinned, placed, released}
 use Rattle.mt_index.proofs.LogStands.{pinned_holds, pinned_back}
-use Rattle.mt_index.proofs.EventStands.{begun-stands, called}
+use Rattle.mt_index.proofs.BeginStands.{begun-stands, called}
 use Rattle.mt_index.proofs.LaterStands.{seen}
 use Rattle.mt_index.proofs.MachineLemmas.{room_to_pin}
 use Rattle.mt_index.proofs.machine.Machine.admit.Goals as goal

@@ -10,7 +10,7 @@ use Rattle.mt_index.proofs.CauseLemmas.{steps-caused}
 use Rattle.mt_index.proofs.OneStepLemmas.{steps-once}
 use Rattle.mt_index.proofs.LimitedLemmas.{outcome-limited}
 use Rattle.mt_index.proofs.EventLemmas.{begin-does, step-does, apply-does, read-does, drop-does, advance-does, collect-does}
-use Rattle.mt_index.proofs.EventStands.{begins-stands, begins-columns}
+use Rattle.mt_index.proofs.BeginStands.{begins-stands, begins-columns}
 use Rattle.mt_index.proofs.ViewEvents.{steps-stand, steps-columns}
 use Rattle.mt_index.proofs.ApplyStands.{applies-stand, reads-stand, drops-stand}
 use Rattle.mt_index.proofs.EpochStands.{advances-stand, collects-stand}

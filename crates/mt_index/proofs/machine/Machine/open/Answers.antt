@@ -5,7 +5,7 @@ use Rattle.mt_promise.proofs.LimitedLemmas.{opened_few}
 use Rattle.mt_views.specs.Views.{ViewsView}
 use Rattle.mt_index.specs.Calls.{CallsView}
 use Rattle.mt_index.specs.Stands.{Stands}
-use Rattle.mt_index.proofs.EventStands.{opens-stands, new_world, new_untaken}
+use Rattle.mt_index.proofs.OpenStands.{opens-stands, new_world, new_untaken}
 use Rattle.mt_index.proofs.LaterStands.{seen}
 use Rattle.mt_index.proofs.machine.Machine.open.Goals as goal
 

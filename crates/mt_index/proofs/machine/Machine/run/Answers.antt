@@ -9,7 +9,7 @@ use Rattle.mt_promise.proofs.KeepLemmas.{keeps_promise}
 use Rattle.mt_promise.proofs.HistoryLemmas.{GoesOn-append, GoesOn-length}
 use Rattle.mt_index.specs.Events.{AllHappen}
 use Rattle.mt_index.proofs.EventLemmas.{all-more}
-use Rattle.mt_index.proofs.EventStands.{no_fault}
+use Rattle.mt_index.proofs.OpenStands.{no_fault}
 use Rattle.mt_index.proofs.machine.Machine.run.Goals as goal
 
 pub loop-event-init : goal.loop-event-init
