@@ -1,24 +1,17 @@
 -- What calls and events come to on a machine on which no call is open.
 use Rattle.std.proofs.Common.{arith, ◌≡◌, ◌≤◌, ℕ, List, refl, sym, ap, subst, ◌∙◌, inl, inr, Bool, true, false, eqb}
 use Rattle.std.specs.Prelude.{Option, Some, None, Result, Ok, Err, IfOk, MatchOption, if◌then◌else◌}
-use Rattle.mt_types.specs.Rows.{Rows}
-use Rattle.mt_types.specs.declared.row.Change.{Change}
 use Rattle.mt_types.specs.declared.numbers.ViewNo.{ViewNo}
 use Rattle.mt_types.specs.declared.refusal.Refusal.{Refusal}
 use Rattle.mt_types.specs.declared.refusal.Refusal.TheVariants.{NoMemory, NoSuchView, Behind}
 use Rattle.mt_types.specs.declared.event.Answer.{Answer}
-use Rattle.mt_types.specs.declared.event.Answer.TheVariants.{Absent, Stored, Removed, Tidied, Built}
 use Rattle.mt_types.specs.declared.event.Event.{Event}
 use Rattle.mt_types.specs.declared.event.Event.TheVariants.{Begin, Step, Apply, ViewRead, ViewDrop, Advance, Collect}
 use Rattle.mt_types.specs.declared.event.Outcome.{Outcome}
 use Rattle.mt_types.specs.declared.event.Outcome.TheVariants.{Applied, Current, Done, Dropped, Freed, View, Refused}
 use Rattle.mt_types.specs.declared.event.Reply.{Reply}
 use Rattle.mt_types.specs.declared.event.Request.{Request}
-use Rattle.mt_types.specs.declared.event.Request.TheVariants.{Build, Put, PutIf, Remove, Tidy}
-use Rattle.mt_types.specs.declared.event.TidyRule.{TidyRule}
 use Rattle.mt_types.specs.declared.view.Page.{Page}
-use Rattle.mt_types.specs.declared.view.ViewSpec.{ViewSpec}
-use Rattle.mt_promise.specs.Alone.{IsPlain}
 use Rattle.mt_types.specs.Limits.{page_fault}
 use Rattle.mt_promise.specs.History.{History, moment}
 use Rattle.mt_view.specs.Laws.{ShowsPage}
@@ -68,42 +61,6 @@ came_refused s t request refusal plainly happens fault columns bounds = record {
   columns = columns;
   bounds = bounds;
 }
-
-put_plain : (map : Rows) (commits : ℕ) (made : List Change) (key : List ℕ) (sets : List (ℕ × List ℕ)) (answer : Answer) → IsPlain map commits (Put key sets) answer made → ((number : ℕ) → answer ≡ Stored number → ⊥) → ⊥
-put_plain map commits made key sets (Stored number) plain none = none number refl
-put_plain map commits made key sets _ plain none = plain
-
-put_if_plain : (map : Rows) (commits : ℕ) (made : List Change) (key : List ℕ) (sets : List (ℕ × List ℕ)) (version : ℕ) (answer : Answer) → IsPlain map commits (PutIf key sets version) answer made → ((number : ℕ) → answer ≡ Stored number → ⊥) → ⊥
-put_if_plain map commits made key sets version (Stored number) plain none = none number refl
-put_if_plain map commits made key sets version _ plain none = plain
-
-remove_plain : (map : Rows) (commits : ℕ) (made : List Change) (key : List ℕ) (answer : Answer) → IsPlain map commits (Remove key) answer made → ((number : ℕ) → answer ≡ Removed number → ⊥) → (answer ≡ Absent → ⊥) → ⊥
-remove_plain map commits made key (Removed number) plain none other = none number refl
-remove_plain map commits made key Absent plain none other = other refl
-remove_plain map commits made key _ plain none other = plain
-
-tidy_plain : (map : Rows) (commits : ℕ) (made : List Change) (key : List ℕ) (answer : Answer) → IsPlain map commits (Tidy key) answer made → ((rule : TidyRule) → answer ≡ Tidied rule → ⊥) → ⊥
-tidy_plain map commits made key (Tidied rule) plain none = none rule refl
-tidy_plain map commits made key _ plain none = plain
-
-build_plain : (map : Rows) (commits : ℕ) (made : List Change) (spec : ViewSpec) (answer : Answer) → IsPlain map commits (Build spec) answer made → ((view : ViewNo) → answer ≡ Built view → ⊥) → ⊥
-build_plain map commits made spec (Built view) plain none = none view refl
-build_plain map commits made spec _ plain none = plain
-
-pub put_stores : (key : List ℕ) (sets : List (ℕ × List ℕ)) (answer : Answer) → IsAnswerTo (Put key sets) answer → ((number : ℕ) → answer ≡ Stored number → ⊥) → ⊥
-put_stores key sets answer is none = put_plain is.map is.commits is.made key sets answer is.plain none
-
-pub put_if_stores : (key : List ℕ) (sets : List (ℕ × List ℕ)) (version : ℕ) (answer : Answer) → IsAnswerTo (PutIf key sets version) answer → ((number : ℕ) → answer ≡ Stored number → ⊥) → ⊥
-put_if_stores key sets version answer is none = put_if_plain is.map is.commits is.made key sets version answer is.plain none
-
-pub remove_removes : (key : List ℕ) (answer : Answer) → IsAnswerTo (Remove key) answer → ((number : ℕ) → answer ≡ Removed number → ⊥) → (answer ≡ Absent → ⊥) → ⊥
-remove_removes key answer is none other = remove_plain is.map is.commits is.made key answer is.plain none other
-
-pub tidy_tidies : (key : List ℕ) (answer : Answer) → IsAnswerTo (Tidy key) answer → ((rule : TidyRule) → answer ≡ Tidied rule → ⊥) → ⊥
-tidy_tidies key answer is none = tidy_plain is.map is.commits is.made key answer is.plain none
-
-pub build_builds : (spec : ViewSpec) (answer : Answer) → IsAnswerTo (Build spec) answer → ((view : ViewNo) → answer ≡ Built view → ⊥) → ⊥
-build_builds spec answer is none = build_plain is.map is.commits is.made spec answer is.plain none
 
 -- ---- events that are no part of a call
 
