@@ -1,5 +1,5 @@
 -- A drive continues with an event, and ends with one.
-use Rattle.std.proofs.Common.{arith, sym, ap, subst, ◌≡◌, ◌≤◌, ◌<◌, ◌⊎◌, ◌∙◌, ◌∷◌, ◌++◌, [], List, ℕ, refl, append_assoc, append-nil, inl, inr}
+use Rattle.std.proofs.Common.{arith, sym, ap, subst, ◌≡◌, ◌≤◌, ◌⊎◌, ◌∙◌, ◌∷◌, ◌++◌, [], List, ℕ, refl, append_assoc, append-nil, inl, inr}
 use Rattle.std.specs.Prelude.{All, Result, Ok, Err, Some, IfOk, IfErr}
 use Rattle.std.proofs.lemmas.List.Elements.{All-append, All-push, All-nil, All-cons, All-head, All-tail}
 use Rattle.mt_types.specs.declared.numbers.PassNo.{PassNo}
@@ -12,7 +12,6 @@ use Rattle.mt_types.specs.declared.event.Request.{Request}
 use Rattle.mt_types.specs.declared.event.Reply.{Reply}
 use Rattle.mt_types.specs.declared.event.Outcome.{Outcome}
 use Rattle.mt_types.specs.declared.event.Outcome.TheVariants.{Call, Moved, Again, Commit, Done, Refused}
-use Rattle.mt_types.specs.Limited.{AnswerIsLimited, OutcomeIsLimited}
 use Rattle.mt_index.specs.Events.{GoesOnAtOnce}
 use Rattle.mt_shared.specs.declared.driving.Started.{Started}
 use Rattle.mt_shared.specs.declared.driving.Started.TheVariants.{Refused as RefusedStart}
@@ -163,19 +162,6 @@ told_number p e o q told = elim told [ inl u ↦ ap (λ (x : PassView). x.number
 pub told_seen : (p : PassView) (e : Event) (o : Outcome) (q : PassView) → IsTold p e o q → p.seen ≤ q.seen
 told_seen p e o q told = elim told [ inl u ↦ (let same = ap (λ (x : PassView). x.seen) u.1 in omega (arith, same)) | inr m ↦ (let sees = m.0.seen in omega (arith, sees)) ]
 
--- a begin gives a call or is refused
-pub begin_answers : (p : PassView) (named : PassNo) (request : Request) (o : Outcome) (q : PassView) → IsTold p (Begin named request) o q → ((call : CallNo) → o ≡ Call call → ⊥) → ((refusal : Refusal) → o ≡ Refused refusal → ⊥) → ⊥
-begin_answers p named request o q told call refused =
-    elim told [
-      | inl u ↦ elim u.0 [ inl e ↦ refused WrongPass e | inr e ↦ refused Spent e ]
-      | inr m ↦ suited o m.1 call refused
-    ]
-  where
-    suited : (w : Outcome) → Suits p.number (Begin named request) w → ((call : CallNo) → w ≡ Call call → ⊥) → ((refusal : Refusal) → w ≡ Refused refusal → ⊥) → ⊥
-    suited (Call number) s c r = c number refl
-    suited (Refused refusal) s c r = r refusal refl
-    suited _ s c r = s
-
 module _ {S : Type 0} (does : EventLaw S) (s : S) (p : PassView) (request : Request) where
   pub begins_told : (call : CallNo) (o : Outcome) (t : S) (q : PassView) (named : PassNo) → named ≡ p.number → does s p (Begin named request) o t q → o ≡ Call call → IsTold p (Begin named request) o q → Begun does s p request call t q
   begins_told call o t q named same d is told =
@@ -186,10 +172,6 @@ module _ {S : Type 0} (does : EventLaw S) (s : S) (p : PassView) (request : Requ
   goes_on_told call m r o t q b d none told =
       let (counts, suits) = counted r (Step call) o q none told in
       goes_on does s p request call m r o t q b d (continues r.number call o none suits) counts
-
-  pub begin_refused : (refusal : Refusal) (o : Outcome) (t : S) (q : PassView) (named : PassNo) → named ≡ p.number → does s p (Begin named request) o t q → o ≡ Refused refusal → IsRefused does s p request refusal t q
-  begin_refused refusal o t q named same d is =
-      inl (subst (λ (n : PassNo). does s p (Begin n request) (Refused refusal) t q) same (subst (λ (w : Outcome). does s p (Begin named request) w t q) is d))
 
   -- what a drive gives that a step has ended
   pub record IsEnded (end : Result Reply Refusal) (t : S) (q : PassView) : Type 0 where
@@ -242,14 +224,6 @@ module _ {S : Type 0} (does : EventLaw S) (s : S) (p : PassView) (call : CallNo)
 
   pub run_seen : p.seen ≤ q.seen
   run_seen = let before = g.seen in let rises = told_seen g.between (Step call) o q g.told in omega (arith, before, rises)
-
-  pub run_counts : EndsNone o → p.events < q.events
-  run_counts none = let before = g.events in let more = (counted g.between (Step call) o q none g.told).0.events in omega (arith, before, more)
-
--- what a step that ends a call answers keeps the limits, and so does the reply
-pub ends_limited : (seen : ℕ) (outcome : Outcome) (end : Result Reply Refusal) → Ends seen outcome (Some end) → OutcomeIsLimited outcome → IfOk end (λ reply. AnswerIsLimited reply.answer)
-ends_limited seen outcome (Ok reply) ends limited = subst (λ (o : Outcome). OutcomeIsLimited o) ends.0 limited
-ends_limited seen outcome (Err refusal) ends limited = tt
 
 -- ---- how a call that was started is driven to its end
 module _ {S : Type 0} (does : EventLaw S) (s : S) (p : PassView) (request : Request) where

@@ -20,7 +20,7 @@ use Rattle.mt_shared.specs.declared.trace.Trace.TheVariants.{Off, On, Lost}
 use Rattle.mt_promise.specs.Legal.{Legal}
 use Rattle.mt_promise.specs.Headline.{KeepsPromise}
 use Rattle.mt_promise.proofs.KeepLemmas.{keeps_promise}
-use Rattle.mt_shared.specs.Traces.{entry, Tells, Gains, IsTraceOf, IsNewTrace, Keeps}
+use Rattle.mt_shared.specs.Traces.{entry, Tells, Gains, IsTraceOf, Keeps}
 use Rattle.mt_index.specs.Events.{Makes, commit_count}
 use Rattle.mt_shared.specs.Passes.{PassView, Counts, seen_in}
 use Rattle.mt_shared.specs.Books.{book_with}
@@ -76,14 +76,6 @@ follows Off Lost pass e o opens h g i = absurd g
 follows (On v) Off pass e o opens h g i = absurd g
 follows Lost (On w) pass e o opens h g i = absurd g
 follows Lost Off pass e o opens h g i = absurd g
-
-pub new_trace : (traced : Bool) (t : Trace) → IsNewTrace traced t → IsTraceOf t []
-new_trace true (On w) new = subst (λ (xs : List Entry). Tells xs []) (sym new) refl
-new_trace false Off new = tt
-new_trace true Off new = tt
-new_trace true Lost new = tt
-new_trace false (On w) new = absurd new
-new_trace false Lost new = tt
 
 -- the machine's commits, once it has made an event
 pub commits_then : (m n : MachineView) (e : Event) (o : Outcome) (h : History) → Stands m h → Makes m e o n → (newest n.log ≡ newest m.log + commit_count o) × (seen_in o ≤ newest m.log)

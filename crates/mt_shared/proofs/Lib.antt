@@ -2,6 +2,7 @@ pub mod HappeningLemmas
 pub mod KeptLemmas
 pub mod ToldLemmas
 pub mod DriveLemmas
+pub mod RunCounts
 pub mod RunLemmas
 pub mod TurnLemmas
 pub mod ChangeLemmas

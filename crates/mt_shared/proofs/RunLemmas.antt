@@ -1,8 +1,7 @@
 -- Steps of a run that are counted together are counted one by one; and a run on what a lock keeps is one somewhere.
-use Rattle.std.proofs.Common.{arith, sym, ap, subst, ◌≡◌, ◌+◌, ◌-◌, ◌^◌, ◌≤◌, ◌<◌, ◌∙◌, ◌∷◌, [], List, ℕ, refl, length, get_or, set, map, Bool, true, false, ◌||◌, ◌&&◌, not, eqb, leb, ◌⊎◌, inl, inr, suc}
-use Rattle.std.specs.Prelude.{All, MatchBool, max, min, sum_by}
+use Rattle.std.proofs.Common.{arith, sym, ap, subst, ◌≡◌, ◌+◌, ◌-◌, ◌^◌, ◌≤◌, ◌<◌, ◌∙◌, ◌∷◌, [], List, ℕ, refl, length, get_or, set, map, Bool, true, false, ◌||◌, ◌&&◌, not, eqb, leb}
+use Rattle.std.specs.Prelude.{All, MatchBool, max, sum_by}
 use Rattle.std.proofs.lemmas.Bool.{eq-eqb}
-use Rattle.std.proofs.lemmas.Bool.Decides.{leb_tells}
 use Rattle.std.proofs.lemmas.List.{get_or-set_same, set-get_or, set-set, length-set}
 use Rattle.std.proofs.lemmas.List.Elements.{All-nil, All-cons, All-head, All-tail}
 use Rattle.std.proofs.lemmas.List.Sums.{sum_by-append}
@@ -39,7 +38,6 @@ use Rattle.mt_shared.proofs.KeptLemmas.{book_bounds, book_within, commits_then, 
 use Rattle.mt_shared.proofs.DriveLemmas.{gains_none}
 use Rattle.mt_shared.proofs.ToldLemmas.{does_tell}
 
--- ---- what the lock keeps is kept
 kept_at : (s : KeptView) (p : PassView) (e : Event) (o : Outcome) (t : KeptView) (q : PassView) (b c : Bool) → b ≡ is_wrong s p.number e → IsKept s
     → MatchBool b (IsUnmade WrongPass s p o t q) (MatchBool c (IsUnmade Spent s p o t q) (IsMade s p e o t q)) → IsKept t
 kept_at s p e o t q true c is k h = subst IsKept (sym h.1) k
@@ -394,36 +392,3 @@ module _ {S : Type 0} (x : S) where
   started_somewhere s p request (Begun call) t q y k is = begun_somewhere s p request (Call call) t q y k is
   started_somewhere s p request (Ran call last) t q y k (m, r, b, g) =
       (x, r, begun_somewhere s p request (Call call) m r x k b, gone_somewhere m r call last t q y (does_keep s p (Begin p.number request) (Call call) m r k b.0) g)
-
--- ---- how many events a run counts
-pub told_events : (p : PassView) (e : Event) (o : Outcome) (q : PassView) → IsTold p e o q → q.events ≤ p.events + 1
-told_events p e o q told = elim told [
-  | inl unmade ↦ (let same = ap (λ (x : PassView). x.events) unmade.1 in omega (arith, same))
-  | inr made ↦ (let more = made.0.events in omega (arith, more))
-]
-
-or_true : (b : Bool) → (b || true) ≡ true
-or_true true = refl
-or_true false = refl
-
--- a run after which the call continues at once has made all the events that it may, or no more can be counted
-pub runs_fully : (here there most room least steps : ℕ) → least ≡ min most room → (room ≡ 0 → ⊥) → (steps < least → ⊥) → steps ≤ max 1 least → (here + room ≡ greatest_number) ⊎ (there + room ≡ greatest_number)
-    → (there + most ≤ there + steps) ⊎ ((eqb (here + steps) greatest_number || eqb (there + steps) greatest_number) ≡ true)
-runs_fully here there most room least steps is some long few at = elim (leb_tells most steps) [
-  | inl enough ↦ inl (let e = enough.1 in omega (arith, e))
-  | inr short ↦ inr (spent (all short.1) at)
-]
-  where
-    -- it has made as many as there was room for
-    all : steps < most → steps ≡ room
-    all short = elim (leb_tells (suc steps) least) [
-      | inl less ↦ absurd (long less.1)
-      | inr more ↦ elim (leb_tells 1 room) [
-        | inl one ↦ (let a = more.1 in let b = one.1 in omega (arith, short, few, is, a, b))
-        | inr none ↦ absurd (some (let a = none.1 in omega (arith, a)))
-      ]
-    ]
-
-    spent : steps ≡ room → (here + room ≡ greatest_number) ⊎ (there + room ≡ greatest_number) → (eqb (here + steps) greatest_number || eqb (there + steps) greatest_number) ≡ true
-    spent same (inl e) = ap (λ (b : Bool). b || eqb (there + steps) greatest_number) (eq-eqb (here + steps) greatest_number (ap (λ (n : ℕ). here + n) same ∙ e))
-    spent same (inr e) = ap (λ (b : Bool). eqb (here + steps) greatest_number || b) (eq-eqb (there + steps) greatest_number (ap (λ (n : ℕ). there + n) same ∙ e)) ∙ or_true (eqb (here + steps) greatest_number)

@@ -10,7 +10,8 @@ use Rattle.mt_shared.specs.Drives.{HasGone}
 use Rattle.mt_shared.specs.Kept.{KeptView, IsKept, Does, has_book}
 use Rattle.mt_shared.proofs.KeptLemmas.{has_its_book}
 use Rattle.mt_shared.proofs.ToldLemmas.{does_tell}
-use Rattle.mt_shared.proofs.RunLemmas.{book_fits, gone_as_counted, gone_keep, goes_once, run_newest, runs_fully, told_events}
+use Rattle.mt_shared.proofs.RunLemmas.{book_fits, gone_as_counted, gone_keep, goes_once, run_newest}
+use Rattle.mt_shared.proofs.RunCounts.{runs_fully, told_events}
 use Rattle.mt_shared.proofs.kept.Kept.go.Goals as goal
 
 pub returns-then-is_traced-clause-goes : goal.returns-then-is_traced-clause-goes
