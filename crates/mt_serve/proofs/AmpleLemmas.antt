@@ -122,11 +122,7 @@ or_first (Some due) b e = cc
 unbroken : (C : ℕ) (m : Moment) (request : Request) → begin_fault C m.begun 0 (length m.views) request ≡ None → limit_broken C m request ≡ None
 unbroken C m (Get key asked) none = or_first (request_fault C (Get key asked)) _ none
 unbroken C m (Range start limit asked) none = or_first (request_fault C (Range start limit asked)) _ none
-unbroken C m (Put key sets) none = none
-unbroken C m (PutIf key sets version) none = none
-unbroken C m (Remove key) none = none
-unbroken C m (Tidy key) none = none
-unbroken C m (Build spec) none = none
+unbroken C m _ none = none
 
 -- a begin that is refused amply is refused for the limit that the call breaks
 abbrev MayTurnAway : Option Refusal → Refusal → Type 0
@@ -147,11 +143,7 @@ fault_turned None refusal is ample = absurd (subst (λ (r : Refusal). IsAmple (R
 turned : (C : ℕ) (m : Moment) (request : Request) (refusal : Refusal) → MayTurnAway (begin_fault C m.begun 0 (length m.views) request) refusal → IsAmple (Refused refusal) → limit_broken C m request ≡ Some refusal
 turned C m (Get key asked) refusal why ample = read_turned (request_fault C (Get key asked)) (nat_le greatest_number m.begun) refusal why ample
 turned C m (Range start limit asked) refusal why ample = read_turned (request_fault C (Range start limit asked)) (nat_le greatest_number m.begun) refusal why ample
-turned C m (Put key sets) refusal why ample = fault_turned _ refusal why ample
-turned C m (PutIf key sets version) refusal why ample = fault_turned _ refusal why ample
-turned C m (Remove key) refusal why ample = fault_turned _ refusal why ample
-turned C m (Tidy key) refusal why ample = fault_turned _ refusal why ample
-turned C m (Build spec) refusal why ample = fault_turned _ refusal why ample
+turned C m _ refusal why ample = fault_turned _ refusal why ample
 
 -- the answer of a call of which the limit is known
 abbrev IsCallAnswer : ℕ → Moment → Request → Response → Option Refusal → Type 0

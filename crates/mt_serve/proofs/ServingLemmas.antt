@@ -1,5 +1,5 @@
 -- Queries, frames that have been answered so far.
-use Rattle.std.proofs.Common.{◌≡◌, ◌≢◌, inl, inr, ℕ, suc, ◌+◌, ◌*◌, ◌≤◌, List, [], ◌∷◌, ◌++◌, length, fold, refl, ap, subst, sym, ◌∙◌, arith, append_assoc, append-nil, length-append, Option, None, Some, IfSome, Bool, false}
+use Rattle.std.proofs.Common.{◌≡◌, inr, ℕ, suc, ◌+◌, ◌*◌, ◌≤◌, List, [], ◌∷◌, ◌++◌, length, fold, refl, ap, subst, sym, ◌∙◌, arith, append_assoc, append-nil, length-append, Option, None, Some, IfSome, Bool, false}
 use Rattle.std.specs.Prelude.{sum_by, ⊤, Result, Ok, Err, IfOk, MatchBool}
 use Rattle.std.specs.List.{AllByRecursion}
 use Rattle.std.specs.Io.KnownBytes.{Appends}
@@ -15,21 +15,16 @@ use Rattle.mt_wire.specs.declared.query.Query.{Query}
 use Rattle.mt_wire.specs.declared.query.Query.TheVariants.{ViewDrop, ViewRead}
 use Rattle.mt_wire.specs.declared.response.Response.{Response}
 use Rattle.mt_wire.specs.declared.frame.Frame.{Frame}
-use Rattle.mt_types.specs.Limited.{AnswerIsLimited, PageIsLimited}
+use Rattle.mt_types.specs.Limited.{PageIsLimited}
 use Rattle.mt_types.specs.declared.refusal.Refusal.{Refusal}
 use Rattle.mt_types.specs.declared.view.Page.{Page}
-use Rattle.mt_types.specs.declared.event.Reply.{Reply}
-use Rattle.mt_types.specs.declared.event.Answer.{Answer}
-use Rattle.mt_types.specs.declared.event.Answer.TheVariants.{Absent, Found, Stored, Removed, Rows, Tidied, Built}
-use Rattle.mt_wire.specs.Answered.{end_of}
-use Rattle.mt_wire.specs.Limited.{EndIsLimited, ResponseIsLimited}
+use Rattle.mt_wire.specs.Limited.{ResponseIsLimited}
 use Rattle.mt_wire.specs.Frames.{Holds, RequestsFit, request_frame, reply_frame}
 use Rattle.mt_serve.specs.declared.fault.SessionFault.{SessionFault}
-use Rattle.mt_serve.specs.declared.fault.SessionFault.TheVariants.{Write}
 use Rattle.mt_serve.specs.declared.session.Summary.{Summary}
-use Rattle.mt_serve.specs.Asking.{Answers, AnswersAll, AnswersFrame, AnswersFrames, KeepsViews, call_response, changes, drop_response, page_response}
-use Rattle.mt_serve.specs.Sources.{FaultIsAt, LosesFrame}
-use Rattle.mt_serve.specs.Sessions.{HasServed, IsServed, IsBroken, BreaksIn, requests_of, replies_of}
+use Rattle.mt_serve.specs.Asking.{Answers, AnswersAll, AnswersFrame, AnswersFrames, KeepsViews, changes, drop_response, page_response}
+use Rattle.mt_serve.specs.Sources.{LosesFrame}
+use Rattle.mt_serve.specs.Sessions.{HasServed, IsBroken, BreaksIn, requests_of, replies_of}
 
 -- one query more
 pub AnswersAll-push : {S : Type 0} (does : EventLaw S) (shows : ReadLaw S) (s m t : S) (p r q : PassView) (queries : List Query) (responses : List Response) (query : Query) (response : Response)
@@ -79,19 +74,6 @@ answers_hold does shows s t p q frame responses fits all limited =
     (omega (arith, same, some), omega (arith, same, few), limited)
 
 -- ---- what one query is answered keeps the limits
-end_limited : (answer : Answer) → AnswerIsLimited answer → EndIsLimited (end_of answer)
-end_limited Absent limited = tt
-end_limited (Found row) limited = limited
-end_limited (Stored number) limited = tt
-end_limited (Removed number) limited = tt
-end_limited (Rows pairs) limited = limited
-end_limited (Tidied rule) limited = tt
-end_limited (Built view) limited = tt
-
-pub call_limited : (result : Result Reply Refusal) → IfOk result (λ reply. AnswerIsLimited reply.answer) → ResponseIsLimited (call_response result)
-call_limited (Ok reply) limited = end_limited reply.answer limited
-call_limited (Err refusal) limited = tt
-
 pub page_limited : (result : Result Page Refusal) → IfOk result PageIsLimited → ResponseIsLimited (page_response result)
 page_limited (Ok page) limited = limited
 page_limited (Err refusal) limited = tt
@@ -191,31 +173,6 @@ serving_more does shows s m t p r q input old now new next out before after fram
   frame_count = (let long = length-append h.frames (frame ∷ []) in let so_far = h.frame_count in omega (arith, long, so_far, one));
   query_count = more ∙ ap (λ n. n + length frame.messages) h.query_count ∙ sym (sum-push h.frames frame);
   few = (let most = fits.0.1 in let so_far = h.few in omega (arith, most, so_far, one, more));
-}
-
--- the input ended between frames
-pub served_all : {S : Type 0} (does : EventLaw S) (shows : ReadLaw S) (s t : S) (p q : PassView) (input old now new : Option (List ℕ)) (summary : Summary)
-    → Serving does shows s p input old summary now new t q → IfSome now (λ bytes. bytes ≡ []) → IsServed does shows s p input old summary new t q
-served_all does shows s t p q input old now new summary h none = record {
-  frames = h.frames;
-  rest = now;
-  served = h.served;
-  whole = none;
-  frame_count = h.frame_count;
-  query_count = h.query_count;
-}
-
--- no frame stood there
-pub broken_before : {S : Type 0} (does : EventLaw S) (shows : ReadLaw S) (s t : S) (p q : PassView) (input old now unread new : Option (List ℕ)) (summary : Summary) (fault : SessionFault)
-    → Serving does shows s p input old summary now new t q → fault ≢ Write → IfSome now (FaultIsAt fault unread) → IsBroken does shows s p input old fault unread new t q
-broken_before does shows s t p q input old now unread new summary fault h other stands = record {
-  frames = h.frames;
-  rest = now;
-  between = new;
-  shared = t;
-  pass = q;
-  served = h.served;
-  breaks = inl (other, stands, refl, refl, refl);
 }
 
 front_of : (frame : Frame Query) (now next : Option (List ℕ)) → LosesFrame frame now next → IfSome now (λ bytes. (more : List ℕ) × (bytes ≡ request_frame frame ++ more))

@@ -20,12 +20,12 @@ use Rattle.mt_write.specs.declared.writing.Halves.{Halves}
 use Rattle.mt_write.specs.declared.writing.Ending.{Ending}
 use Rattle.mt_write.specs.declared.writing.Ending.TheVariants.{Stored as EndStored, Failed as EndFailed}
 use Rattle.mt_write.specs.declared.writing.Stage.{Stage}
-use Rattle.mt_write.specs.declared.writing.Stage.TheVariants.{Seeks, Locked, Spared, HalfFilled, Halved, Posts, LayerSpared, LayerFilled, LayerReady, Layered, Filled, Made, Taken, Stored, Failed}
+use Rattle.mt_write.specs.declared.writing.Stage.TheVariants.{Seeks, Locked, HalfFilled, Halved, Posts, Layered, Filled, Made, Taken, Stored, Failed}
 use Rattle.mt_write.specs.Writing.{ending_stage}
 use Rattle.mt_write.specs.Causes.{edit_fault, fill_fault, FailsBy, StageFails}
 use Rattle.mt_write.specs.Follows.{StageFollows, StageRests}
 use Rattle.mt_works.specs.declared.work.Work.{Work}
-use Rattle.mt_works.specs.declared.work.Work.TheVariants.{Get, Write, Range, Tidy, Build}
+use Rattle.mt_works.specs.declared.work.Work.TheVariants.{Get, Write}
 use Rattle.mt_works.specs.Works.{request_of, IsAtStart, IsBuiltWork}
 use Rattle.mt_works.specs.Follows.{WorkFollows}
 use Rattle.mt_works.specs.Causes.{WorkFails, WorkRefuses}
@@ -82,16 +82,12 @@ module _ (P : Refusal → Type 0) where
         failed_by (edit_fault a log edit b (found_for (rest_of key way) b.live)) refusal None halves by e.memory (λ x is. e.locked refl b at x is)
     moved Locked (Posts posting ending) e ready fails says = absurd ready.0
     moved Locked _ e ready fails says = tt
-    moved (Spared half cut entries) new e stays fails says = subst StageSays (sym stays.0) tt
     moved (HalfFilled half cut) new e on fails says = subst StageSays (sym on.0) tt
     moved (Halved split) (Failed refusal halves) e ready fails says =
         let (b, at, by) = some_and (border_at a.nodes way.node.0) (λ b. FailsBy (fill_fault log b) (Some split) (Failed refusal halves)) fails.1 in
         failed_by (fill_fault log b) refusal (Some split) halves by e.memory (λ x is. e.halved split refl b x at is)
     moved (Halved split) (Posts posting ending) e ready fails says = absurd ready.0
     moved (Halved split) _ e ready fails says = tt
-    moved (LayerSpared layer entries) new e stays fails says = subst StageSays (sym stays.0) tt
-    moved (LayerFilled layer) new e stays fails says = subst StageSays (sym stays.0) tt
-    moved (LayerReady layer) new e stays fails says = subst StageSays (sym stays.0) tt
     moved (Layered head) new e on fails says = subst StageSays (sym on.0) tt
     moved (Posts posting ending) (Posts then other) e on fails says = subst EndSays (sym on.0.0) says
     moved (Posts posting ending) (Failed refusal halves) e on fails says = end_is refusal halves ending on.0 says
@@ -103,6 +99,7 @@ module _ (P : Refusal → Type 0) where
     moved (Filled place stored logged split) new e never fails says = absurd never
     moved (Made place stored columns logged) new e never fails says = absurd never
     moved (Taken place stored before) new e never fails says = absurd never
+    moved _ new e stays fails says = subst StageSays (sym stays.0) tt
 
     rests : (stage new : Stage) → StageRests a way stage next new → StageSays stage → StageSays new
     rests Seeks new on says = subst StageSays (sym on.0) tt
@@ -116,50 +113,27 @@ module _ (P : Refusal → Type 0) where
   work_moved a log (Write write) (Write new) e follows fails says =
       let x = e write refl in
       moved a log write.key write.edit write.way new.way write.stage new.stage (record { memory = x.memory; locked = x.locked; halved = x.halved }) follows fails says
-  work_moved a log (Get get) (Write new) e follows fails says = absurd follows
-  work_moved a log (Range range) (Write new) e follows fails says = absurd follows
-  work_moved a log (Tidy tidy) (Write new) e follows fails says = absurd follows
-  work_moved a log (Build building) (Write new) e follows fails says = absurd follows
-  work_moved a log work (Get new) e follows fails says = tt
-  work_moved a log work (Range new) e follows fails says = tt
-  work_moved a log work (Tidy new) e follows fails says = tt
-  work_moved a log work (Build new) e follows fails says = tt
+  work_moved a log _ (Write new) e follows fails says = absurd follows
+  work_moved a log work _ e follows fails says = tt
 
   pub work_rests : (a : ArenaView) (log : LogView) (work new : Work) → WorkFollows a log work Waits new → WorkSays work → WorkSays new
   work_rests a log (Write write) (Write new) follows says = rests a log write.key write.edit write.way new.way write.stage new.stage follows says
-  work_rests a log (Get get) (Write new) follows says = absurd follows
-  work_rests a log (Range range) (Write new) follows says = absurd follows
-  work_rests a log (Tidy tidy) (Write new) follows says = absurd follows
-  work_rests a log (Build building) (Write new) follows says = absurd follows
-  work_rests a log work (Get new) follows says = tt
-  work_rests a log work (Range new) follows says = tt
-  work_rests a log work (Tidy new) follows says = tt
-  work_rests a log work (Build new) follows says = tt
+  work_rests a log _ (Write new) follows says = absurd follows
+  work_rests a log work _ follows says = tt
 
   pub work_commits : (a : ArenaView) (log : LogView) (work new : Work) (number : ℕ) → WorkFollows a log work (Committed number) new → WorkSays new
   work_commits a log (Write write) (Write new) number follows = subst StageSays (sym follows.1.0) tt
-  work_commits a log (Get get) (Write new) number follows = absurd follows
-  work_commits a log (Range range) (Write new) number follows = absurd follows
-  work_commits a log (Tidy tidy) (Write new) number follows = absurd follows
-  work_commits a log (Build building) (Write new) number follows = absurd follows
-  work_commits a log work (Get new) number follows = tt
-  work_commits a log work (Range new) number follows = tt
-  work_commits a log work (Tidy new) number follows = tt
-  work_commits a log work (Build new) number follows = tt
+  work_commits a log _ (Write new) number follows = absurd follows
+  work_commits a log work _ number follows = tt
 
   -- one that has just begun has not failed
   pub work_begins : (work : Work) → IsAtStart work → WorkSays work
   work_begins (Write write) start = subst StageSays (sym start.1) tt
-  work_begins (Get get) start = tt
-  work_begins (Range range) start = tt
-  work_begins (Tidy tidy) start = tt
-  work_begins (Build building) start = tt
+  work_begins _ start = tt
 
   -- a put or remove is refused for what is said of its failure
   pub work_refused : (a : ArenaView) (work : Work) (refusal : Refusal) → IsWriting (request_of work) → (WorkRefuses a work refusal ⊎ IsBuiltWork work) → WorkSays work → P refusal
   work_refused a (Write write) refusal writing (inl is) says = subst StageSays is says
   work_refused a (Write write) refusal writing (inr never) says = absurd never
   work_refused a (Get get) refusal writing refuses says = absurd writing
-  work_refused a (Range range) refusal writing refuses says = absurd writing
-  work_refused a (Tidy tidy) refusal writing refuses says = absurd writing
-  work_refused a (Build building) refusal writing refuses says = absurd writing
+  work_refused a _ refusal writing refuses says = absurd writing

@@ -76,25 +76,6 @@ fn answer_each<S: Shared>(
     Ok(responses)
 }
 
-// Does what `answer_each` does. No lock stays held.
-fn answer_all<S: Shared>(
-    alloc: Global,
-    shared: &mut S,
-    pass: &mut Pass,
-    queries: Vec<Query>,
-) -> Result<Vec<Response>, AllocError>
-    ensures all { IfOk result (λ responses. AnswersAll S.does S.shows shared.old pass.old queries.items responses.items shared.new
-        pass.new) }
-    ensures limited { IfOk result (λ responses. AllByRecursion ResponseIsLimited responses.items) }
-    ensures part { OnErr result ((done : List Query) × (undone : List Query) × (responses : List Response)
-        × (queries.items ≡ done ++ undone)
-        × AnswersAll S.does S.shows shared.old pass.old done responses shared.new pass.new) }
-{
-    let answered = answer_each(alloc, shared, pass, queries);
-    shared.hold(Hold::Nothing);
-    answered
-}
-
 // Replaces what `out` has by the frame of these answers. Answers that keep the limits of an index are never too long
 // for a frame.
 fn encode(
@@ -132,7 +113,9 @@ fn answer_frame<W: Write, S: Shared>(
     ensures write { IfErr result (λ fault. fault ≡ WriteFault → write_failed writer.new ≡ true) }
 {
     let Frame { version, messages } = frame;
-    let Ok(responses) = answer_all(alloc, shared, pass, messages.into_vec()) else {
+    let answered = answer_each(alloc, shared, pass, messages.into_vec());
+    shared.hold(Hold::Nothing);
+    let Ok(responses) = answered else {
         return Err(SessionFault::NoMemory);
     };
     if let Err(fault) = encode(out, version, &responses) {
