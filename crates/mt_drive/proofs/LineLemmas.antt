@@ -69,13 +69,6 @@ pub record IsTaking (old : Option (List ℕ)) (line : List ℕ) (kept : List ℕ
   pub feedless : HasNoFeed line
   pub goes : IfSome old (λ xs. (left : List ℕ) × (unread ≡ Some left) × (xs ≡ line ++ (kept ++ left)))
 
-pub taking_none : (kept : List ℕ) (unread : Option (List ℕ)) → IsTaking (prepend_known kept unread) [] kept unread
-taking_none kept unread = record { feedless = All-nil (λ (z : ℕ). z ≢ 10); goes = start unread }
-  where
-    start : (u : Option (List ℕ)) → IfSome (prepend_known kept u) (λ xs. (left : List ℕ) × (u ≡ Some left) × (xs ≡ [] ++ (kept ++ left)))
-    start None = tt
-    start (Some left) = (left, refl, refl)
-
 -- all that was kept is taken
 pub taking_kept : (old unread : Option (List ℕ)) (line kept front more rest : List ℕ) → IsTaking old line kept unread → HasNoFeed front → kept ≡ front → rest ≡ [] → more ≡ line ++ front → IsTaking old more rest unread
 taking_kept old unread line kept front more rest taking none all empty is = record {

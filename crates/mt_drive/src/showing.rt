@@ -1,6 +1,6 @@
 //! Outcomes and deltas as text.
 
-ghost use Rattle.std.specs.Prelude.{◌≡◌, ◌++◌, OnOk, IfOk, string_bytes};
+ghost use Rattle.std.specs.Prelude.{◌≡◌, ◌++◌, OnOk, string_bytes};
 ghost use Rattle.mt_drive.specs.Showing.{comma_before, bytes_text, values_text, row_text, rows_text, sums_text, answer_text, refusal_text, rule_text, outcome_text, row_or_none, delta_text};
 ghost use Rattle.mt_types.specs.declared.event.Outcome.TheVariants.{View, Done};
 
@@ -185,7 +185,8 @@ fn push_row_or_none(alloc: Global, out: &mut String, row: &Option<Row>) -> Resul
     }
 }
 
-// Writes the text of a delta at the end, without a line feed.
+// Writes the text of a delta at the end, without a line feed: `delta N KEY BEFORE AFTER`, with a row as VERSION:VALUES,
+// or `none`.
 pub(crate) fn push_delta(alloc: Global, out: &mut String, delta: &Delta) -> Result<(), AllocError>
     ensures { OnOk result (string_bytes out.new ≡ string_bytes out.old ++ delta_text delta.now) }
 {
@@ -196,14 +197,4 @@ pub(crate) fn push_delta(alloc: Global, out: &mut String, delta: &Delta) -> Resu
     push_row_or_none(alloc, out, &delta.before)?;
     out.push_str(" ")?;
     push_row_or_none(alloc, out, &delta.after)
-}
-
-/// Returns the line of a delta, without a line feed: `delta N KEY BEFORE AFTER`, with a row as VERSION:VALUES, or
-/// `none`. O(n) in the text.
-pub fn delta_line(alloc: Global, delta: &Delta) -> Result<String, AllocError>
-    ensures { IfOk result (λ text. string_bytes text ≡ delta_text delta.now) }
-{
-    let mut text = String::new(alloc);
-    push_delta(alloc, &mut text, delta)?;
-    Ok(text)
 }
