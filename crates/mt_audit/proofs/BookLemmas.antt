@@ -44,10 +44,8 @@ in_order [] (r ∷ rs) = receipts_kept rs
 in_order (d ∷ ds) rs = in_order ds rs
 
 none_kept : (xs : List (Option Line)) → AreKept (xs ++ None ∷ []) → ⊥
-none_kept [] p = p
-none_kept (None ∷ xs) p = p
-none_kept (Some (Logged d) ∷ xs) p = p
 none_kept (Some (Kept r) ∷ xs) p = none_kept xs p
+none_kept _ p = p
 
 none_in_order : (xs : List (Option Line)) → InOrder (xs ++ None ∷ []) → ⊥
 none_in_order [] p = p
