@@ -8,7 +8,7 @@ use Rattle.std.proofs.lemmas.List.Elements.{All-take, All-drop, All-append, All-
 use Rattle.std.proofs.lemmas.List.Quantifiers.{all_pairs_remove}
 use Rattle.mt_types.specs.declared.row.Row.{Row}
 use Rattle.mt_types.specs.declared.numbers.NodeNo.{NodeNo}
-use Rattle.mt_word.specs.Version.{VersionView, IsVersion}
+use Rattle.mt_word.specs.Version.{VersionView, IsVersion, IsUnspent}
 use Rattle.mt_border.specs.Entry.{entry_rank, IsEntry, IsContent, with_row, with_link, content_with_row, content_class, entry_suffix}
 use Rattle.mt_border.specs.Table.{first_changed, changed_at, left_slot, left_slots, number_at, slot_changed, with_entry, filled}
 use Rattle.mt_border.specs.Border.{BorderView, entries_of, first_held, first_suffix, filled_version, with_filled, with_hidden, with_value, with_link_at, with_split}
@@ -122,7 +122,8 @@ border_changed b i f within slices whole ranks h = record {
   left_of = left_of_kept b.low b.live _ b.right (λ bound below. record { each = All-changed_at (λ e. e.slice < bound) f (λ e g. rw (slices e) g) i b.live below.each }) h.left_of;
   deleted_empty = λ deleted. absurd (nothing_deleted b.live i within (h.deleted_empty deleted));
   border = h.border;
-  unflagged = h.unflagged;
+  flags = h.flags;
+  unspent = h.unspent;
   counters = h.counters;
 }
 
@@ -159,7 +160,8 @@ border_hidden b i within h = record {
   left_of = left_of_kept b.low b.live _ b.right (λ bound below. record { each = All-remove (λ e. e.slice < bound) i b.live below.each }) h.left_of;
   deleted_empty = λ deleted. absurd (nothing_deleted b.live i within (h.deleted_empty deleted));
   border = h.border;
-  unflagged = h.unflagged;
+  flags = h.flags;
+  unspent = h.unspent;
   counters = h.counters;
 }
 
@@ -172,9 +174,18 @@ filled_border : (held : Bool) (v : VersionView) → (filled_version held v).bord
 filled_border true v = refl
 filled_border false v = refl
 
-filled_unflagged : (held : Bool) (v : VersionView) → (v.inserting ≡ false) × (v.splitting ≡ false) → ((filled_version held v).inserting ≡ false) × ((filled_version held v).splitting ≡ false)
-filled_unflagged true v none = none
-filled_unflagged false v none = none
+-- the border is locked, so it may be flagged
+filled_locked : (held : Bool) (v : VersionView) → v.locked ≡ true → (filled_version held v).locked ≡ true
+filled_locked true v locked = locked
+filled_locked false v locked = locked
+
+filled_unspent : (held : Bool) (v : VersionView) → (held ≡ true → v.vinsert < 2 ^ 56 - 1) → IsUnspent v → IsUnspent (filled_version held v)
+filled_unspent true v room h = record { inserts = λ set. room refl; splits = h.splits }
+filled_unspent false v room h = h
+
+filled_counters : (held : Bool) (v : VersionView) → IsVersion v → IsVersion (filled_version held v)
+filled_counters true v h = record { vinsert_fits = h.vinsert_fits; vsplit_fits = h.vsplit_fits }
+filled_counters false v h = h
 
 hold_filled : (entry : Entry) (slots : List Slot) → IsEntry entry → HoldEntries slots → HoldEntries (first_changed (filled entry) slots)
 hold_filled entry [] g h = h
@@ -188,8 +199,8 @@ length-first_changed : {X : Type 0} (f : X → X) (xs : List X) → length (firs
 length-first_changed f [] = refl
 length-first_changed f (x ∷ xs) = refl
 
-pub border_filled : (b : BorderView) (entry : Entry) → length b.live < 15 → IsEntry entry → IsVersion (filled_version (first_held b.unused) b.version) → IsBorder b → IsBorder (with_filled b entry)
-border_filled b entry room g counters h = record {
+pub border_filled : (b : BorderView) (entry : Entry) → length b.live < 15 → b.version.locked ≡ true → (first_held b.unused ≡ true → b.version.vinsert < 2 ^ 56 - 1) → IsEntry entry → IsBorder b → IsBorder (with_filled b entry)
+border_filled b entry room locked unspent g h = record {
   seen = seen_filled b.live b.unused b.slots b.order h.seen entry room;
   slots = rw (length-first_changed (filled entry) b.unused) h.slots;
   low_fits = h.low_fits;
@@ -200,16 +211,17 @@ border_filled b entry room g counters h = record {
   left_of = h.left_of;
   deleted_empty = λ deleted. h.deleted_empty (sym (filled_deleted (first_held b.unused) b.version) ∙ deleted);
   border = filled_border (first_held b.unused) b.version ∙ h.border;
-  unflagged = filled_unflagged (first_held b.unused) b.version h.unflagged;
-  counters = counters;
+  flags = λ set. filled_locked (first_held b.unused) b.version locked;
+  unspent = filled_unspent (first_held b.unused) b.version unspent h.unspent;
+  counters = filled_counters (first_held b.unused) b.version h.counters;
 }
 
 take_none : (k : ℕ) (xs : List Entry) → xs ≡ [] → take k xs ≡ []
 take_none zero xs e = refl
 take_none (suc k) xs e = ap (λ (t : List Entry). take (suc k) t) e
 
-pub border_split : (b : BorderView) (keep : ℕ) (right : RightLink) → keep ≤ length b.live → b.low < right.low → AreBelow right.low (take keep b.live) → b.version.vsplit < 2 ^ 64 - 1 → IsBorder b → IsBorder (with_split b keep right)
-border_split b keep right within above below unspent h = record {
+pub border_split : (b : BorderView) (keep : ℕ) (right : RightLink) → b.version.locked ≡ true → keep ≤ length b.live → b.low < right.low → AreBelow right.low (take keep b.live) → b.version.vsplit < 2 ^ 64 - 1 → IsBorder b → IsBorder (with_split b keep right)
+border_split b keep right locked within above below unspent h = record {
   seen = seen_split b.live b.unused b.slots b.order h.seen keep;
   slots = omega (arith, h.slots, length-take-le keep b.live within, length-drop keep b.live, length-append (left_slots (drop keep b.live)) b.unused, length-map (drop keep b.live) left_slot);
   low_fits = h.low_fits;
@@ -220,6 +232,7 @@ border_split b keep right within above below unspent h = record {
   left_of = (above, below);
   deleted_empty = λ deleted. take_none keep b.live (h.deleted_empty deleted);
   border = h.border;
-  unflagged = h.unflagged;
-  counters = record { vinsert_fits = h.counters.vinsert_fits; vsplit_fits = omega arith };
+  flags = λ set. locked;
+  unspent = record { inserts = h.unspent.inserts; splits = λ set. unspent };
+  counters = record { vinsert_fits = h.counters.vinsert_fits; vsplit_fits = h.counters.vsplit_fits };
 }

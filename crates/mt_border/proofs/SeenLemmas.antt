@@ -1,10 +1,10 @@
 -- What a border shows once its table has changed.
-use Rattle.std.proofs.Common.{◌≡◌, ℕ, zero, suc, ◌+◌, ◌-◌, ◌^◌, ◌<◌, ◌≤◌, List, [], ◌∷◌, ◌++◌, length, take, drop, get_or, set, refl, sym, ap, ◌∙◌, arith, subst, append_assoc, length-append, Option, Some, IsSome, Bool, slice_get}
+use Rattle.std.proofs.Common.{◌≡◌, ℕ, zero, suc, ◌+◌, ◌-◌, ◌^◌, ◌<◌, ◌≤◌, List, [], ◌∷◌, ◌++◌, length, take, drop, get_or, set, refl, sym, ap, ◌∙◌, arith, subst, append_assoc, length-append, Option, Some, IsSome, Bool, true, slice_get}
 use Rattle.std.proofs.lemmas.List.{take_all, drop_all, drop-drop, length-map, get_or-set_same, set-set, length-set, take_more, drop_more, length-take, length-drop}
 use Rattle.mt_types.specs.declared.row.Row.{Row}
 use Rattle.mt_types.specs.declared.numbers.NodeNo.{NodeNo}
 use Rattle.mt_word.specs.Slots.{Slots, with_first_unused_at, without_place, with_first}
-use Rattle.mt_word.specs.Version.{VersionView, IsVersion}
+use Rattle.mt_word.specs.Version.{VersionView}
 use Rattle.mt_border.specs.Entry.{IsEntry, at_version, with_row, with_link}
 use Rattle.mt_border.specs.Table.{TableView, IsSlotTable, blank_slot, live_slots, number_at, next_number, slot_changed, left_slot, with_entry, filled, marked, with_all_filled, with_more_live, row_of_first}
 use Rattle.mt_border.specs.Border.{BorderView, border_view, entries_of, first_held, first_row, first_suffix, filled_version, with_filled, with_shown, with_hidden, with_value, with_link_at, with_entries, with_split}
@@ -121,13 +121,13 @@ module _ (layer low : ℕ) (right : Option RightLink) (version : VersionView) (t
       let seen = view_of_seen (with_link_at b i head) whole.seen in
       (seen, subst IsBorder (sym seen) whole)
 
-  pub sound_filled : (entry : Entry) (slot : Slot) (raised : VersionView) → length b.live < 15 → slice_get b.unused 0 ≡ Some slot → raised ≡ filled_version slot.held_key version → IsVersion raised → IsEntry entry → IsBorder b →
-      let new : BorderView = border_view layer low right raised (record t { slots = slot_changed (next_number t.order) (filled entry) t.slots }) in
+  pub sound_filled : (entry : Entry) (slot : Slot) (flagged : VersionView) → length b.live < 15 → version.locked ≡ true → slice_get b.unused 0 ≡ Some slot → flagged ≡ filled_version slot.held_key version → (slot.held_key ≡ true → version.vinsert < 2 ^ 56 - 1) → IsEntry entry → IsBorder b →
+      let new : BorderView = border_view layer low right flagged (record t { slots = slot_changed (next_number t.order) (filled entry) t.slots }) in
       (new ≡ with_filled b entry) × IsBorder new
-  sound_filled entry slot raised room first e counters whole h =
-      let same : filled_version (first_held b.unused) version ≡ raised = ap (λ (held : Bool). filled_version held version) (first_held_is b.unused slot first) ∙ sym e in
-      let fits : IsVersion (filled_version (first_held b.unused) version) = subst IsVersion (sym same) counters in
-      let made = border_filled b entry room whole fits h in
+  sound_filled entry slot flagged room locked first e unspent whole h =
+      let held : first_held b.unused ≡ slot.held_key = first_held_is b.unused slot first in
+      let same : filled_version (first_held b.unused) version ≡ flagged = ap (λ (held : Bool). filled_version held version) held ∙ sym e in
+      let made = border_filled b entry room locked (λ was. unspent (sym held ∙ was)) whole h in
       let seen = ap (λ (v : VersionView). border_view layer low right v (record t { slots = slot_changed (next_number t.order) (filled entry) t.slots })) (sym same) ∙ view_of_seen (with_filled b entry) made.seen in
       (seen, subst IsBorder (sym seen) made)
 
@@ -142,11 +142,11 @@ module _ (layer low : ℕ) (right : Option RightLink) (version : VersionView) (t
       let seen = ap (λ (slots : List Slot). border_view layer low right version (record { slots = slots; order = with_first_unused_at t.order i })) twice ∙ view_of_seen (with_shown b i number) h.seen in
       (seen, subst IsBorder (sym seen) h)
 
-  pub sound_split : (keep : ℕ) (link : RightLink) → keep ≤ length b.live → low < link.low → AreBelow link.low (take keep b.live) → version.vsplit < 2 ^ 64 - 1 → IsBorder b →
-      let new : BorderView = border_view layer low (Some link) (record version { vsplit = version.vsplit + 1 }) (record t { order = with_first t.order keep }) in
+  pub sound_split : (keep : ℕ) (link : RightLink) → version.locked ≡ true → keep ≤ length b.live → low < link.low → AreBelow link.low (take keep b.live) → version.vsplit < 2 ^ 64 - 1 → IsBorder b →
+      let new : BorderView = border_view layer low (Some link) (record version { splitting = true }) (record t { order = with_first t.order keep }) in
       (new ≡ with_split b keep link) × IsBorder new
-  sound_split keep link within above below unspent h =
-      let whole = border_split b keep link within above below unspent h in
+  sound_split keep link locked within above below unspent h =
+      let whole = border_split b keep link locked within above below unspent h in
       let seen = view_of_seen (with_split b keep link) whole.seen in
       (seen, subst IsBorder (sym seen) whole)
 

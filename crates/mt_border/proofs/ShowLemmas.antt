@@ -174,7 +174,8 @@ border_shown b slot rest i version e here between low right h =
       left_of = left_inserted b.low i b.live x b.right right h.left_of;
       deleted_empty = λ deleted. (let clash : true ≡ false = sym deleted ∙ here in cc);
       border = h.border;
-      unflagged = h.unflagged;
+      flags = h.flags;
+      unspent = h.unspent;
       counters = h.counters;
     })
 

@@ -94,6 +94,7 @@ cut_upper b i first locked h full cut there =
       left_of = left_of_drop b.low b.live i first b.right inside there h.left_of;
       deleted_empty = λ deleted. cc;
       border = refl;
-      unflagged = (refl, refl);
+      flags = λ set. cc;
+      unspent = record { inserts = λ set. cc; splits = λ set. cc };
       counters = record { vinsert_fits = omega arith; vsplit_fits = omega arith };
     }

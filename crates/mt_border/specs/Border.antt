@@ -1,10 +1,10 @@
 -- What a contract sees of a `Border`, and what each call makes of it.
-use Rattle.std.specs.Prelude.{ℕ, ◌+◌, ◌==◌, nat_le, Bool, true, false, ◌&&◌, if◌then◌else◌, List, [], ◌∷◌, ◌++◌, length, map, take, drop, replicate}
+use Rattle.std.specs.Prelude.{ℕ, ◌==◌, nat_le, Bool, true, false, ◌&&◌, if◌then◌else◌, List, [], ◌∷◌, ◌++◌, length, map, take, drop, replicate}
 use Rattle.std.specs.Prelude.{Option, Some, None}
 use Rattle.std.specs.List.{remove}
 use Rattle.mt_types.specs.declared.row.Row.{Row}
 use Rattle.mt_types.specs.declared.numbers.NodeNo.{NodeNo}
-use Rattle.mt_word.specs.Version.{VersionView}
+use Rattle.mt_word.specs.Version.{VersionView, unlocked}
 use Rattle.mt_word.specs.Slots.{Slots, with_first_unused_at, without_place, with_first}
 use Rattle.mt_word.specs.declared.permutation_word.TheConstants.{SLOTS}
 use Rattle.mt_word.specs.declared.version_word.TheConstants.{MAX_INSERTS}
@@ -95,13 +95,13 @@ first_suffix (entry ∷ entries) = entry_suffix entry
 abbrev pub suffix_at : ℕ → List Entry → Option (List ℕ)
 suffix_at place live = first_suffix (drop place live)
 
--- a filling would raise a counter that is at its greatest value
+-- a filling would set the flag of a counter that is at its greatest value
 abbrev pub fill_is_spent : BorderView → Bool
 fill_is_spent b = first_held b.unused && (b.version.vinsert == MAX_INSERTS)
 
 -- the version, after a slot was filled that held a key before, or did not
 abbrev pub filled_version : Bool → VersionView → VersionView
-filled_version true v = record v { vinsert = v.vinsert + 1 }
+filled_version true v = record v { inserting = true }
 filled_version false v = v
 
 -- the border once the first unused slot holds this entry
@@ -160,14 +160,18 @@ with_split b keep right = record b {
   unused = left_slots (drop keep b.live) ++ b.unused;
   order = with_first b.order keep;
   right = Some right;
-  version = record b.version { vsplit = b.version.vsplit + 1 };
+  version = record b.version { splitting = true };
 }
 
 abbrev pub with_right : BorderView → Option RightLink → BorderView
 with_right b right = record b { right = right }
 
-abbrev pub with_lock : BorderView → Bool → BorderView
-with_lock b locked = record b { version = record b.version { locked = locked } }
+abbrev pub with_locked : BorderView → BorderView
+with_locked b = record b { version = record b.version { locked = true } }
+
+-- the border, unlocked: its flags are cleared, and the counter of each that was set is raised
+abbrev pub with_unlocked : BorderView → BorderView
+with_unlocked b = record b { version = unlocked b.version }
 
 abbrev pub with_deleted : BorderView → BorderView
 with_deleted b = record b { version = record b.version { deleted = true } }

@@ -1,8 +1,8 @@
 -- The invariant of a border.
-use Rattle.std.specs.Prelude.{◌≡◌, ℕ, ◌+◌, ◌^◌, ◌<◌, ◌≤◌, List, [], ◌∷◌, length, true, false, Option, Some, None}
+use Rattle.std.specs.Prelude.{◌≡◌, ℕ, ◌+◌, ◌^◌, ◌<◌, ◌≤◌, List, [], ◌∷◌, length, true, Option, Some, None}
 use Rattle.std.specs.List.{All, AllPairs}
 use Rattle.mt_word.specs.Slots.{Slots}
-use Rattle.mt_word.specs.Version.{IsVersion}
+use Rattle.mt_word.specs.Version.{IsVersion, IsUnspent, is_flagged}
 use Rattle.mt_word.specs.declared.permutation_word.TheConstants.{SLOTS}
 use Rattle.mt_border.specs.Entry.{entry_rank, IsEntry}
 use Rattle.mt_border.specs.Border.{BorderView, entries_of}
@@ -58,5 +58,6 @@ pub record IsBorder (b : BorderView) : Type 0 where
   pub left_of : IsLeftOf b.low b.live b.right
   pub deleted_empty : b.version.deleted ≡ true → b.live ≡ []
   pub border : b.version.border ≡ true
-  pub unflagged : (b.version.inserting ≡ false) × (b.version.splitting ≡ false)
+  pub flags : is_flagged b.version ≡ true → b.version.locked ≡ true
+  pub unspent : IsUnspent b.version
   pub counters : IsVersion b.version

@@ -1,13 +1,13 @@
 //! A border node: fifteen slots, their order, its low and its right link, and its changes.
 
-ghost use Rattle.std.specs.Prelude.{◌≡◌, ◌+◌, ◌<◌, ◌≤◌, ◌↔◌, length, take, drop, slice_get, Some, IsSome, IsErr, IsTrue, OnOk, OnErr, IfOk, IfErr, true, false, []};
+ghost use Rattle.std.specs.Prelude.{◌≡◌, ◌+◌, ◌<◌, ◌≤◌, ◌↔◌, length, take, drop, slice_get, Some, IsSome, IsOk, IsErr, IsTrue, OnOk, OnErr, IfOk, IfErr, true, false, []};
 ghost use Rattle.std.specs.List.{list_any};
 ghost use Rattle.std.specs.Bool.{IsFalse};
 ghost use Rattle.mt_word.specs.declared.permutation_word.TheConstants.{SLOTS};
 ghost use Rattle.mt_word.specs.declared.version_word.TheConstants.{MAX_INSERTS, MAX_SPLITS};
 ghost use Rattle.mt_word.specs.Version.{IsVersion};
 ghost use Rattle.mt_border.specs.Entry.{IsEntry};
-ghost use Rattle.mt_border.specs.Border.{new_border, with_filled, with_shown, with_hidden, with_value, with_link_at, with_entries, with_split, with_right, with_lock, with_deleted, right_for, row_at, suffix_at, fill_is_spent, filled_version, next_row};
+ghost use Rattle.mt_border.specs.Border.{new_border, with_filled, with_shown, with_hidden, with_value, with_link_at, with_entries, with_split, with_right, with_locked, with_unlocked, with_deleted, right_for, row_at, suffix_at, fill_is_spent, filled_version, next_row};
 ghost use Rattle.mt_border.specs.Parts.{IsKeyOf, IsValueOf};
 ghost use Rattle.mt_border.specs.Slots.{slot_at};
 ghost use Rattle.mt_border.specs.Order.{IsBorder, IsLeftOf, AreBelow};
@@ -50,27 +50,26 @@ impl Model for Border {
 
 // The version after a slot was filled, which held a key before or did not.
 fn version_filled(version: Version, held_key: bool) -> Result<Version, Refusal>
-    ensures ok { IfOk result (λ raised. raised ≡ filled_version held_key version) }
-    ensures whole { IfOk result IsVersion }
+    ensures ok { IfOk result (λ flagged. flagged ≡ filled_version held_key version) }
+    ensures unspent { IsOk result → held_key ≡ true → version.vinsert < MAX_INSERTS }
     ensures spent { IsErr result ↔ ((held_key ≡ true) × (version.vinsert ≡ MAX_INSERTS)) }
     ensures only { IfErr result (λ refusal. refusal ≡ Refusal.Spent) }
 {
-    let mut raised = version;
-    if held_key && raised.bump_insert().is_err() {
+    let mut flagged = version;
+    if held_key && flagged.set_inserting().is_err() {
         return Err(Refusal::Spent);
     }
-    let _counters = raised.vinsert();
-    Ok(raised)
+    Ok(flagged)
 }
 
-// The version after a split.
+// The version while the border is split.
 fn version_split(version: Version) -> Version
     requires { version.vsplit < MAX_SPLITS }
-    ensures { result ≡ record version { vsplit = version.vsplit + 1 } }
+    ensures { result ≡ record version { splitting = true } }
 {
-    let mut raised = version;
-    match raised.bump_split() {
-        Ok(()) => raised,
+    let mut flagged = version;
+    match flagged.set_splitting() {
+        Ok(()) => flagged,
         Err(_) => unreachable!(),
     }
 }
@@ -222,19 +221,20 @@ impl Border {
     /// Locks the border. Constant cost.
     pub fn lock(&mut self)
         requires { self.old.version.locked ≡ false }
-        ensures value { self.new ≡ with_lock self.old true }
+        ensures value { self.new ≡ with_locked self.old }
         ensures sound { IsBorder self.new }
     {
         self.version.lock();
     }
 
-    /// Unlocks the border. Constant cost.
+    /// Unlocks the border. If keys were being inserted into it or it was being split, the counter of that is raised, and
+    /// its flag cleared. Constant cost.
     pub fn unlock(&mut self)
         requires { self.old.version.locked ≡ true }
-        ensures value { self.new ≡ with_lock self.old false }
+        ensures value { self.new ≡ with_unlocked self.old }
         ensures sound { IsBorder self.new }
     {
-        self.version.unlock();
+        self.version.unlock_changed();
     }
 
     /// Marks the border, which has no live entry, as deleted. Constant cost.
@@ -246,14 +246,17 @@ impl Border {
         self.version.mark_deleted();
     }
 
-    /// Writes an entry into the first unused slot, in which it isn't visible. If that slot held a key, the counter of
-    /// insertions rises by one. The slot then holds no key that was live. Constant cost.
+    /// Writes an entry into the first unused slot, in which it isn't visible. If that slot held a key, the border is
+    /// marked as one into which keys are being inserted, until it is unlocked. The slot then holds no key that was live.
+    /// Constant cost.
     ///
     /// # Errors
     ///
-    /// `Spent` if that counter would rise and is at its greatest value, 2^56 - 1. Nothing is changed then.
+    /// `Spent` if the slot held a key, and the counter of insertions is at its greatest value, 2^56 - 1. Nothing is
+    /// changed then.
     pub fn fill_slot(&mut self, entry: Entry) -> Result<(), Refusal>
-        requires { length self.old.live < SLOTS }
+        requires room { length self.old.live < SLOTS }
+        requires locked { self.old.version.locked ≡ true }
         ensures filled { OnOk result (self.new ≡ with_filled self.old entry) }
         ensures unchanged { OnErr result (self.new ≡ self.old) }
         ensures spent { IsErr result ↔ IsTrue (fill_is_spent self.old) }
@@ -344,9 +347,10 @@ impl Border {
         self.right = right;
     }
 
-    /// Keeps the first `keep` entries live, names the border to the right, which has the others, and raises the counter
-    /// of splits by one (Masstree, EuroSys 2012, section 4.6.4). Constant cost.
+    /// Keeps the first `keep` entries live, and names the border to the right, which has the others. The border is
+    /// marked as one that is being split, until it is unlocked (Masstree, EuroSys 2012, section 4.6.4). Constant cost.
     pub fn link_right(&mut self, keep: usize, right: RightLink)
+        requires locked { self.old.version.locked ≡ true }
         requires within { keep ≤ length self.old.live }
         requires above_low { self.old.low < right.low }
         requires above_kept { AreBelow right.low (take keep self.old.live) }

@@ -6,7 +6,7 @@ use Rattle.std.proofs.Math.Bool.{not}
 use Rattle.std.proofs.lemmas.Bool.Decides.{eqb_tells}
 use Rattle.std.proofs.lemmas.Nat.{or_disjoint, pow_pos}
 use Rattle.std.proofs.lemmas.Nat.Bits.{and_pow, same_from_bits, bit_at-pow_same, bit_at-pow_other, bit_at_or, bit_at-lt}
-use Rattle.mt_word.specs.Version.{VersionView, IsVersion, number_of, word_of_version, flag_at, version_of_word, IsVersionWord}
+use Rattle.mt_word.specs.Version.{VersionView, IsVersion, IsUnspent, number_of, inserted, split, word_of_version, flag_at, version_of_word, IsVersionWord}
 use Rattle.mt_word.specs.VersionRound.{word_of_version-version_of_word}
 
 -- this number is the word of this version
@@ -76,10 +76,6 @@ eqb_apart a b d = elim (eqb_tells a b) [ inl p ↦ absurd (d p.1) | inr p ↦ p.
 positive : (k : ℕ) → 2 ^ k ≢ 0
 positive k e = omega (arith, pow_pos k, e)
 
-bool_cases : (b : Bool) → (b ≡ true) ⊎ (b ≡ false)
-bool_cases true = inl refl
-bool_cases false = inr refl
-
 -- to set a bit that is clear adds it
 set_clear_bit : (w k : ℕ) → bit_at w k ≡ 0 → bit_or w (2 ^ k) ≡ w + 2 ^ k
 set_clear_bit w k h = or_disjoint w (2 ^ k) (and_pow w k ∙ rw h (omega arith))
@@ -113,20 +109,50 @@ locked_word w v free h =
       whole = record { vinsert_fits = h.whole.vinsert_fits; vsplit_fits = h.whole.vsplit_fits };
     }
 
+-- to set a bit, of which this is the flag, adds it if it is clear
+set_bit : (w k : ℕ) (flag : Bool) → bit_at w k ≡ number_of flag → ((number_of flag ≡ 1) × (bit_or w (2 ^ k) ≡ w)) ⊎ ((number_of flag ≡ 0) × (bit_or w (2 ^ k) ≡ w + 2 ^ k))
+set_bit w k true h = inl (refl, set_set_bit w k h)
+set_bit w k false h = inr (refl, set_clear_bit w k h)
+
+pub inserting_word : (w : ℕ) (v : VersionView) → IsWordOfVersion w v → IsWordOfVersion (bit_or w 2) (record v { inserting = true })
+inserting_word w v h = record {
+  is = elim (set_bit w 1 v.inserting (bit_inserting w v h)) [
+    | inl p ↦ p.1 ∙ omega (arith, h.is, p.0)
+    | inr p ↦ p.1 ∙ omega (arith, h.is, p.0)
+  ];
+  whole = record { vinsert_fits = h.whole.vinsert_fits; vsplit_fits = h.whole.vsplit_fits };
+}
+
+pub splitting_word : (w : ℕ) (v : VersionView) → IsWordOfVersion w v → IsWordOfVersion (bit_or w 4) (record v { splitting = true })
+splitting_word w v h = record {
+  is = elim (set_bit w 2 v.splitting (bit_splitting w v h)) [
+    | inl p ↦ p.1 ∙ omega (arith, h.is, p.0)
+    | inr p ↦ p.1 ∙ omega (arith, h.is, p.0)
+  ];
+  whole = record { vinsert_fits = h.whole.vinsert_fits; vsplit_fits = h.whole.vsplit_fits };
+}
+
 pub deleted_word : (w : ℕ) (v : VersionView) → IsWordOfVersion w v → IsWordOfVersion (bit_or w 8) (record v { deleted = true })
-deleted_word w v h =
-    elim (bool_cases v.deleted) [
-      | inl set ↦ (let one : number_of v.deleted ≡ 1 = ap number_of set in
-          record {
-            is = set_set_bit w 3 (bit_deleted w v h ∙ one) ∙ omega (arith, h.is, one);
-            whole = record { vinsert_fits = h.whole.vinsert_fits; vsplit_fits = h.whole.vsplit_fits };
-          })
-      | inr clear ↦ (let none : number_of v.deleted ≡ 0 = ap number_of clear in
-          record {
-            is = set_clear_bit w 3 (bit_deleted w v h ∙ none) ∙ omega (arith, h.is, none);
-            whole = record { vinsert_fits = h.whole.vinsert_fits; vsplit_fits = h.whole.vsplit_fits };
-          })
-    ]
+deleted_word w v h = record {
+  is = elim (set_bit w 3 v.deleted (bit_deleted w v h)) [
+    | inl p ↦ p.1 ∙ omega (arith, h.is, p.0)
+    | inr p ↦ p.1 ∙ omega (arith, h.is, p.0)
+  ];
+  whole = record { vinsert_fits = h.whole.vinsert_fits; vsplit_fits = h.whole.vsplit_fits };
+}
+
+-- a flag that is set is cleared, and its counter raised
+pub ended_insert_word : (w : ℕ) (v : VersionView) → v.inserting ≡ true → IsUnspent v → IsWordOfVersion w v → IsWordOfVersion (w + 254) (inserted v)
+ended_insert_word w v set unspent h =
+    let one : number_of v.inserting ≡ 1 = ap number_of set in
+    let room = unspent.inserts set in
+    record { is = omega (arith, h.is, one); whole = record { vinsert_fits = omega (arith, room, one); vsplit_fits = h.whole.vsplit_fits } }
+
+pub ended_split_word : (w : ℕ) (v : VersionView) → v.splitting ≡ true → IsUnspent v → IsWordOfVersion w v → IsWordOfVersion (w + (2 ^ 64 - 4)) (split v)
+ended_split_word w v set unspent h =
+    let one : number_of v.splitting ≡ 1 = ap number_of set in
+    let room = unspent.splits set in
+    record { is = omega (arith, h.is, one); whole = record { vinsert_fits = h.whole.vinsert_fits; vsplit_fits = omega (arith, room, one) } }
 
 pub inserted_word : (w : ℕ) (v : VersionView) → v.vinsert < 2 ^ 56 - 1 → IsWordOfVersion w v → IsWordOfVersion (w + 2 ^ 8) (record v { vinsert = v.vinsert + 1 })
 inserted_word w v room h = record {

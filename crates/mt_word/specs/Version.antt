@@ -1,6 +1,7 @@
 -- What a contract sees of a `Version`, and how its 128 bits lie.
-use Rattle.std.specs.Prelude.{◌≡◌, ◌==◌, ℕ, ◌+◌, ◌*◌, ◌/◌, ◌%◌, ◌^◌, ◌<◌, Bool, true, false}
+use Rattle.std.specs.Prelude.{◌≡◌, ◌==◌, ℕ, ◌+◌, ◌*◌, ◌/◌, ◌%◌, ◌^◌, ◌<◌, Bool, ◌||◌, true, false}
 use Rattle.std.specs.Int.{bit_at}
+use Rattle.mt_word.specs.declared.version_word.TheConstants.{MAX_INSERTS, MAX_SPLITS}
 
 -- the flags of a node, and how often keys were inserted into it and it was split
 pub record VersionView : Type 0 where
@@ -17,10 +18,31 @@ pub record IsVersion (v : VersionView) : Type 0 where
   pub vinsert_fits : v.vinsert < 2 ^ 56
   pub vsplit_fits : v.vsplit < 2 ^ 64
 
+-- keys are being inserted into the node, or it is being split
+abbrev pub is_flagged : VersionView → Bool
+is_flagged version = version.inserting || version.splitting
+
+-- a flag that is set has a counter that can be raised
+pub record IsUnspent (v : VersionView) : Type 0 where
+  pub inserts : v.inserting ≡ true → v.vinsert < MAX_INSERTS
+  pub splits : v.splitting ≡ true → v.vsplit < MAX_SPLITS
+
 -- the bit of a flag
 abbrev pub number_of : Bool → ℕ
 number_of false = 0
 number_of true = 1
+
+-- no keys are being inserted any more: if some were, the counter of insertions is raised
+abbrev pub inserted : VersionView → VersionView
+inserted v = record v { inserting = false; vinsert = v.vinsert + number_of v.inserting }
+
+-- the node is not being split any more: if it was, the counter of splits is raised
+abbrev pub split : VersionView → VersionView
+split v = record v { splitting = false; vsplit = v.vsplit + number_of v.splitting }
+
+-- the node is unlocked after a change
+abbrev pub unlocked : VersionView → VersionView
+unlocked v = record (split (inserted v)) { locked = false }
 
 -- bits 0 to 4 are the flags, 5 to 7 are zero, 8 to 63 are vinsert, and 64 to 127 are vsplit
 abbrev pub word_of_version : VersionView → ℕ

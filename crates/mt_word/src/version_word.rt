@@ -1,7 +1,7 @@
 //! The version word of a node: its lock, its other flags, and its two counters.
 
 ghost use Rattle.std.specs.Prelude.{◌≡◌, IfSome, IsSome, IsTrue, IsOk, IsErr, OnOk, OnErr, ◌↔◌, ◌+◌, ◌-◌, ◌*◌, ◌/◌, ◌%◌, ◌^◌, ◌<◌, ◌≤◌, true, false};
-ghost use Rattle.mt_word.specs.Version.{IsVersion, IsVersionWord, VersionView, version_of_word, word_of_version};
+ghost use Rattle.mt_word.specs.Version.{IsVersion, IsVersionWord, IsUnspent, VersionView, is_flagged, inserted, split, unlocked, version_of_word, word_of_version};
 
 use std::marker::Model;
 
@@ -135,6 +135,13 @@ impl Version {
         self.word & SPLITTING != 0
     }
 
+    /// Whether keys are being inserted into the node, or it is being split.
+    pub fn is_flagged(&self) -> bool
+        ensures { result ≡ is_flagged self.now }
+    {
+        self.inserting() || self.splitting()
+    }
+
     /// Whether the node is deleted.
     pub fn deleted(&self) -> bool
         ensures { result ≡ self.now.deleted }
@@ -190,6 +197,79 @@ impl Version {
         ensures whole { IsVersion self.new }
     {
         self.word &= !LOCKED;
+    }
+
+    /// Marks that keys are being inserted into the node.
+    ///
+    /// # Errors
+    ///
+    /// `SpentCounter` if `vinsert` is `MAX_INSERTS`. Nothing is then changed.
+    pub fn set_inserting(&mut self) -> Result<(), SpentCounter>
+        ensures ok { IsOk result ↔ (self.old.vinsert < MAX_INSERTS) }
+        ensures spent { IsErr result ↔ (self.old.vinsert ≡ MAX_INSERTS) }
+        ensures set { OnOk result (self.new ≡ record self.old { inserting = true }) }
+        ensures unchanged { OnErr result (self.new ≡ self.old) }
+        ensures whole { IsVersion self.new }
+    {
+        if self.is_insert_spent() {
+            return Err(SpentCounter);
+        }
+        self.word |= INSERTING;
+        Ok(())
+    }
+
+    /// Marks that the node is being split.
+    ///
+    /// # Errors
+    ///
+    /// `SpentCounter` if `vsplit` is `MAX_SPLITS`. Nothing is then changed.
+    pub fn set_splitting(&mut self) -> Result<(), SpentCounter>
+        ensures ok { IsOk result ↔ (self.old.vsplit < MAX_SPLITS) }
+        ensures spent { IsErr result ↔ (self.old.vsplit ≡ MAX_SPLITS) }
+        ensures set { OnOk result (self.new ≡ record self.old { splitting = true }) }
+        ensures unchanged { OnErr result (self.new ≡ self.old) }
+        ensures whole { IsVersion self.new }
+    {
+        if self.is_split_spent() {
+            return Err(SpentCounter);
+        }
+        self.word |= SPLITTING;
+        Ok(())
+    }
+
+    // Raises `vinsert` if keys were being inserted, which then ends.
+    fn end_inserting(&mut self)
+        requires { IsUnspent self.old }
+        ensures value { self.new ≡ inserted self.old }
+        ensures unspent { IsUnspent self.new }
+    {
+        if self.inserting() {
+            self.word += (1 << VINSERT_SHIFT) - INSERTING;
+        }
+    }
+
+    // Raises `vsplit` if the node was being split, which then ends.
+    fn end_splitting(&mut self)
+        requires { IsUnspent self.old }
+        ensures value { self.new ≡ split self.old }
+        ensures unspent { IsUnspent self.new }
+    {
+        if self.splitting() {
+            self.word += (1 << VSPLIT_SHIFT) - SPLITTING;
+        }
+    }
+
+    /// Unlocks the node, of which something may have been changed: it is then neither inserted into nor split, and for
+    /// each of these flags that was set its counter is raised by one (Masstree, EuroSys 2012, section 4.5).
+    pub fn unlock_changed(&mut self)
+        requires locked { self.old.locked ≡ true }
+        requires unspent { IsUnspent self.old }
+        ensures value { self.new ≡ unlocked self.old }
+        ensures whole { IsVersion self.new }
+    {
+        self.end_inserting();
+        self.end_splitting();
+        self.unlock();
     }
 
     /// Marks the node as deleted. One that is deleted already stays as it is.
