@@ -12,13 +12,15 @@ use Rattle.mt_word.specs.Version.{VersionView, IsVersion, IsUnspent}
 use Rattle.mt_border.specs.Entry.{entry_rank, IsEntry, IsContent, with_row, with_link, content_with_row, content_class, entry_suffix}
 use Rattle.mt_border.specs.Table.{first_changed, changed_at, left_slot, left_slots, number_at, slot_changed, with_entry, filled}
 use Rattle.mt_border.specs.Border.{BorderView, entries_of, first_held, first_suffix, filled_version, with_filled, with_hidden, with_value, with_link_at, with_split}
-use Rattle.mt_border.specs.Order.{IsBorder, IsOrdered, AreEntries, HoldEntries, AreBelow, IsLeftOf}
+use Rattle.mt_border.specs.Order.{IsBorder, IsUnwritten, IsOrdered, AreEntries, HoldEntries, AreBelow, IsLeftOf}
 use Rattle.mt_border.proofs.SlotLemmas.{seen_changed, seen_hidden, seen_filled, seen_split}
 use Rattle.mt_border.specs.declared.entry.Entry.{Entry}
 use Rattle.mt_border.specs.declared.entry.Content.{Content}
 use Rattle.mt_border.specs.declared.entry.Content.TheVariants.{Short, Long, Link}
 use Rattle.mt_border.specs.declared.entry.RightLink.{RightLink}
 use Rattle.mt_border.specs.declared.slot_table.Slot.{Slot}
+use Rattle.mt_border.specs.declared.unwritten.Unwritten.{Unwritten}
+use Rattle.mt_border.specs.declared.unwritten.Unwritten.TheVariants.{Nothing, Value}
 
 pub entry_there : (slots : List Slot) (i : ℕ) (slot : Slot) → AreEntries (entries_of slots) → i < length (entries_of slots) → slice_get slots i ≡ Some slot → IsEntry slot.entry
 entry_there slots i slot h within e =
@@ -109,6 +111,21 @@ left_of_kept low live new (Some link) keeps h = (h.0, keeps link.low h.1)
 nothing_deleted : {X : Type 0} (xs : List X) (i : ℕ) → i < length xs → xs ≡ [] → ⊥
 nothing_deleted xs i h e = omega (arith, ap (λ (t : List _). length t) e)
 
+-- ---- what isn't written yet
+-- nothing
+pub all_written : (b : BorderView) → b.unwritten ≡ Nothing → IsUnwritten b b.unwritten
+all_written b written = subst (λ (u : Unwritten). IsUnwritten b u) (sym written) tt
+
+-- the same as before, in a border with as many live entries, whose unused slots and version are the same
+still_unwritten : (b then : BorderView) (u : Unwritten) → then.version ≡ b.version → length then.live ≡ length b.live → then.unused ≡ b.unused → IsUnwritten b u → IsUnwritten then u
+still_unwritten b then Nothing version live unused h = tt
+still_unwritten b then (Value key) version live unused h = record {
+  locked = ap (λ (v : VersionView). v.locked) version ∙ h.locked;
+  room = omega (arith, live, h.room);
+  flagged = λ held. ap (λ (v : VersionView). v.inserting) version ∙ h.flagged (ap first_held (sym unused) ∙ held);
+  whole = h.whole;
+}
+
 -- The border after each call.
 pub border_changed : (b : BorderView) (i : ℕ) (f : Entry → Entry) → i < length b.live → ((e : Entry) → (f e).slice ≡ e.slice) → ((e : Entry) → IsEntry e → IsEntry (f e)) → map entry_rank (changed_at i f b.live) ≡ map entry_rank b.live → IsBorder b → IsBorder (record b { live = changed_at i f b.live; slots = slot_changed (number_at i b.order) (with_entry f) b.slots })
 border_changed b i f within slices whole ranks h = record {
@@ -125,6 +142,7 @@ border_changed b i f within slices whole ranks h = record {
   flags = h.flags;
   unspent = h.unspent;
   counters = h.counters;
+  pending = still_unwritten b (record b { live = changed_at i f b.live; slots = slot_changed (number_at i b.order) (with_entry f) b.slots }) b.unwritten refl (length-changed_at i f b.live) refl h.pending;
 }
 
 pub border_value : (b : BorderView) (i : ℕ) (row : Row) → i < length b.live → IsBorder b → IsBorder (with_value b i row)
@@ -148,8 +166,8 @@ length-first [] i h = absurd (omega arith)
 length-first (x ∷ xs) zero h = refl
 length-first (x ∷ xs) (suc i) h = length-first xs i (omega arith)
 
-pub border_hidden : (b : BorderView) (i : ℕ) → i < length b.live → IsBorder b → IsBorder (with_hidden b i)
-border_hidden b i within h = record {
+pub border_hidden : (b : BorderView) (i : ℕ) → i < length b.live → b.unwritten ≡ Nothing → IsBorder b → IsBorder (with_hidden b i)
+border_hidden b i within written h = record {
   seen = seen_hidden b.live b.unused b.slots b.order h.seen i;
   slots = omega (arith, h.slots, length-remove b.live i within, length-append (left_slots (take 1 (drop i b.live))) b.unused, length-map (take 1 (drop i b.live)) left_slot, length-first b.live i within);
   low_fits = h.low_fits;
@@ -163,6 +181,7 @@ border_hidden b i within h = record {
   flags = h.flags;
   unspent = h.unspent;
   counters = h.counters;
+  pending = all_written (with_hidden b i) written;
 }
 
 -- the version of a border after a filling
@@ -199,8 +218,8 @@ length-first_changed : {X : Type 0} (f : X → X) (xs : List X) → length (firs
 length-first_changed f [] = refl
 length-first_changed f (x ∷ xs) = refl
 
-pub border_filled : (b : BorderView) (entry : Entry) → length b.live < 15 → b.version.locked ≡ true → (first_held b.unused ≡ true → b.version.vinsert < 2 ^ 56 - 1) → IsEntry entry → IsBorder b → IsBorder (with_filled b entry)
-border_filled b entry room locked unspent g h = record {
+pub border_filled : (b : BorderView) (entry : Entry) → length b.live < 15 → b.version.locked ≡ true → b.unwritten ≡ Nothing → (first_held b.unused ≡ true → b.version.vinsert < 2 ^ 56 - 1) → IsEntry entry → IsBorder b → IsBorder (with_filled b entry)
+border_filled b entry room locked written unspent g h = record {
   seen = seen_filled b.live b.unused b.slots b.order h.seen entry room;
   slots = rw (length-first_changed (filled entry) b.unused) h.slots;
   low_fits = h.low_fits;
@@ -214,14 +233,15 @@ border_filled b entry room locked unspent g h = record {
   flags = λ set. filled_locked (first_held b.unused) b.version locked;
   unspent = filled_unspent (first_held b.unused) b.version unspent h.unspent;
   counters = filled_counters (first_held b.unused) b.version h.counters;
+  pending = all_written (with_filled b entry) written;
 }
 
 take_none : (k : ℕ) (xs : List Entry) → xs ≡ [] → take k xs ≡ []
 take_none zero xs e = refl
 take_none (suc k) xs e = ap (λ (t : List Entry). take (suc k) t) e
 
-pub border_split : (b : BorderView) (keep : ℕ) (right : RightLink) → b.version.locked ≡ true → keep ≤ length b.live → b.low < right.low → AreBelow right.low (take keep b.live) → b.version.vsplit < 2 ^ 64 - 1 → IsBorder b → IsBorder (with_split b keep right)
-border_split b keep right locked within above below unspent h = record {
+pub border_split : (b : BorderView) (keep : ℕ) (right : RightLink) → b.version.locked ≡ true → b.unwritten ≡ Nothing → keep ≤ length b.live → b.low < right.low → AreBelow right.low (take keep b.live) → b.version.vsplit < 2 ^ 64 - 1 → IsBorder b → IsBorder (with_split b keep right)
+border_split b keep right locked written within above below unspent h = record {
   seen = seen_split b.live b.unused b.slots b.order h.seen keep;
   slots = omega (arith, h.slots, length-take-le keep b.live within, length-drop keep b.live, length-append (left_slots (drop keep b.live)) b.unused, length-map (drop keep b.live) left_slot);
   low_fits = h.low_fits;
@@ -235,4 +255,5 @@ border_split b keep right locked within above below unspent h = record {
   flags = λ set. locked;
   unspent = record { inserts = h.unspent.inserts; splits = λ set. unspent };
   counters = record { vinsert_fits = h.counters.vinsert_fits; vsplit_fits = h.counters.vsplit_fits };
+  pending = all_written (with_split b keep right) written;
 }

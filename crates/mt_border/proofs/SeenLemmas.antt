@@ -15,6 +15,8 @@ use Rattle.mt_border.proofs.BorderLemmas.{border_value, border_link, border_hidd
 use Rattle.mt_border.specs.declared.entry.Entry.{Entry}
 use Rattle.mt_border.specs.declared.entry.RightLink.{RightLink}
 use Rattle.mt_border.specs.declared.slot_table.Slot.{Slot}
+use Rattle.mt_border.specs.declared.unwritten.Unwritten.{Unwritten}
+use Rattle.mt_border.specs.declared.unwritten.Unwritten.TheVariants.{Nothing}
 
 -- ---- entries are filled in, one after the other
 -- one more entry, at the next of the numbers that are left
@@ -88,20 +90,20 @@ changed_twice n f g xs within =
     let x : Slot = f (get_or xs n blank_slot) in
     rw (get_or-set_same xs n x blank_slot within, set-set xs n x (g x)) refl
 
-module _ (layer low : ℕ) (right : Option RightLink) (version : VersionView) (t : TableView) where
+module _ (layer low : ℕ) (right : Option RightLink) (version : VersionView) (t : TableView) (left : Unwritten) where
   abbrev b : BorderView
-  b = border_view layer low right version t
+  b = border_view layer low right version t left
 
   -- the border with another order of the slots, or with other slots
   abbrev ordered : Slots → BorderView
-  ordered order = border_view layer low right version (record t { order = order })
+  ordered order = border_view layer low right version (record t { order = order }) left
 
   abbrev with_slots : List Slot → BorderView
-  with_slots slots = border_view layer low right version (record t { slots = slots })
+  with_slots slots = border_view layer low right version (record t { slots = slots }) left
 
-  pub sound_hidden : (i : ℕ) → i < length b.live → IsBorder b → (ordered (without_place t.order i) ≡ with_hidden b i) × IsBorder (ordered (without_place t.order i))
-  sound_hidden i within h =
-      let whole = border_hidden b i within h in
+  pub sound_hidden : (i : ℕ) → i < length b.live → left ≡ Nothing → IsBorder b → (ordered (without_place t.order i) ≡ with_hidden b i) × IsBorder (ordered (without_place t.order i))
+  sound_hidden i within written h =
+      let whole = border_hidden b i within written h in
       let seen = view_of_seen (with_hidden b i) whole.seen in
       (seen, subst IsBorder (sym seen) whole)
 
@@ -121,38 +123,38 @@ module _ (layer low : ℕ) (right : Option RightLink) (version : VersionView) (t
       let seen = view_of_seen (with_link_at b i head) whole.seen in
       (seen, subst IsBorder (sym seen) whole)
 
-  pub sound_filled : (entry : Entry) (slot : Slot) (flagged : VersionView) → length b.live < 15 → version.locked ≡ true → slice_get b.unused 0 ≡ Some slot → flagged ≡ filled_version slot.held_key version → (slot.held_key ≡ true → version.vinsert < 2 ^ 56 - 1) → IsEntry entry → IsBorder b →
-      let new : BorderView = border_view layer low right flagged (record t { slots = slot_changed (next_number t.order) (filled entry) t.slots }) in
+  pub sound_filled : (entry : Entry) (slot : Slot) (flagged : VersionView) → length b.live < 15 → version.locked ≡ true → left ≡ Nothing → slice_get b.unused 0 ≡ Some slot → flagged ≡ filled_version slot.held_key version → (slot.held_key ≡ true → version.vinsert < 2 ^ 56 - 1) → IsEntry entry → IsBorder b →
+      let new : BorderView = border_view layer low right flagged (record t { slots = slot_changed (next_number t.order) (filled entry) t.slots }) left in
       (new ≡ with_filled b entry) × IsBorder new
-  sound_filled entry slot flagged room locked first e unspent whole h =
+  sound_filled entry slot flagged room locked written first e unspent whole h =
       let held : first_held b.unused ≡ slot.held_key = first_held_is b.unused slot first in
       let same : filled_version (first_held b.unused) version ≡ flagged = ap (λ (held : Bool). filled_version held version) held ∙ sym e in
-      let made = border_filled b entry room locked (λ was. unspent (sym held ∙ was)) whole h in
-      let seen = ap (λ (v : VersionView). border_view layer low right v (record t { slots = slot_changed (next_number t.order) (filled entry) t.slots })) (sym same) ∙ view_of_seen (with_filled b entry) made.seen in
+      let made = border_filled b entry room locked written (λ was. unspent (sym held ∙ was)) whole h in
+      let seen = ap (λ (v : VersionView). border_view layer low right v (record t { slots = slot_changed (next_number t.order) (filled entry) t.slots }) left) (sym same) ∙ view_of_seen (with_filled b entry) made.seen in
       (seen, subst IsBorder (sym seen) made)
 
   -- the first unused slot has a version and a mark, and is live at place i
   pub sound_shown : (i number : ℕ) → length b.live < 15 → IsSlotTable t.slots t.order → IsBorder (with_shown b i number) →
       let n = next_number t.order in
-      let new : BorderView = border_view layer low right version (record { slots = slot_changed n marked (slot_changed n (with_entry (at_version number)) t.slots); order = with_first_unused_at t.order i }) in
+      let new : BorderView = border_view layer low right version (record { slots = slot_changed n marked (slot_changed n (with_entry (at_version number)) t.slots); order = with_first_unused_at t.order i }) left in
       (new ≡ with_shown b i number) × IsBorder new
   sound_shown i number room table h =
       let some : 0 < length t.order.unused = room_left t.slots t.order table.arranged (omega (arith, room, length-map (live_slots t) (λ (s : Slot). s.entry))) in
       let twice = changed_twice (next_number t.order) (with_entry (at_version number)) marked t.slots (omega (arith, next_below t.order table.arranged some, table.fifteen)) in
-      let seen = ap (λ (slots : List Slot). border_view layer low right version (record { slots = slots; order = with_first_unused_at t.order i })) twice ∙ view_of_seen (with_shown b i number) h.seen in
+      let seen = ap (λ (slots : List Slot). border_view layer low right version (record { slots = slots; order = with_first_unused_at t.order i }) left) twice ∙ view_of_seen (with_shown b i number) h.seen in
       (seen, subst IsBorder (sym seen) h)
 
-  pub sound_split : (keep : ℕ) (link : RightLink) → version.locked ≡ true → keep ≤ length b.live → low < link.low → AreBelow link.low (take keep b.live) → version.vsplit < 2 ^ 64 - 1 → IsBorder b →
-      let new : BorderView = border_view layer low (Some link) (record version { splitting = true }) (record t { order = with_first t.order keep }) in
+  pub sound_split : (keep : ℕ) (link : RightLink) → version.locked ≡ true → left ≡ Nothing → keep ≤ length b.live → low < link.low → AreBelow link.low (take keep b.live) → version.vsplit < 2 ^ 64 - 1 → IsBorder b →
+      let new : BorderView = border_view layer low (Some link) (record version { splitting = true }) (record t { order = with_first t.order keep }) left in
       (new ≡ with_split b keep link) × IsBorder new
-  sound_split keep link locked within above below unspent h =
-      let whole = border_split b keep link locked within above below unspent h in
+  sound_split keep link locked written within above below unspent h =
+      let whole = border_split b keep link locked written within above below unspent h in
       let seen = view_of_seen (with_split b keep link) whole.seen in
       (seen, subst IsBorder (sym seen) whole)
 
   -- a border with nothing live gets entries
   pub sound_entries : (entries : List Entry) (link : Option RightLink) → IsBorder (with_entries b entries link) →
-      let new : BorderView = border_view layer low link version (record { slots = with_all_filled t.order.unused entries t.slots; order = with_more_live t.order (length entries) }) in
+      let new : BorderView = border_view layer low link version (record { slots = with_all_filled t.order.unused entries t.slots; order = with_more_live t.order (length entries) }) left in
       (new ≡ with_entries b entries link) × IsBorder new
   sound_entries entries link h =
       let seen = view_of_seen (with_entries b entries link) h.seen in

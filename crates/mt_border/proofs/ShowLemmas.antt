@@ -15,7 +15,7 @@ use Rattle.mt_border.specs.Border.{BorderView, with_shown, with_filled, first_he
 use Rattle.mt_border.specs.Table.{first_changed, filled, shown, slot_changed, next_number}
 use Rattle.mt_word.specs.Slots.{with_first_unused_at}
 use Rattle.mt_border.proofs.SlotLemmas.{seen_shown}
-use Rattle.mt_border.proofs.BorderLemmas.{filled_deleted}
+use Rattle.mt_border.proofs.BorderLemmas.{filled_deleted, all_written}
 use Rattle.mt_types.specs.declared.row.Row.{Row}
 use Rattle.mt_slice.specs.declared.slice_class.Class.TheVariants.{Len, Long as LongClass}
 use Rattle.mt_border.specs.Order.{IsBorder, IsOrdered, IsLeftOf, HoldEntries, AreInSlots}
@@ -27,6 +27,7 @@ use Rattle.mt_border.specs.declared.entry.RightLink.{RightLink}
 use Rattle.mt_border.specs.declared.found.Found.{Found}
 use Rattle.mt_border.specs.declared.found.Found.TheVariants.{Absent, Row as RowFound, OtherSuffix}
 use Rattle.mt_border.specs.declared.slot_table.Slot.{Slot}
+use Rattle.mt_border.specs.declared.unwritten.Unwritten.TheVariants.{Nothing}
 
 -- an old entry that moved up, against a later one
 past : (live : List Entry) (i : ℕ) (x : Entry) → i ≤ length live → IsOrdered live → (d : Entry) (a b : ℕ) → i < a → a < suc b → b < length live → entry_rank (get_or (insert live i x) a d) < entry_rank (get_or live b d)
@@ -150,8 +151,8 @@ left_inserted low i live x None h left = tt
 left_inserted low i live x (Some link) h left = (left.0, record { each = All-inserted (λ e. e.slice < link.low) i live x h left.1.each })
 
 -- a border may show what its first unused slot holds, at its place and within its bounds
-pub border_shown : (b : BorderView) (slot : Slot) (rest : List Slot) (i version : ℕ) → b.unused ≡ slot ∷ rest → b.version.deleted ≡ false → IsBetween (entry_rank slot.entry) i b.live → b.low ≤ slot.entry.slice → IsBeforeRight slot.entry.slice b.right → IsBorder b → IsBorder (with_shown b i version)
-border_shown b slot rest i version e here between low right h =
+pub border_shown : (b : BorderView) (slot : Slot) (rest : List Slot) (i version : ℕ) → b.unused ≡ slot ∷ rest → b.unwritten ≡ Nothing → b.version.deleted ≡ false → IsBetween (entry_rank slot.entry) i b.live → b.low ≤ slot.entry.slice → IsBeforeRight slot.entry.slice b.right → IsBorder b → IsBorder (with_shown b i version)
+border_shown b slot rest i version e written here between low right h =
     let x : Entry = at_version version slot.entry in
     let shown_is : with_shown b i version ≡ record (with_shown b i version) { live = take i b.live ++ (x ∷ drop i b.live); unused = rest } =
     ap (λ (u : List Slot). record (with_shown b i version) { live = take i b.live ++ (map (λ (s : Slot). at_version version s.entry) (take 1 u) ++ drop i b.live); unused = drop 1 u }) e in
@@ -176,17 +177,18 @@ border_shown b slot rest i version e here between low right h =
       border = h.border;
       flags = h.flags;
       unspent = h.unspent;
+      pending = all_written (record (with_shown b i version) { live = take i b.live ++ (x ∷ drop i b.live); unused = rest }) written;
       counters = h.counters;
     })
 
 -- what was filled in may be shown where a search did not find it
-pub filled_shown : (b : BorderView) (entry : Entry) (suffix : List ℕ) (i version : ℕ) → length b.live < 15 → b.version.deleted ≡ false → found_in entry.slice (entry_class entry) suffix b.live ≡ Absent i → b.low ≤ entry.slice → IsBeforeRight entry.slice b.right → IsBorder b → IsBorder (with_filled b entry) → IsBorder (with_shown (with_filled b entry) i version)
-filled_shown b entry suffix i version room here absent low right h whole = go b.unused refl
+pub filled_shown : (b : BorderView) (entry : Entry) (suffix : List ℕ) (i version : ℕ) → length b.live < 15 → b.unwritten ≡ Nothing → b.version.deleted ≡ false → found_in entry.slice (entry_class entry) suffix b.live ≡ Absent i → b.low ≤ entry.slice → IsBeforeRight entry.slice b.right → IsBorder b → IsBorder (with_filled b entry) → IsBorder (with_shown (with_filled b entry) i version)
+filled_shown b entry suffix i version room written here absent low right h whole = go b.unused refl
   where
     go : (unused : List Slot) → b.unused ≡ unused → IsBorder (with_shown (with_filled b entry) i version)
     go [] e = absurd (let none : length b.unused ≡ 0 = ap (λ (u : List Slot). length u) e in omega (arith, h.slots, none))
     go (slot ∷ rest) e =
-        border_shown (with_filled b entry) (filled entry slot) rest i version (ap (λ (u : List Slot). first_changed (filled entry) u) e) (filled_deleted (first_held b.unused) b.version ∙ here) (between_from_absent entry.slice (entry_class entry) suffix b.live i h.ordered absent) low right whole
+        border_shown (with_filled b entry) (filled entry slot) rest i version (ap (λ (u : List Slot). first_changed (filled entry) u) e) written (filled_deleted (first_held b.unused) b.version ∙ here) (between_from_absent entry.slice (entry_class entry) suffix b.live i h.ordered absent) low right whole
 
 pub filled_row : (b : BorderView) (entry : Entry) → length b.live < 15 → IsSome (entry_row entry) → IsBorder b → IsSome (next_row (with_filled b entry).unused)
 filled_row b entry room row h = go b.unused refl

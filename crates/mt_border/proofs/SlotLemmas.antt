@@ -70,7 +70,7 @@ held_rest : (i : ℕ) (xs : List Slot) → AllHeldKeys xs → left_slots (drop i
 held_rest i xs h = ap left_slots (drop-map (λ (slot : Slot). slot.entry) i xs) ∙ left_slots-entries_of (drop i xs) (AllHeldKeys-drop i xs h)
 
 -- ---- a border is what is seen of its slots
-pub view_of_seen : (b : BorderView) → AreInSlots b.live b.unused b.slots b.order → border_view b.layer b.low b.right b.version (record { slots = b.slots; order = b.order }) ≡ b
+pub view_of_seen : (b : BorderView) → AreInSlots b.live b.unused b.slots b.order → border_view b.layer b.low b.right b.version (record { slots = b.slots; order = b.order }) b.unwritten ≡ b
 view_of_seen b h =
     ap (λ (live : List Entry). record b { live = live; unused = picked b.slots b.order.unused }) (sym h.live_is) ∙ ap (λ (unused : List Slot). record b { unused = unused }) (sym h.unused_is)
 

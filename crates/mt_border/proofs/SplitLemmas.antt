@@ -96,5 +96,6 @@ cut_upper b i first locked h full cut there =
       border = refl;
       flags = λ set. cc;
       unspent = record { inserts = λ set. cc; splits = λ set. cc };
+      pending = tt;
       counters = record { vinsert_fits = omega arith; vsplit_fits = omega arith };
     }

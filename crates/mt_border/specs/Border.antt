@@ -12,11 +12,14 @@ use Rattle.mt_border.specs.Entry.{entry_row, entry_suffix, at_version, with_row,
 use Rattle.mt_border.specs.Table.{TableView, blank_slot, live_slots, unused_slots, none_live, number_at, next_number, slot_changed, left_slots, with_entry, filled, shown, with_all_filled, with_more_live, first_changed, changed_at}
 use Rattle.mt_border.specs.declared.entry.Entry.{Entry}
 use Rattle.mt_border.specs.declared.entry.RightLink.{RightLink}
+use Rattle.mt_border.specs.declared.unwritten.Unwritten.{Unwritten}
+use Rattle.mt_border.specs.declared.unwritten.Unwritten.TheVariants.{Nothing}
 use Rattle.mt_border.specs.declared.slot_table.Slot.{Slot}
 
 -- a border of a layer: the least slice that may stand in it, the border to the right, the version,
 -- the live entries in key order, and what the unused slots hold in the order in which they are taken;
--- and the fields that both are read of: the slots by their numbers, and the order
+-- and the fields that both are read of: the slots by their numbers, and the order; and what of the slots isn't written
+-- yet
 pub record BorderView : Type 0 where
   pub layer : ℕ
   pub low : ℕ
@@ -26,14 +29,15 @@ pub record BorderView : Type 0 where
   pub unused : List Slot
   pub slots : List Slot
   pub order : Slots
+  pub unwritten : Unwritten
 
 -- what slots hold, without whether they held a key
 abbrev pub entries_of : List Slot → List Entry
 entries_of slots = map (λ slot. slot.entry) slots
 
 -- what is seen of a border with these slots
-abbrev pub border_view : ℕ → ℕ → Option RightLink → VersionView → TableView → BorderView
-border_view layer low right version table = record {
+abbrev pub border_view : ℕ → ℕ → Option RightLink → VersionView → TableView → Unwritten → BorderView
+border_view layer low right version table unwritten = record {
   layer = layer;
   low = low;
   right = right;
@@ -42,6 +46,7 @@ border_view layer low right version table = record {
   unused = unused_slots table;
   slots = table.slots;
   order = table.order;
+  unwritten = unwritten;
 }
 
 -- the version of a new border, locked or not
@@ -67,6 +72,7 @@ new_border layer low locked = record {
   unused = replicate SLOTS blank_slot;
   slots = replicate SLOTS blank_slot;
   order = none_live;
+  unwritten = Nothing;
 }
 
 -- whether the first of these slots held a key

@@ -7,3 +7,4 @@ pub mod Find
 pub mod Cut
 pub mod Slots
 pub mod Parts
+pub mod Keys

@@ -5,7 +5,11 @@ use Rattle.mt_word.specs.Slots.{Slots}
 use Rattle.mt_word.specs.Version.{IsVersion, IsUnspent, is_flagged}
 use Rattle.mt_word.specs.declared.permutation_word.TheConstants.{SLOTS}
 use Rattle.mt_border.specs.Entry.{entry_rank, IsEntry}
-use Rattle.mt_border.specs.Border.{BorderView, entries_of}
+use Rattle.mt_border.specs.Border.{BorderView, entries_of, first_held}
+use Rattle.mt_border.specs.Keys.{key_seen, IsKey}
+use Rattle.mt_border.specs.declared.unwritten.Unwritten.{Unwritten}
+use Rattle.mt_border.specs.declared.unwritten.Unwritten.TheVariants.{Nothing, Value}
+use Rattle.mt_border.specs.declared.unwritten.SlotKey.{SlotKey}
 use Rattle.mt_border.specs.Table.{picked, IsSlotTable}
 use Rattle.mt_border.specs.declared.entry.Entry.{Entry}
 use Rattle.mt_border.specs.declared.entry.RightLink.{RightLink}
@@ -46,6 +50,18 @@ pub record AreInSlots (live : List Entry) (unused : List Slot) (slots : List Slo
   pub unused_is : unused ≡ picked slots order.unused
   pub held : AllHeldKeys (picked slots order.live)
 
+-- the key is in the first unused slot before its value: the border is locked, and has an unused slot; if that slot held
+-- a key, the border is flagged
+pub record AwaitsValue (b : BorderView) (key : SlotKey) : Type 0 where
+  pub locked : b.version.locked ≡ true
+  pub room : length b.live < SLOTS
+  pub flagged : first_held b.unused ≡ true → b.version.inserting ≡ true
+  pub whole : IsKey (key_seen key)
+
+abbrev pub IsUnwritten : BorderView → Unwritten → Type 0
+IsUnwritten b Nothing = Unit {0}
+IsUnwritten b (Value key) = AwaitsValue b key
+
 -- what holds of every border
 pub record IsBorder (b : BorderView) : Type 0 where
   pub seen : AreInSlots b.live b.unused b.slots b.order
@@ -61,3 +77,4 @@ pub record IsBorder (b : BorderView) : Type 0 where
   pub flags : is_flagged b.version ≡ true → b.version.locked ≡ true
   pub unspent : IsUnspent b.version
   pub counters : IsVersion b.version
+  pub pending : IsUnwritten b b.unwritten

@@ -8,13 +8,16 @@ ghost use Rattle.mt_word.specs.declared.version_word.TheConstants.{MAX_INSERTS, 
 ghost use Rattle.mt_word.specs.Version.{IsVersion};
 ghost use Rattle.mt_border.specs.Entry.{IsEntry};
 ghost use Rattle.mt_border.specs.Border.{new_border, with_filled, with_shown, with_hidden, with_value, with_link_at, with_entries, with_split, with_right, with_locked, with_unlocked, with_deleted, right_for, row_at, suffix_at, fill_is_spent, filled_version, next_row};
-ghost use Rattle.mt_border.specs.Parts.{IsKeyOf, IsValueOf};
-ghost use Rattle.mt_border.specs.Slots.{slot_at};
+ghost use Rattle.mt_border.specs.Keys.{IsKeyPart};
+ghost use Rattle.mt_border.specs.Parts.{IsValueOf};
+ghost use Rattle.mt_border.specs.Slots.{slot_at, key_at};
+ghost use Rattle.mt_border.specs.declared.unwritten.Unwritten.TheVariants.{Nothing};
 ghost use Rattle.mt_border.specs.Order.{IsBorder, IsLeftOf, AreBelow};
 
 use crate::entry::{Entry, RightLink};
 use crate::field::{KeyPart, ValuePart};
 use crate::slot_table::SlotTable;
+use crate::unwritten::Unwritten;
 use mt_types::copying::TryCopy;
 use mt_types::items::Items;
 use mt_types::numbers::NodeNo;
@@ -35,6 +38,7 @@ pub struct Border {
     right: Option<RightLink>,
     version: Version,
     table: SlotTable,
+    unwritten: Unwritten,
 }
 
 impl Model for Border {
@@ -43,9 +47,9 @@ impl Model for Border {
 
     ghost Value = { BorderView };
 
-    ghost view = { λ b. border_view b.layer b.low b.right b.version b.table };
+    ghost view = { λ b. border_view b.layer b.low b.right b.version b.table b.unwritten };
 
-    ghost invariant = { λ b. IsBorder (border_view b.layer b.low b.right b.version b.table) };
+    ghost invariant = { λ b. IsBorder (border_view b.layer b.low b.right b.version b.table b.unwritten) };
 }
 
 // The version after a slot was filled, which held a key before or did not.
@@ -87,6 +91,7 @@ impl Border {
             right: None,
             version: Version::new_border(),
             table: SlotTable::new(alloc),
+            unwritten: Unwritten::Nothing,
         }
     }
 
@@ -192,10 +197,13 @@ impl Border {
     /// The key of the slot of a number. Constant cost.
     pub fn key_at(&self, number: usize) -> KeyPart<'_>
         requires { number < SLOTS }
-        ensures value { IsKeyOf (slot_at self.now number).entry result }
+        ensures value { IsKeyPart (key_at self.now number) result }
         ensures sound { IsBorder self.now }
     {
-        self.table.slot(number).entry.key_part()
+        match &self.unwritten {
+            Unwritten::Value(key) if self.table.is_next(number) => key.part(),
+            _ => self.table.slot(number).entry.key_part(),
+        }
     }
 
     /// The value of the slot of a number. Constant cost.
@@ -230,7 +238,8 @@ impl Border {
     /// Unlocks the border. If keys were being inserted into it or it was being split, the counter of that is raised, and
     /// its flag cleared. Constant cost.
     pub fn unlock(&mut self)
-        requires { self.old.version.locked ≡ true }
+        requires locked { self.old.version.locked ≡ true }
+        requires written { self.old.unwritten ≡ Nothing }
         ensures value { self.new ≡ with_unlocked self.old }
         ensures sound { IsBorder self.new }
     {
@@ -257,6 +266,7 @@ impl Border {
     pub fn fill_slot(&mut self, entry: Entry) -> Result<(), Refusal>
         requires room { length self.old.live < SLOTS }
         requires locked { self.old.version.locked ≡ true }
+        requires written { self.old.unwritten ≡ Nothing }
         ensures filled { OnOk result (self.new ≡ with_filled self.old entry) }
         ensures unchanged { OnErr result (self.new ≡ self.old) }
         ensures spent { IsErr result ↔ IsTrue (fill_is_spent self.old) }
@@ -274,6 +284,7 @@ impl Border {
     /// The permutation alone makes it visible. Constant cost.
     pub fn show(&mut self, place: usize, version: u64)
         requires room { length self.old.live < SLOTS }
+        requires written { self.old.unwritten ≡ Nothing }
         requires within { place ≤ length self.old.live }
         requires row { IsSome (next_row self.old.unused) }
         requires sound { IsBorder (with_shown self.old place version) }
@@ -288,7 +299,8 @@ impl Border {
     /// Hides the entry at this place, by the permutation alone. Its slot is then the first unused one, and one that
     /// held a key. Constant cost.
     pub fn hide(&mut self, place: usize)
-        requires { place < length self.old.live }
+        requires within { place < length self.old.live }
+        requires written { self.old.unwritten ≡ Nothing }
         ensures value { self.new ≡ with_hidden self.old place }
         ensures sound { IsBorder self.new }
     {
@@ -351,6 +363,7 @@ impl Border {
     /// marked as one that is being split, until it is unlocked (Masstree, EuroSys 2012, section 4.6.4). Constant cost.
     pub fn link_right(&mut self, keep: usize, right: RightLink)
         requires locked { self.old.version.locked ≡ true }
+        requires written { self.old.unwritten ≡ Nothing }
         requires within { keep ≤ length self.old.live }
         requires above_low { self.old.low < right.low }
         requires above_kept { AreBelow right.low (take keep self.old.live) }

@@ -1,11 +1,12 @@
 //! The key and the value of one slot, for calls that read a border one field at a time.
 
-ghost use Rattle.std.specs.Prelude.{◌≡◌, [], unwrap_or};
-ghost use Rattle.mt_slice.specs.Place.{AreBytes};
+ghost use Rattle.std.specs.Prelude.{◌≡◌};
+ghost use Rattle.std.specs.Option.{option_copied};
 ghost use Rattle.mt_border.specs.Entry.{entry_suffix};
-ghost use Rattle.mt_border.specs.Parts.{content_mark, IsKeyOf, IsValueOf};
+ghost use Rattle.mt_border.specs.Keys.{content_mark, entry_key, part_bytes, IsKeyPart};
+ghost use Rattle.mt_border.specs.Parts.{IsValueOf};
 
-use crate::entry::{Content, Entry};
+use crate::entry::{Content, Entry, Suffix};
 use mt_slice::Class;
 use mt_types::numbers::NodeNo;
 use mt_types::row::Row;
@@ -23,8 +24,20 @@ pub enum Mark {
 pub struct KeyPart<'a> {
     pub slice: u64,
     pub class: Class,
-    pub suffix: &'a [u8],
+    pub suffix: Option<&'a Suffix>,
     pub mark: Mark,
+}
+
+impl<'a> KeyPart<'a> {
+    /// The bytes that follow the slice. Constant cost.
+    pub fn bytes(&self) -> &'a [u8]
+        ensures { result.now ≡ part_bytes self.now }
+    {
+        match self.suffix {
+            Some(suffix) => suffix.as_slice(),
+            None => &[],
+        }
+    }
 }
 
 /// A slot's value: the row of its key, or the head of the layer to which it leads.
@@ -36,13 +49,12 @@ pub enum ValuePart<'a> {
 
 impl Entry {
     // What follows its slice.
-    fn suffix(&self) -> &[u8]
-        ensures value { result.now ≡ unwrap_or (entry_suffix self.now) [] }
-        ensures bytes { AreBytes result.now }
+    fn suffix(&self) -> Option<&Suffix>
+        ensures { option_copied result ≡ entry_suffix self.now }
     {
         match &self.content {
-            Content::Long(suffix, _) => suffix.as_slice(),
-            Content::Short(_, _) | Content::Link(_) => &[],
+            Content::Long(suffix, _) => Some(suffix),
+            Content::Short(_, _) | Content::Link(_) => None,
         }
     }
 
@@ -58,7 +70,7 @@ impl Entry {
 
     /// The key of the slot that holds this entry. Constant cost.
     pub fn key_part(&self) -> KeyPart<'_>
-        ensures { IsKeyOf self.now result }
+        ensures { IsKeyPart (entry_key self.now) result }
     {
         KeyPart {
             slice: self.slice,

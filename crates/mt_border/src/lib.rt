@@ -7,8 +7,10 @@ mod field;
 mod found;
 mod search;
 mod slot_table;
+mod unwritten;
 
 pub use border::Border;
 pub use entry::{Content, Entry, RightLink, Suffix};
 pub use field::{KeyPart, Mark, ValuePart};
 pub use found::Found;
+pub use unwritten::{KeyRest, SlotKey, Unwritten};

@@ -1,6 +1,6 @@
 //! The fifteen slots of a border, under a permutation. It hides their numbers.
 
-ghost use Rattle.std.specs.Prelude.{◌≡◌, ℕ, ◌+◌, ◌<◌, ◌≤◌, length, drop, replicate, slice_get, slice_set, slice_index_or, Some, IsSome, []};
+ghost use Rattle.std.specs.Prelude.{◌≡◌, ℕ, ◌+◌, ◌<◌, ◌≤◌, length, drop, replicate, slice_get, slice_set, slice_index_or, nat_eq, Some, IsSome, []};
 ghost use Rattle.arrayvec.specs.ArrayVec.{array_vec_len};
 ghost use Rattle.mt_word.specs.Slots.{with_first_unused_at, without_place, with_first};
 ghost use Rattle.mt_word.specs.declared.permutation_word.TheConstants.{SLOTS};
@@ -188,6 +188,14 @@ impl SlotTable {
         ensures { slice_get (unused_slots self.now) 0 ≡ Some result.now }
     {
         &self.slots.as_slice()[self.permutation.first_unused()]
+    }
+
+    /// Whether the slot of a number is the first unused one, of which there is one.
+    pub fn is_next(&self, number: usize) -> bool
+        requires { length (live_slots self.now) < SLOTS }
+        ensures { result ≡ nat_eq number (next_number self.now.order) }
+    {
+        number == self.permutation.first_unused()
     }
 
     /// Writes the entry of the first unused slot, which then holds no key yet.
