@@ -8,9 +8,10 @@ use Rattle.std.proofs.lemmas.List.Folds.{list_any-append}
 use Rattle.mt_slice.specs.Place.{Place, deeper, first_slice, place_of}
 use Rattle.mt_types.specs.declared.row.Row.{Row}
 use Rattle.mt_types.specs.declared.numbers.NodeNo.{NodeNo}
+use Rattle.mt_word.specs.Version.{number_of}
 use Rattle.mt_border.specs.Entry.{entry_suffix, content_with_row, with_row, with_link}
 use Rattle.mt_border.specs.Table.{blank_slot, picked, number_at, next_number, slot_changed, with_entry, filled}
-use Rattle.mt_border.specs.Border.{BorderView, first_held, first_suffix, suffix_at, filled_version, with_lock, with_deleted, with_filled, with_shown, with_hidden, with_value, with_link_at, with_split, with_right}
+use Rattle.mt_border.specs.Border.{BorderView, first_held, first_suffix, suffix_at, filled_version, with_locked, with_unlocked, with_deleted, with_filled, with_shown, with_hidden, with_value, with_link_at, with_split, with_right}
 use Rattle.mt_border.specs.Order.{IsBorder}
 use Rattle.mt_border.specs.Slots.{slot_at, is_live, held_at}
 use Rattle.mt_border.proofs.TableLemmas.{length-picked, picked_at}
@@ -65,9 +66,20 @@ beside f g held slots lives right = record { held = held; slots = λ k h. keeps_
 fields_same : (f : FieldsSeen) → Ages f f
 fields_same f = still f f refl refl refl refl (λ d. d) (beside f f (λ k h. h) (λ k h. refl) (λ k h l. l) (λ slice below. below))
 
--- THE LOCK IS TAKEN OR GIVEN BACK
-fields_lock : (b : BorderView) (locked : Bool) → Ages (fields_seen b) (fields_seen (with_lock b locked))
-fields_lock b locked = still (fields_seen b) (fields_seen (with_lock b locked)) refl refl refl refl (λ d. d) (beside (fields_seen b) (fields_seen (with_lock b locked)) (λ k h. h) (λ k h. refl) (λ k h l. l) (λ slice below. below))
+-- THE LOCK IS TAKEN
+fields_locked : (b : BorderView) → Ages (fields_seen b) (fields_seen (with_locked b))
+fields_locked b = still (fields_seen b) (fields_seen (with_locked b)) refl refl refl refl (λ d. d) (beside (fields_seen b) (fields_seen (with_locked b)) (λ k h. h) (λ k h. refl) (λ k h l. l) (λ slice below. below))
+
+-- THE LOCK IS GIVEN BACK: the counter of each flag that was set is raised
+fields_unlocked : (b : BorderView) → Ages (fields_seen b) (fields_seen (with_unlocked b))
+fields_unlocked b = record {
+  inserts = omega arith;
+  splits = omega arith;
+  inserted = λ set not. let one : number_of b.version.inserting ≡ 1 = ap number_of set in omega (arith, one);
+  split = λ set not. let one : number_of b.version.splitting ≡ 1 = ap number_of set in omega (arith, one);
+  deleted = λ d. d;
+  quiet = λ v q r. beside (fields_seen b) (fields_seen (with_unlocked b)) (λ k h. h) (λ k h. refl) (λ k h l. l) (λ slice below. below);
+}
 
 -- THE BORDER IS MARKED DELETED
 fields_deleted : (b : BorderView) → Ages (fields_seen b) (fields_seen (with_deleted b))
@@ -120,7 +132,7 @@ module _ (b : BorderView) (h : IsBorder b) (room : length b.live < 15) where
   abbrev filled_as : Entry → Bool → BorderView
   filled_as entry held = record (with_filled b entry) { version = filled_version held b.version }
 
-  -- THE FIRST UNUSED SLOT IS FILLED: if it held a key, the counter is raised
+  -- THE FIRST UNUSED SLOT IS FILLED: if it held a key, the border is then not quiet
   fields_filled : (entry : Entry) → Ages (fields_seen b) (fields_seen (with_filled b entry))
   fields_filled entry = go (first_held b.unused) refl
     where
@@ -128,10 +140,10 @@ module _ (b : BorderView) (h : IsBorder b) (room : length b.live < 15) where
       go true was = record {
         inserts = omega arith;
         splits = omega arith;
-        inserted = λ set not. let clash : true ≡ false = sym set ∙ not in absurd (cc);
+        inserted = λ set not. absurd (cc);
         split = λ set not. let clash : true ≡ false = sym set ∙ not in absurd (cc);
         deleted = λ d. d;
-        quiet = λ v q r. absurd (let one = q.inserts in let two = r.inserts in omega (arith, one, two));
+        quiet = λ v q r. let clash : true ≡ false = r.no_insert in absurd (cc);
       }
       go false not =
           let same : (k : ℕ) → held_at b k ≡ true → slot_at (filled_as entry false) k ≡ slot_at b k = λ k held. changed_elsewhere b.slots (next_number b.order) k (filled entry) (other_held not k held) in
@@ -157,15 +169,15 @@ fields_hidden : (b : BorderView) (place : ℕ) → Ages (fields_seen b) (fields_
 fields_hidden b place =
     still (fields_seen b) (fields_seen (with_hidden b place)) refl refl refl refl (λ d. d) (beside (fields_seen b) (fields_seen (with_hidden b place)) (λ k h. h) (λ k h. refl) (λ k h lives. hidden_lives b.order.live place k lives) (λ slice below. below))
 
--- THE UPPER ENTRIES MOVE to the right: the counter is raised
+-- THE UPPER ENTRIES MOVE to the right: the border is then not quiet
 fields_split : (b : BorderView) (keep : ℕ) (right : RightLink) → Ages (fields_seen b) (fields_seen (with_split b keep right))
 fields_split b keep right = record {
   inserts = omega arith;
   splits = omega arith;
   inserted = λ set not. let clash : true ≡ false = sym set ∙ not in absurd (cc);
-  split = λ set not. let clash : true ≡ false = sym set ∙ not in absurd (cc);
+  split = λ set not. absurd (cc);
   deleted = λ d. d;
-  quiet = λ v q r. absurd (let one = q.splits in let two = r.splits in omega (arith, one, two));
+  quiet = λ v q r. let clash : true ≡ false = r.no_split in absurd (cc);
 }
 
 -- ---- the slot of the entry at a place
@@ -237,8 +249,11 @@ module _ (b : BorderView) (h : IsBorder b) (place : ℕ) (within : place < lengt
 pub ages_same : (b : BorderView) → BorderAges b b
 ages_same b = record { low = refl; fields = fields_same (fields_seen b); slots = λ seen. seen }
 
-pub ages_lock : (b : BorderView) (locked : Bool) → BorderAges b (with_lock b locked)
-ages_lock b locked = record { low = refl; fields = fields_lock b locked; slots = λ seen. seen }
+pub ages_locked : (b : BorderView) → BorderAges b (with_locked b)
+ages_locked b = record { low = refl; fields = fields_locked b; slots = λ seen. seen }
+
+pub ages_unlocked : (b : BorderView) → BorderAges b (with_unlocked b)
+ages_unlocked b = record { low = refl; fields = fields_unlocked b; slots = λ seen. seen }
 
 pub ages_deleted : (b : BorderView) → BorderAges b (with_deleted b)
 ages_deleted b = record { low = refl; fields = fields_deleted b; slots = λ seen. seen }

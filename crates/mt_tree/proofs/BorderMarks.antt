@@ -1,7 +1,7 @@
 -- A border that is locked, unlocked or marked deleted, or whose unused slots are filled, keeps the tree at each chart.
-use Rattle.std.proofs.Common.{ℕ, Bool, zero, suc, ◌≡◌, List, [], Option, Some, None, true, Result, Ok, Err, OnOk, OnErr, refl, ap, sym, subst, ◌∙◌}
+use Rattle.std.proofs.Common.{ℕ, zero, suc, ◌≡◌, List, [], Option, Some, None, true, Result, Ok, Err, OnOk, OnErr, refl, ap, sym, subst, ◌∙◌}
 use Rattle.std.specs.Option.{option_map}
-use Rattle.mt_border.specs.Border.{BorderView, first_held, with_filled, with_lock, with_deleted}
+use Rattle.mt_border.specs.Border.{BorderView, first_held, with_filled, with_locked, with_unlocked, with_deleted}
 use Rattle.mt_border.specs.Order.{IsBorder}
 use Rattle.mt_border.specs.declared.entry.Entry.{Entry}
 use Rattle.mt_border.proofs.BorderLemmas.{filled_deleted}
@@ -95,8 +95,11 @@ module _ (a : ArenaView) (number : ℕ) (b b' : BorderView) (is : border_at a.no
       go now twins chart index (Some (spot (at_level zero) prefix low (gone epoch))) g = gone_border now twins chart prefix low epoch index g
       go now twins chart index (Some (spot (at_level (suc below)) prefix low standing)) g = absurd (let seen = here in let u = index.tree.interiors number below prefix low standing g in let there = u.is_node in cc)
 
-pub lock_keeps : (a : ArenaView) (number : ℕ) (b : BorderView) (locked : Bool) → border_at a.nodes number ≡ Some b → IsBorder (with_lock b locked) → KeepsTree a (with_node_at a number (Border (with_lock b locked)))
-lock_keeps a number b locked is sound = marked_keeps a number b (with_lock b locked) is (record { low = refl; right = refl; live = refl; deleted = λ marked. marked }) sound
+pub lock_keeps : (a : ArenaView) (number : ℕ) (b : BorderView) → border_at a.nodes number ≡ Some b → IsBorder (with_locked b) → KeepsTree a (with_node_at a number (Border (with_locked b)))
+lock_keeps a number b is sound = marked_keeps a number b (with_locked b) is (record { low = refl; right = refl; live = refl; deleted = λ marked. marked }) sound
+
+pub unlock_keeps : (a : ArenaView) (number : ℕ) (b : BorderView) → border_at a.nodes number ≡ Some b → IsBorder (with_unlocked b) → KeepsTree a (with_node_at a number (Border (with_unlocked b)))
+unlock_keeps a number b is sound = marked_keeps a number b (with_unlocked b) is (record { low = refl; right = refl; live = refl; deleted = λ marked. marked }) sound
 
 pub mark_keeps : (a : ArenaView) (number : ℕ) (b : BorderView) → border_at a.nodes number ≡ Some b → IsBorder (with_deleted b) → KeepsTree a (with_node_at a number (Border (with_deleted b)))
 mark_keeps a number b is sound = marked_keeps a number b (with_deleted b) is (record { low = refl; right = refl; live = refl; deleted = λ marked. refl }) sound

@@ -48,9 +48,10 @@ pub record SetsRowAt (a after : ArenaView) (number place : ℕ) (row : Row) : Ty
   pub sets : (b : BorderView) (entry : Entry) → border_at a.nodes number ≡ Some b →
       slice_get b.live place ≡ Some entry → ReplacesRow a after number (entry_place entry) row
 
--- A HALF IS LINKED. The second border is filled with the upper entries of the first, those from the place `keep` on,
--- and is to stand between it and its right neighbour.
+-- A HALF IS LINKED. The second border is filled with the upper entries of the first, which is locked, those from the
+-- place `keep` on, and is to stand between it and its right neighbour.
 pub record IsUpperHalf (b half : BorderView) (keep : ℕ) : Type 0 where
+  pub locked : b.version.locked ≡ true
   pub within : keep ≤ length b.live
   pub upper : half.live ≡ drop keep b.live
   pub right : half.right ≡ b.right

@@ -1,7 +1,7 @@
 //! What a call changes in a border node, and what each change keeps of the whole tree.
 
 ghost use Rattle.std.specs.Prelude.{◌≡◌, ◌↔◌, [], Some, true, false, IsSomeAnd, IsTrue, IsErr, OnOk, OnErr, IfErr, length, ◌<◌};
-ghost use Rattle.mt_border.specs.Border.{with_lock, with_deleted, with_filled, with_shown, with_hidden, with_value, with_split, with_link_at, with_right, fill_is_spent, row_at};
+ghost use Rattle.mt_border.specs.Border.{with_locked, with_unlocked, with_deleted, with_filled, with_shown, with_hidden, with_value, with_split, with_link_at, with_right, fill_is_spent, row_at};
 ghost use Rattle.mt_word.specs.declared.permutation_word.TheConstants.{SLOTS};
 ghost use Rattle.mt_border.specs.Order.{IsBorder};
 ghost use Rattle.mt_arena.specs.Node.{border_at};
@@ -15,22 +15,23 @@ use mt_types::numbers::NodeNo;
 use mt_types::refusal::Refusal;
 use mt_types::row::Row;
 
-#[tactic(auto, using(crate::proofs::SeenLemmas::sound_border, crate::proofs::BorderMarks::lock_keeps, crate::proofs::BorderMarks::mark_keeps, crate::proofs::BorderRows::shows_next, crate::proofs::BorderRows::hides_at, crate::proofs::BorderRows::sets_at, crate::proofs::UnlinkSteps::may_take_right, crate::proofs::LayerSteps::makes_layer, crate::proofs::LayerSteps::drops_layer))]
+#[tactic(auto, using(crate::proofs::SeenLemmas::sound_border, crate::proofs::BorderMarks::lock_keeps, crate::proofs::BorderMarks::unlock_keeps, crate::proofs::BorderMarks::mark_keeps, crate::proofs::BorderRows::shows_next, crate::proofs::BorderRows::hides_at, crate::proofs::BorderRows::sets_at, crate::proofs::UnlinkSteps::may_take_right, crate::proofs::LayerSteps::makes_layer, crate::proofs::LayerSteps::drops_layer))]
 impl Tree {
     /// Locks a border. Constant cost.
     pub fn lock_border(&mut self, number: NodeNo)
         requires { IsSomeAnd (border_at self.old.nodes number.0) (λ b. b.version.locked ≡ false) }
-        ensures value { self.new ≡ with_border_changed self.old number.0 (λ b. with_lock b true) }
+        ensures value { self.new ≡ with_border_changed self.old number.0 with_locked }
         ensures sound { IsSomeAnd (border_at self.new.nodes number.0) IsBorder }
         ensures keeps { KeepsTree self.old self.new }
     {
         self.arena.border_mut(number).lock();
     }
 
-    /// Unlocks a border. Constant cost.
+    /// Unlocks a border. If keys were being inserted into it or it was being split, the counter of that is raised, and its
+    /// flag cleared. Constant cost.
     pub fn unlock_border(&mut self, number: NodeNo)
         requires { IsSomeAnd (border_at self.old.nodes number.0) (λ b. b.version.locked ≡ true) }
-        ensures value { self.new ≡ with_border_changed self.old number.0 (λ b. with_lock b false) }
+        ensures value { self.new ≡ with_border_changed self.old number.0 with_unlocked }
         ensures sound { IsSomeAnd (border_at self.new.nodes number.0) IsBorder }
         ensures keeps { KeepsTree self.old self.new }
     {
@@ -48,13 +49,15 @@ impl Tree {
     }
 
     /// Writes an entry into the first unused slot of a border, in which it isn't visible. If that slot held a key, the
-    /// border's counter of insertions rises by one. Constant cost.
+    /// border is marked as one into which keys are being inserted, until it is unlocked. Constant cost.
     ///
     /// # Errors
     ///
-    /// `Spent` if that counter would rise and is at its greatest value, 2^56 - 1. Nothing is changed then.
+    /// `Spent` if the slot held a key, and the counter of insertions is at its greatest value, 2^56 - 1. Nothing is
+    /// changed then.
     pub fn fill_slot(&mut self, number: NodeNo, entry: Entry) -> Result<(), Refusal>
-        requires { IsSomeAnd (border_at self.old.nodes number.0) (λ b. length b.live < SLOTS) }
+        requires room { IsSomeAnd (border_at self.old.nodes number.0) (λ b. length b.live < SLOTS) }
+        requires locked { IsSomeAnd (border_at self.old.nodes number.0) (λ b. b.version.locked ≡ true) }
         ensures filled { OnOk result (self.new ≡ with_border_changed self.old number.0 (λ b. with_filled b entry)) }
         ensures unchanged { OnErr result (self.new ≡ self.old) }
         ensures spent { IsErr result ↔ IsSomeAnd (border_at self.old.nodes number.0) (λ b. IsTrue (fill_is_spent b)) }
@@ -99,7 +102,7 @@ impl Tree {
     }
 
     /// The link step of a split: a border keeps the first `keep` entries, and names to its right the half, a border
-    /// that was filled with the others. Constant cost.
+    /// that was filled with the others. It is marked as one that is being split, until it is unlocked. Constant cost.
     pub fn link_half(&mut self, number: NodeNo, half: NodeNo, keep: usize)
         requires { IsSomeAnd (border_at self.old.nodes number.0) (λ b.
             IsSomeAnd (border_at self.old.nodes half.0) (λ upper. IsUpperHalf b upper keep)) }
