@@ -1,10 +1,11 @@
 -- A call alone that reads a border field by field: where a visit of a head or an interior node leads it, and what is live
--- at a border that nobody changes.
+-- at a border that nobody has locked.
 use Rattle.std.proofs.Common.{ℕ, ◌≡◌, ◌<◌, ◌≤◌, ◌-◌, [], length, slice_get, Option, Some, None, Bool, true, false, if◌then◌else◌, refl, sym, ap, subst, ◌∙◌, arith}
-use Rattle.std.specs.Prelude.{◌||◌, ◌&&◌}
+use Rattle.std.specs.Prelude.{◌&&◌}
 use Rattle.std.specs.Option.{option_map, option_and_then}
 use Rattle.std.proofs.lemmas.Bool.{eq-eqb}
 use Rattle.mt_types.specs.declared.numbers.NodeNo.{NodeNo}
+use Rattle.mt_word.specs.Version.{is_flagged}
 use Rattle.mt_border.specs.Border.{BorderView}
 use Rattle.mt_border.specs.Order.{IsBorder}
 use Rattle.mt_border.specs.Slots.{slot_at}
@@ -30,8 +31,10 @@ use Rattle.mt_tree.specs.declared.visit.Visit.TheVariants.{Again as VisitAgain, 
 use Rattle.mt_tree.proofs.AgeLemmas.{are_slots}
 use Rattle.mt_tree.proofs.DescentLemmas.{UpTo, last_up_to, tells_head}
 use Rattle.mt_tree.proofs.SeenLemmas.{among_map, seen-border, seen-interior}
-use Rattle.mt_steps.specs.Reader.{counters_of, is_flagged, same_counters}
+use Rattle.mt_steps.specs.Reader.{counters_of, same_counters}
+use Rattle.mt_steps.specs.World.{is_locked}
 use Rattle.mt_steps.specs.declared.reader.Counters.{Counters}
+use Rattle.mt_steps.proofs.StandLemmas.{or_false}
 
 -- the border of the number is this one, and these are its counters
 pub record IsNow (a : ArenaView) (number : ℕ) (counters : Counters) (b : BorderView) : Type 0 where
@@ -66,13 +69,17 @@ interior_moves a number slice i named sound alive (some, low) = go i.version.del
     go false is None there = absurd (let clash : ◌≡◌ {A = Option Child} None (Some up.child) = there in cc)
     go false is (Some child) there = let same : child ≡ up.child = cc in subst (λ (x : Child). Moves (arena_seen a) number x.node.0) (sym same) move
 
--- ---- a border that nobody changes
+-- ---- a border that nobody has locked
 pub never : {x : Bool} {P : Type 0} → x ≡ false → x ≡ true → P
 never off on = absurd (let clash : false ≡ true = sym off ∙ on in cc)
 
 -- it has no flag
-pub unflagged : (b : BorderView) → IsBorder b → is_flagged b.version ≡ false
-unflagged b sound = λ i. sound.unflagged.0 i || sound.unflagged.1 i
+pub unflagged : (b : BorderView) → IsBorder b → b.version.locked ≡ false → is_flagged b.version ≡ false
+unflagged b sound unlocked = go (is_flagged b.version) refl
+  where
+    go : (set : Bool) → is_flagged b.version ≡ set → set ≡ false
+    go true is = never unlocked (sound.flags is)
+    go false is = refl
 
 -- its counters are those that were noted
 pub counters_same : (one other : Counters) → one ≡ other → same_counters one other ≡ true
@@ -90,22 +97,31 @@ module _ (a : ArenaView) (number : ℕ) (b : BorderView) (named : border_at a.no
   link_moves slice next there = to_link (border_seen b) slice next (seen-border a number b named) alive sound.low_fits there refl
 
 -- what the slot at a place of its order holds is live
-pub slot_among : (b : BorderView) → IsBorder b → (place : ℕ) → place < length b.order.live → Among (entry_seen (slot_at b (number_at place b.order)).entry) (entries_seen b.live)
-slot_among b sound place within =
-    (are_slots b sound.seen).live (number_at place b.order) (number_live b sound place (omega (arith, within, live_count b.live b.unused b.slots b.order sound.seen))) sound.unflagged.1
+pub slot_among : (b : BorderView) → IsBorder b → b.version.locked ≡ false → (place : ℕ) → place < length b.order.live → Among (entry_seen (slot_at b (number_at place b.order)).entry) (entries_seen b.live)
+slot_among b sound unlocked place within =
+    (are_slots b sound.seen).live (number_at place b.order) (number_live b sound place (omega (arith, within, live_count b.live b.unused b.slots b.order sound.seen)))
+    (or_false b.version.inserting b.version.splitting (unflagged b sound unlocked)).1
 
 -- a link that is read as the value of such a slot is one of its links
-pub link_among : (b : BorderView) → IsBorder b → (place : ℕ) → place < length b.order.live → (head : NodeNo) → (slot_at b (number_at place b.order)).entry.content ≡ Link head
+pub link_among : (b : BorderView) → IsBorder b → b.version.locked ≡ false → (place : ℕ) → place < length b.order.live → (head : NodeNo) → (slot_at b (number_at place b.order)).entry.content ≡ Link head
     → Among (record { slice = (slot_at b (number_at place b.order)).entry.slice; content = link head.0 }) (entries_seen b.live)
-link_among b sound place within head is =
-    subst (λ (c : Content). Among (record { slice = (slot_at b (number_at place b.order)).entry.slice; content = content_seen c }) (entries_seen b.live)) is (slot_among b sound place within)
+link_among b sound unlocked place within head is =
+    subst (λ (c : Content). Among (record { slice = (slot_at b (number_at place b.order)).entry.slice; content = content_seen c }) (entries_seen b.live)) is (slot_among b sound unlocked place within)
 
--- a border that is not marked deleted
-pub border_alive : (a : ArenaView) (number : ℕ) → ((node : Node) → node_at a.nodes number ≡ Some node → is_marked node ≡ false) → (b : BorderView) → border_at a.nodes number ≡ Some b → b.version.deleted ≡ false
-border_alive a number alive b named = go (node_at a.nodes number) refl named
+-- what is so of any node of the number is so of its border
+of_border : (test : Node → Bool) (a : ArenaView) (number : ℕ) → ((node : Node) → node_at a.nodes number ≡ Some node → test node ≡ false) → (b : BorderView) → border_at a.nodes number ≡ Some b → test (BorderNode b) ≡ false
+of_border test a number each b named = go (node_at a.nodes number) refl named
   where
-    go : (node : Option Node) → node_at a.nodes number ≡ node → option_and_then border_of node ≡ Some b → b.version.deleted ≡ false
+    go : (node : Option Node) → node_at a.nodes number ≡ node → option_and_then border_of node ≡ Some b → test (BorderNode b) ≡ false
     go None is there = absurd (let clash : ◌≡◌ {A = Option BorderView} None (Some b) = there in cc)
     go (Some (HeadNode h)) is there = absurd (let clash : ◌≡◌ {A = Option BorderView} None (Some b) = there in cc)
     go (Some (InteriorNode i)) is there = absurd (let clash : ◌≡◌ {A = Option BorderView} None (Some b) = there in cc)
-    go (Some (BorderNode own)) is there = let same : own ≡ b = cc in ap (λ (x : BorderView). x.version.deleted) (sym same) ∙ alive (BorderNode own) is
+    go (Some (BorderNode own)) is there = let same : own ≡ b = cc in ap (λ (x : BorderView). test (BorderNode x)) (sym same) ∙ each (BorderNode own) is
+
+-- a border that is not marked deleted
+pub border_alive : (a : ArenaView) (number : ℕ) → ((node : Node) → node_at a.nodes number ≡ Some node → is_marked node ≡ false) → (b : BorderView) → border_at a.nodes number ≡ Some b → b.version.deleted ≡ false
+border_alive a number alive b named = of_border is_marked a number alive b named
+
+-- and is not locked
+pub border_unlocked : (a : ArenaView) (number : ℕ) → ((node : Node) → node_at a.nodes number ≡ Some node → is_locked node ≡ false) → (b : BorderView) → border_at a.nodes number ≡ Some b → b.version.locked ≡ false
+border_unlocked a number unlocked b named = of_border is_locked a number unlocked b named

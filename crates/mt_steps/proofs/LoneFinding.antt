@@ -48,7 +48,8 @@ use Rattle.mt_steps.specs.Finding.{next_key, key_found, is_before, key_read, val
 use Rattle.mt_steps.specs.Getting.{reading_of}
 use Rattle.mt_steps.specs.Standing.{Lends}
 use Rattle.mt_steps.specs.Way.{rest_of}
-use Rattle.mt_steps.proofs.LoneFields.{never, IsNow, VisitMoves, head_moves, interior_moves, unflagged, counters_same, right_moves, link_moves, link_among, border_alive}
+use Rattle.mt_steps.specs.World.{is_locked}
+use Rattle.mt_steps.proofs.LoneFields.{never, IsNow, VisitMoves, head_moves, interior_moves, unflagged, counters_same, right_moves, link_moves, link_among, border_alive, border_unlocked}
 use Rattle.mt_steps.proofs.PartLemmas.{lends_field, version_part, right_part, order_part, key_part, value_part, head_part, interior_part}
 use Rattle.mt_steps.proofs.ReaderLemmas.{looked_by, bounded_by, settled_by}
 
@@ -89,10 +90,10 @@ visit_goes a number VisitAgain moves = moves
 visit_goes a number (VisitBelow head) moves = absurd moves
 visit_goes a number VisitHere moves = moves
 
--- ---- at a border that is not marked deleted
-module _ (a : ArenaView) (number : ℕ) (b : BorderView) (named : border_at a.nodes number ≡ Some b) (sound : IsBorder b) (alive : b.version.deleted ≡ false) where
+-- ---- at a border that is not marked deleted, and not locked
+module _ (a : ArenaView) (number : ℕ) (b : BorderView) (named : border_at a.nodes number ≡ Some b) (sound : IsBorder b) (alive : b.version.deleted ≡ false) (unlocked : b.version.locked ≡ false) where
   goes_looked : FindGoes a number (looked b.version)
-  goes_looked = looked_by (FindGoes a number) b.version (λ is. never alive is) (λ set. never (unflagged b sound) set) (λ on. (b, record { named = named; counted = refl }))
+  goes_looked = looked_by (FindGoes a number) b.version (λ is. never alive is) (λ set. never (unflagged b sound unlocked) set) (λ on. (b, record { named = named; counted = refl }))
 
   goes_bounded : (slice : ℕ) (counters : Counters) → IsNow a number counters b → FindGoes a number (bounded slice counters b.right)
   goes_bounded slice counters now = bounded_by (FindGoes a number) slice counters b.right (λ next is least. right_moves a number b named sound alive next is) (λ below. (b, now))
@@ -105,7 +106,7 @@ module _ (a : ArenaView) (number : ℕ) (b : BorderView) (named : border_at a.no
       go false = (b, now, tt)
 
   goes_settled : (counters : Counters) (sight : Sight) → IsNow a number counters b → SightFits sight b → FindGoes a number (settled counters sight b.version)
-  goes_settled counters sight now fits = settled_by (FindGoes a number) counters sight b.version (λ is. never alive is) (λ set. never (unflagged b sound) set)
+  goes_settled counters sight now fits = settled_by (FindGoes a number) counters sight b.version (λ is. never alive is) (λ set. never (unflagged b sound unlocked) set)
       (λ other. never other (counters_same (counters_of b.version) counters now.counted)) (λ is set same. told sight fits)
     where
       told : (s : Sight) → SightFits s b → FindGoes a number (Finds s)
@@ -144,7 +145,7 @@ module _ (a : ArenaView) (number : ℕ) (b : BorderView) (named : border_at a.no
     goes_value within asked LinkKind fits (LinkPart head) is =
         let at : slice_index notes.glance.order.live notes.place ≡ slice_index b.order.live notes.place = ap (λ (o : Slots). slice_index o.live notes.place) order in
         let inside : notes.place < length b.order.live = subst (λ (o : Slots). notes.place < length o.live) order within in
-        (b, now, ((slot_at b (slice_index b.order.live notes.place)).entry.slice, link_among b sound notes.place inside head (ap (λ (k : ℕ). (slot_at b k).entry.content) (sym at) ∙ of content is)))
+        (b, now, ((slot_at b (slice_index b.order.live notes.place)).entry.slice, link_among b sound unlocked notes.place inside head (ap (λ (k : ℕ). (slot_at b k).entry.content) (sym at) ∙ of content is)))
       where
         of : (own : Content) → IsValueOf own (LinkPart head) → own ≡ Link head
         of (Short bytes row) is = absurd is
@@ -158,7 +159,7 @@ FindMay a get Begins = (i : InteriorView) → interior_at a.nodes get.way.node.0
 FindMay a get (AtValue notes kind) = notes.place < length notes.glance.order.live
 FindMay a get _ = Unit {0}
 
-module _ (a : ArenaView) (get : Get) (alive : (node : Node) → node_at a.nodes get.way.node.0 ≡ Some node → is_marked node ≡ false) where
+module _ (a : ArenaView) (get : Get) (alive : (node : Node) → node_at a.nodes get.way.node.0 ≡ Some node → is_marked node ≡ false) (unlocked : (node : Node) → node_at a.nodes get.way.node.0 ≡ Some node → is_locked node ≡ false) where
   abbrev number : ℕ
   number = get.way.node.0
 
@@ -177,7 +178,7 @@ module _ (a : ArenaView) (get : Get) (alive : (node : Node) → node_at a.nodes 
       (visit_goes a number (visit_interior (slice_number (rest_of get.key get.way)) i) (interior_moves a number (slice_number (rest_of get.key get.way)) i named sound (alive (InteriorNode i) named) (may i (ap (option_and_then interior_of) named) (alive (InteriorNode i) named)))))
   at_node may (BorderNode b) named sound part is =
       subst (λ (p : Part). FindGoes a number (reading_of (with_finding Begins) p)) (sym (version_part b part is))
-      (goes_looked a number b (ap (option_and_then border_of) named) sound (alive (BorderNode b) named))
+      (goes_looked a number b (ap (option_and_then border_of) named) sound (alive (BorderNode b) named) (unlocked (BorderNode b) named))
 
   -- WHAT IT READS leads it on, and it doesn't wait
   pub find_goes : (finding : Finding) → FindMay a get finding → FindStands a number finding → (part : Part) → Lends a number (wants finding) part → FindGoes a number (reading_of (with_finding finding) part)
@@ -185,24 +186,24 @@ module _ (a : ArenaView) (get : Get) (alive : (node : Node) → node_at a.nodes 
   find_goes (Looked counters) fits (b, now) part lent =
       let field = lends_field a number RightField part lent b now.named in
       subst (λ (p : Part). FindGoes a number (reading_of (with_finding (Looked counters)) p)) (sym (right_part b part field.is))
-      (goes_bounded a number b now.named field.sound (border_alive a number alive b now.named) (slice_number (rest_of get.key get.way)) counters now)
+      (goes_bounded a number b now.named field.sound (border_alive a number alive b now.named) (border_unlocked a number unlocked b now.named) (slice_number (rest_of get.key get.way)) counters now)
   find_goes (Bounded counters right) fits (b, now) part lent =
       let field = lends_field a number OrderField part lent b now.named in
       subst (λ (p : Part). FindGoes a number (reading_of (with_finding (Bounded counters right)) p)) (sym (order_part b part field.is))
-      (goes_next a number b now.named field.sound (border_alive a number alive b now.named) (notes_at counters right b.order 0) now refl)
+      (goes_next a number b now.named field.sound (border_alive a number alive b now.named) (border_unlocked a number unlocked b now.named) (notes_at counters right b.order 0) now refl)
   find_goes (Reads notes) fits (b, now, order) part lent =
       let k = slice_index notes.glance.order.live notes.place in
       let field = lends_field a number (KeyField k) part lent b now.named in
       let (key, one, is) = key_part b k part field.is in
       subst (λ (p : Part). FindGoes a number (reading_of (with_finding (Reads notes)) p)) (sym one)
-      (goes_key a number b now.named field.sound (border_alive a number alive b now.named) notes now order (rest_of get.key get.way) key is)
+      (goes_key a number b now.named field.sound (border_alive a number alive b now.named) (border_unlocked a number unlocked b now.named) notes now order (rest_of get.key get.way) key is)
   find_goes (AtValue notes kind) within (b, now, order, fits) part lent =
       let k = slice_index notes.glance.order.live notes.place in
       let field = lends_field a number (ValueField k) part lent b now.named in
       let (value, one, is) = value_part b k part field.is in
       subst (λ (p : Part). FindGoes a number (reading_of (with_finding (AtValue notes kind)) p)) (sym one)
-      (goes_value a number b now.named field.sound (border_alive a number alive b now.named) notes now order within get.columns kind fits value is)
+      (goes_value a number b now.named field.sound (border_alive a number alive b now.named) (border_unlocked a number unlocked b now.named) notes now order within get.columns kind fits value is)
   find_goes (Settles counters sight) fits (b, now, sight_fits) part lent =
       let field = lends_field a number VersionField part lent b now.named in
       subst (λ (p : Part). FindGoes a number (reading_of (with_finding (Settles counters sight)) p)) (sym (version_part b part field.is))
-      (goes_settled a number b now.named field.sound (border_alive a number alive b now.named) counters sight now sight_fits)
+      (goes_settled a number b now.named field.sound (border_alive a number alive b now.named) (border_unlocked a number unlocked b now.named) counters sight now sight_fits)

@@ -24,7 +24,7 @@ use Rattle.mt_steps.proofs.FieldLemmas.{LeadsTo, on_way}
 use Rattle.mt_steps.proofs.GetLemmas.{may_go}
 use Rattle.mt_steps.proofs.GetSteps.{leads, reads_few}
 use Rattle.mt_steps.proofs.LoneFinding.{FindStands, FindGoes, FindMay, find_goes}
-use Rattle.mt_steps.proofs.LoneLemmas.{untaken_alive}
+use Rattle.mt_steps.proofs.LoneLemmas.{untaken_alive, untaken_unlocked}
 use Rattle.mt_steps.proofs.LoneWay.{way_left, IsOnThere, move_nearer}
 
 -- its node is on, and it has noted what the border there has
@@ -57,6 +57,7 @@ module _ (a : ArenaView) (now begun moves : ℕ) (past : List Arena) (w : World)
   goes : (p : Progress) → (follows : GetFollows a get p new) → FindGoes a get.way.node.0 (reading_of get follows.part)
   goes p follows =
       find_goes a get (untaken_alive a now w world get.way.node.0 (free get.way.node.0) (record { role = stands.there.role; prefix = prefix_of get.key get.way; low = stands.there.low; posted = stands.there.posted; place = stands.there.place }))
+      (untaken_unlocked a now w world get.way.node.0 (free get.way.node.0))
       get.finding (may get.finding truth.0) stands.noted follows.part follows.lent
 
   -- a get that runs alone doesn't wait

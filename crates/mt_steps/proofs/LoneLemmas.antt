@@ -1,4 +1,4 @@
--- What is on, and that no call has taken, is not marked deleted.
+-- What no call has taken is not locked, and is not marked deleted if it is on.
 use Rattle.std.proofs.Common.{ℕ, ◌≡◌, ◌⊎◌, inl, inr, Option, Some, Bool, true, false, refl, sym, ap, subst, ◌∙◌}
 use Rattle.std.specs.Prelude.{IsSomeAnd}
 use Rattle.std.specs.Option.{option_and_then}
@@ -21,8 +21,9 @@ true_or_false true = inl refl
 true_or_false false = inr refl
 
 module _ (a : ArenaView) (now : ℕ) (w : World) (world : IsWorld a now w) (number : ℕ) (free : IsTaken a w number → ⊥) where
-  unlocked : (node : Node) → node_at a.nodes number ≡ Some node → is_locked node ≡ false
-  unlocked node named = elim (true_or_false (is_locked node)) [
+  -- WHAT IS NOT TAKEN is not locked
+  pub untaken_unlocked : (node : Node) → node_at a.nodes number ≡ Some node → is_locked node ≡ false
+  untaken_unlocked node named = elim (true_or_false (is_locked node)) [
     | inl locked ↦ absurd (free (inl (subst (λ (x : Option Node). IsLocked x) (sym named) locked)))
     | inr is ↦ is
   ]
@@ -42,7 +43,7 @@ module _ (a : ArenaView) (now : ℕ) (w : World) (world : IsWorld a now w) (numb
   inner_alive stands node seen named there inner = go stands.role stands.place
     where
       go : (role : Role) → w.chart number ≡ Some (spot role stands.prefix stands.low (on stands.posted)) → is_marked node ≡ false
-      go (at_level level) place = world.alive.each number stands.prefix (record { level = level; low = stands.low; posted = stands.posted; place = place }) node named (unlocked node named)
+      go (at_level level) place = world.alive.each number stands.prefix (record { level = level; low = stands.low; posted = stands.posted; place = place }) node named (untaken_unlocked node named)
       go top place =
           let h = world.index.tree.heads number stands.prefix stands.low stands.posted place in
           let both : ◌≡◌ {A = Option PlainNode} (Some seen) (Some (head h.node)) = sym there ∙ h.is_node in

@@ -52,7 +52,8 @@ use Rattle.mt_steps.specs.declared.reader.Reading.TheVariants.{GoesOn, To, Finds
 use Rattle.mt_steps.specs.Listing.{ListNotes}
 use Rattle.mt_steps.specs.Listing.{list_next, key_read_of, entry_for, is_before_link, kept_with, one_more, list_key, value_kept, list_reading, AreFew}
 use Rattle.mt_steps.specs.Standing.{Lends}
-use Rattle.mt_steps.proofs.LoneFields.{never, IsNow, VisitMoves, head_moves, interior_moves, unflagged, counters_same, right_moves, right_seen_moves, link_moves, link_among, border_alive}
+use Rattle.mt_steps.specs.World.{is_locked}
+use Rattle.mt_steps.proofs.LoneFields.{never, IsNow, VisitMoves, head_moves, interior_moves, unflagged, counters_same, right_moves, right_seen_moves, link_moves, link_among, border_alive, border_unlocked}
 use Rattle.mt_steps.proofs.PartLemmas.{lends_field, version_part, right_part, order_part, key_part, value_part, head_part, interior_part}
 use Rattle.mt_steps.proofs.ReaderLemmas.{looked_by, bounded_by, settled_by}
 
@@ -146,10 +147,10 @@ row_links entries b right slice (ShortKey bytes) row links = links_more entries 
 row_links entries b right slice (LongKey suffix) row links = links_more entries (record { slice = slice; content = Long suffix row }) b right links (λ at next same. absurd (let clash : ◌≡◌ {A = PlainContent} (link next) (long (place_of suffix) row) = ap (λ (e : PlainEntry). e.content) same in cc))
 row_links entries b right slice LayerKey row links = links
 
--- ---- at a border that is not marked deleted
-module _ (a : ArenaView) (number : ℕ) (b : BorderView) (named : border_at a.nodes number ≡ Some b) (sound : IsBorder b) (alive : b.version.deleted ≡ false) where
+-- ---- at a border that is not marked deleted, and not locked
+module _ (a : ArenaView) (number : ℕ) (b : BorderView) (named : border_at a.nodes number ≡ Some b) (sound : IsBorder b) (alive : b.version.deleted ≡ false) (unlocked : b.version.locked ≡ false) where
   goes_looked : ListGoes a number Begins (looked b.version)
-  goes_looked = looked_by (ListGoes a number Begins) b.version (λ is. never alive is) (λ set. never (unflagged b sound) set) (λ on. (omega arith, (b, record { named = named; counted = refl })))
+  goes_looked = looked_by (ListGoes a number Begins) b.version (λ is. never alive is) (λ set. never (unflagged b sound unlocked) set) (λ on. (omega arith, (b, record { named = named; counted = refl })))
 
   goes_bounded : (slice : ℕ) (counters : Counters) → IsNow a number counters b → ListGoes a number (Looked counters) (bounded slice counters b.right)
   goes_bounded slice counters now = bounded_by (ListGoes a number (Looked counters)) slice counters b.right (λ next is least. right_moves a number b named sound alive next is)
@@ -165,7 +166,7 @@ module _ (a : ArenaView) (number : ℕ) (b : BorderView) (named : border_at a.no
 
   goes_settled : (counters : Counters) (listed : Listed) → counters_of b.version ≡ counters → listed.right ≡ b.right → LinksOf listed.entries b
       → ListGoes a number (Settles counters listed) (settled counters listed b.version)
-  goes_settled counters listed counted right_is links = settled_by (ListGoes a number (Settles counters listed)) counters listed b.version (λ is. never alive is) (λ set. never (unflagged b sound) set)
+  goes_settled counters listed counted right_is links = settled_by (ListGoes a number (Settles counters listed)) counters listed b.version (λ is. never alive is) (λ set. never (unflagged b sound unlocked) set)
       (λ other. never other (counters_same (counters_of b.version) counters counted)) (λ is set same. leads)
     where
       leads : (next : ℕ) → LeadsOn (list_of listed.entries listed.right) next → Moves (arena_seen a) number next
@@ -196,13 +197,13 @@ module _ (a : ArenaView) (number : ℕ) (notes : ListNotes) (s : SlotsNow a numb
     (s, is.slice, subst (λ (m : Mark). KeyFits (key_read_of m key.class key.suffix.now) entry.content) (sym is.mark) (key_fits entry.content key.class key.suffix.now)),
   )
 
-  module _ (sound : IsBorder b) (alive : b.version.deleted ≡ false) (own : SlotKey) (slice_is : own.slice ≡ entry.slice) where
+  module _ (sound : IsBorder b) (alive : b.version.deleted ≡ false) (unlocked : b.version.locked ≡ false) (own : SlotKey) (slice_is : own.slice ≡ entry.slice) where
     abbrev slice : ℕ
     slice = own.slice
 
     goes_more : (kept : Option Entry) → LinksOf (kept_with notes.glance.right notes.kept kept) b → ListGoes a number (AtValue notes own) (one_more notes kept)
     goes_more kept links =
-        goes_next a number b s.0.now.named sound alive (AtValue notes own) (record { glance = notes.glance; kept = kept_with notes.glance.right notes.kept kept; place = notes.place + 1 })
+        goes_next a number b s.0.now.named sound alive unlocked (AtValue notes own) (record { glance = notes.glance; kept = kept_with notes.glance.right notes.kept kept; place = notes.place + 1 })
         (record { b = b; now = s.0.now; right_is = s.0.right_is; links = links }) s.1 (omega (arith, within, few.1)) (omega (arith, within, few.1))
 
     own_link : (head : NodeNo) → entry.content ≡ Link head → Among (record { slice = entry.slice; content = link head.0 }) (entries_seen b.live)
@@ -210,7 +211,7 @@ module _ (a : ArenaView) (number : ℕ) (notes : ListNotes) (s : SlotsNow a numb
         let at : n ≡ slice_index b.order.live notes.place = ap (λ (o : Slots). slice_index o.live notes.place) s.1 in
         let inside : notes.place < length b.order.live = subst (λ (o : Slots). notes.place < length o.live) s.1 within in
         subst (λ (k : ℕ). Among (record { slice = (slot_at b k).entry.slice; content = link head.0 }) (entries_seen b.live)) (sym at)
-        (link_among b sound notes.place inside head (ap (λ (k : ℕ). (slot_at b k).entry.content) (sym at) ∙ is))
+        (link_among b sound unlocked notes.place inside head (ap (λ (k : ℕ). (slot_at b k).entry.content) (sym at) ∙ is))
 
     link_links : (head : NodeNo) → entry.content ≡ Link head → LinksOf (kept_with notes.glance.right notes.kept (Some (record { slice = slice; content = Link head }))) b
     link_links head is = links_more notes.kept (record { slice = slice; content = Link head }) b notes.glance.right s.0.links (λ at next same.
@@ -241,7 +242,7 @@ module _ (a : ArenaView) (number : ℕ) (notes : ListNotes) (s : SlotsNow a numb
         no_row (Link own) some is = (let clash : false ≡ true = some in cc)
 
 -- ---- any reading
-module _ (a : ArenaView) (number slice : ℕ) (alive : (node : Node) → node_at a.nodes number ≡ Some node → is_marked node ≡ false) where
+module _ (a : ArenaView) (number slice : ℕ) (alive : (node : Node) → node_at a.nodes number ≡ Some node → is_marked node ≡ false) (unlocked : (node : Node) → node_at a.nodes number ≡ Some node → is_locked node ≡ false) where
   at_node : MayRead {N = List Entry} {K = SlotKey} {F = Listed} a number slice Begins → (node : Node) → node_at a.nodes number ≡ Some node → IsNode node → (part : Part) → IsPart node VersionField part → ListGoes a number Begins (list_reading Begins slice part)
   at_node may (HeadNode h) named sound part is =
       let (own, one, view) = head_part h VersionField part is in
@@ -255,7 +256,7 @@ module _ (a : ArenaView) (number slice : ℕ) (alive : (node : Node) → node_at
       (interior_moves a number slice i named sound (alive (InteriorNode i) named) (may.child i (ap (option_and_then interior_of) named) (alive (InteriorNode i) named)))))
   at_node may (BorderNode b) named sound part is =
       subst (λ (p : Part). ListGoes a number Begins (list_reading Begins slice p)) (sym (version_part b part is))
-      (goes_looked a number b (ap (option_and_then border_of) named) sound (alive (BorderNode b) named))
+      (goes_looked a number b (ap (option_and_then border_of) named) sound (alive (BorderNode b) named) (unlocked (BorderNode b) named))
 
   -- WHAT IT READS brings it nearer to its end, and it doesn't wait
   pub list_goes : (listing : Listing) → MayRead a number slice listing → PlaceFits listing → ListStands a number listing → (part : Part) → Lends a number (wants listing) part → ListGoes a number listing (list_reading listing slice part)
@@ -263,11 +264,11 @@ module _ (a : ArenaView) (number slice : ℕ) (alive : (node : Node) → node_at
   list_goes (Looked counters) may fits (b, now) part lent =
       let field = lends_field a number RightField part lent b now.named in
       subst (λ (p : Part). ListGoes a number (Looked counters) (list_reading (Looked counters) slice p)) (sym (right_part b part field.is))
-      (goes_bounded a number b now.named field.sound (border_alive a number alive b now.named) slice counters now)
+      (goes_bounded a number b now.named field.sound (border_alive a number alive b now.named) (border_unlocked a number unlocked b now.named) slice counters now)
   list_goes (Bounded counters right) may fits n part lent =
       let field = lends_field a number OrderField part lent n.b n.now.named in
       subst (λ (p : Part). ListGoes a number (Bounded counters right) (list_reading (Bounded counters right) slice p)) (sym (order_part n.b part field.is))
-      (goes_next a number n.b n.now.named field.sound (border_alive a number alive n.b n.now.named) (Bounded counters right)
+      (goes_next a number n.b n.now.named field.sound (border_alive a number alive n.b n.now.named) (border_unlocked a number unlocked n.b n.now.named) (Bounded counters right)
       (record { glance = record { counters = counters; right = right; order = n.b.order }; kept = []; place = 0 }) n refl (omega arith) (omega arith))
   list_goes (Reads notes) may (within, few) s part lent =
       let k = slice_index notes.glance.order.live notes.place in
@@ -279,8 +280,8 @@ module _ (a : ArenaView) (number slice : ℕ) (alive : (node : Node) → node_at
       let field = lends_field a number (ValueField k) part lent s.0.b s.0.now.named in
       let (value, one, is) = value_part s.0.b k part field.is in
       subst (λ (p : Part). ListGoes a number (AtValue notes own) (list_reading (AtValue notes own) slice p)) (sym one)
-      (goes_value a number notes s within few field.sound (border_alive a number alive s.0.b s.0.now.named) own slice_is own.rest fits value is)
+      (goes_value a number notes s within few field.sound (border_alive a number alive s.0.b s.0.now.named) (border_unlocked a number unlocked s.0.b s.0.now.named) own slice_is own.rest fits value is)
   list_goes (Settles counters listed) may fits n part lent =
       let field = lends_field a number VersionField part lent n.b n.now.named in
       subst (λ (p : Part). ListGoes a number (Settles counters listed) (list_reading (Settles counters listed) slice p)) (sym (version_part n.b part field.is))
-      (goes_settled a number n.b n.now.named field.sound (border_alive a number alive n.b n.now.named) counters listed n.now.counted n.right_is n.links)
+      (goes_settled a number n.b n.now.named field.sound (border_alive a number alive n.b n.now.named) (border_unlocked a number unlocked n.b n.now.named) counters listed n.now.counted n.right_is n.links)

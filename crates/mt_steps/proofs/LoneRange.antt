@@ -40,7 +40,7 @@ use Rattle.mt_steps.specs.declared.reader.Reader.TheVariants.{Begins, Looked, Bo
 use Rattle.mt_steps.specs.Listing.{ListReading}
 use Rattle.mt_steps.specs.declared.reader.Reading.TheVariants.{Restarts, Repeats, GoesOn, To as ReadTo, Finds}
 use Rattle.mt_steps.proofs.FrameLemmas.{chart_bounded}
-use Rattle.mt_steps.proofs.LoneLemmas.{untaken_alive}
+use Rattle.mt_steps.proofs.LoneLemmas.{untaken_alive, untaken_unlocked}
 use Rattle.mt_steps.proofs.LoneListing.{ListStands, ListGoes, PlaceFits, list_left, list_goes}
 use Rattle.mt_steps.proofs.ListSteps.{list_may_read}
 use Rattle.mt_steps.proofs.RangeLemmas.{scans_on, scans_top}
@@ -282,7 +282,7 @@ pub scan_reads : (show : Row → Row) (a : ArenaView) (now : ℕ) (w : World) �
     → ((other : ℕ) → IsTaken a w other → ⊥) → ScanStands w.chart number prefix → (listing : Listing) → ListingIsTrue show prefix slice number listing begun (arena_seen a ∷ past) a w → ListStands a number listing
     → (part : Part) → Lends a number (wants listing) part → ListGoes a number listing (list_reading listing slice part)
 scan_reads show a now w world begun prefix slice number past fits held free stands listing truth noted part lent =
-    list_goes a number slice (untaken_alive a now w world number (free number) (is_on w.chart number prefix stands)) listing
+    list_goes a number slice (untaken_alive a now w world number (free number) (is_on w.chart number prefix stands)) (untaken_unlocked a now w world number (free number)) listing
     (list_may_read show a now w world begun prefix slice number past fits held listing truth) (place_fits show prefix slice number listing begun (arena_seen a ∷ past) a w truth) noted part lent
 
 -- ---- a range

@@ -26,13 +26,13 @@ use Rattle.mt_steps.proofs.PartLemmas.{no_head, no_interior}
 use Rattle.std.specs.Prelude.{nat_le}
 use Rattle.std.specs.Option.{option_map}
 use Rattle.std.proofs.lemmas.Bool.{leb-true, leb-false}
-use Rattle.mt_word.specs.Version.{VersionView}
+use Rattle.mt_word.specs.Version.{VersionView, is_flagged}
 use Rattle.mt_border.specs.declared.entry.RightLink.{RightLink}
 use Rattle.mt_chart.specs.Tree.{Below, no_right, before_right}
 use Rattle.mt_tree.specs.Seen.{right_seen}
 use Rattle.mt_steps.specs.declared.reader.Counters.{Counters}
 use Rattle.mt_steps.specs.declared.reader.Reader.TheVariants.{Looked, Bounded}
-use Rattle.mt_steps.specs.Reader.{counters_of, is_flagged, same_counters, looked, bounded, settled}
+use Rattle.mt_steps.specs.Reader.{counters_of, same_counters, looked, bounded, settled}
 
 module _ {N K F : Type 0} (a : ArenaView) (number slice : ℕ) (reader : Reader N K F) (may : MayRead a number slice reader) (field : Field) where
   -- the interior that is lent has a child for the slice

@@ -6,6 +6,7 @@ use Rattle.std.specs.List.{list_any}
 use Rattle.std.specs.Option.{option_map}
 use Rattle.std.proofs.lemmas.Bool.{or_right, eq-eqb, eqb-true}
 use Rattle.mt_types.specs.declared.row.Row.{Row}
+use Rattle.mt_word.specs.Version.{is_flagged}
 use Rattle.mt_border.specs.Border.{BorderView, entries_of}
 use Rattle.mt_border.specs.Order.{IsBorder}
 use Rattle.mt_border.specs.Slots.{slot_at}
@@ -29,7 +30,7 @@ use Rattle.mt_tree.specs.Fields.{fields_seen, BorderAges}
 use Rattle.mt_tree.proofs.AgeLemmas.{are_slots}
 use Rattle.mt_tree.proofs.IntervalLemmas.{entries_in_order}
 use Rattle.mt_tree.proofs.SeenLemmas.{seen-border, border-seen}
-use Rattle.mt_steps.specs.Reader.{counters_of, is_flagged, same_counters}
+use Rattle.mt_steps.specs.Reader.{counters_of, same_counters}
 use Rattle.mt_steps.specs.declared.reader.Counters.{Counters}
 use Rattle.mt_steps.specs.Standing.{counters_seen, StandsAt, Still, IsBounded}
 use Rattle.mt_steps.specs.World.{World, IsWorld, BordersAge}
@@ -87,7 +88,7 @@ module _ (a : ArenaView) (now : ℕ) (w : World) (world : IsWorld a now w) (begu
         on_now = (border_on (arena_seen a) w.chart world.index.tree begun number (at_level 0) prefix at.b.low at.looked.known.standing at.looked.known.place (border_seen at.b) there_now still.alive).0
 
 -- ---- the version again: a border without a mark and a flag, and with the same counters, is quiet still
-or_false : (x y : Bool) → (x || y) ≡ false → (x ≡ false) × (y ≡ false)
+pub or_false : (x y : Bool) → (x || y) ≡ false → (x ≡ false) × (y ≡ false)
 or_false true y is = absurd (cc)
 or_false false y is = (refl, is)
 

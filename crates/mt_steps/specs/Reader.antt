@@ -1,8 +1,8 @@
 -- What a call does after each field of a border that it reads: for a get as for a range or build. What it keeps of slots
 -- and of keys, and what it finds, is its own.
-use Rattle.std.specs.Prelude.{ℕ, ◌≡◌, ◌≢◌, ◌<◌, ◌≤◌, ◌⊎◌, nat_le, ◌==◌, Bool, ◌||◌, ◌&&◌, if◌then◌else◌, length, slice_index, Option, Some, None, Result, IsSome, IsSomeAnd, IfOk, IsErr, true, false}
+use Rattle.std.specs.Prelude.{ℕ, ◌≡◌, ◌≢◌, ◌<◌, ◌≤◌, ◌⊎◌, nat_le, ◌==◌, Bool, ◌&&◌, if◌then◌else◌, length, slice_index, Option, Some, None, Result, IsSome, IsSomeAnd, IfOk, IsErr, true, false}
 use Rattle.mt_types.specs.declared.refusal.NoMemory.{NoMemory}
-use Rattle.mt_word.specs.Version.{VersionView}
+use Rattle.mt_word.specs.Version.{VersionView, is_flagged}
 use Rattle.mt_border.specs.declared.entry.RightLink.{RightLink}
 use Rattle.mt_interior.specs.Interior.{InteriorView}
 use Rattle.mt_arena.specs.Arena.{ArenaView}
@@ -24,9 +24,6 @@ use Rattle.mt_steps.specs.declared.reader.Reading.TheVariants.{Restarts, Repeats
 
 abbrev pub counters_of : VersionView → Counters
 counters_of version = record { inserts = version.vinsert; splits = version.vsplit }
-
-abbrev pub is_flagged : VersionView → Bool
-is_flagged version = version.inserting || version.splitting
 
 abbrev pub same_counters : Counters → Counters → Bool
 same_counters one other = (one.inserts == other.inserts) && (one.splits == other.splits)

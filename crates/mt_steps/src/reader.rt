@@ -6,7 +6,7 @@ ghost use Rattle.mt_arena.specs.Parts.{IsField};
 ghost use Rattle.mt_tree.specs.Descent.{visit_head, visit_interior};
 ghost use Rattle.mt_steps.specs.declared.reader.Reader.TheVariants.{Bounded, Reads, AtValue};
 ghost use Rattle.mt_steps.specs.declared.reader.Reading.TheVariants.{Restarts};
-ghost use Rattle.mt_steps.specs.Reader.{counters_of, is_flagged, looked, bounded, settled, by_visit, wants, IsReader, WantsVersion, WantsRight, WantsOrder, WantsKey, WantsValue, at_version, at_right};
+ghost use Rattle.mt_steps.specs.Reader.{counters_of, looked, bounded, settled, by_visit, wants, IsReader, WantsVersion, WantsRight, WantsOrder, WantsKey, WantsValue, at_version, at_right};
 
 use mt_arena::Field;
 use mt_border::RightLink;
@@ -86,13 +86,6 @@ impl Counters {
     }
 }
 
-// Whether the version has a flag set: keys are being inserted, or the border is being split.
-fn is_flagged(version: Version) -> bool
-    ensures { result ≡ is_flagged version }
-{
-    version.inserting() || version.splitting()
-}
-
 // The version is read first.
 fn look<N, K, F>(version: Version) -> Reading<N, K, F>
     ensures { result ≡ looked version }
@@ -100,7 +93,7 @@ fn look<N, K, F>(version: Version) -> Reading<N, K, F>
     if version.deleted() {
         return Reading::Restarts;
     }
-    if is_flagged(version) {
+    if version.is_flagged() {
         return Reading::Repeats;
     }
     Reading::GoesOn(Reader::Looked(Counters::of(version)))
@@ -123,7 +116,7 @@ fn settle<N, K, F: Drop>(counters: Counters, found: F, version: Version) -> Read
     if version.deleted() {
         return Reading::Restarts;
     }
-    if is_flagged(version) || Counters::of(version) != counters {
+    if version.is_flagged() || Counters::of(version) != counters {
         return Reading::Repeats;
     }
     Reading::Finds(found)
