@@ -2,8 +2,9 @@
 use Rattle.std.specs.Prelude.{◌≡◌, ◌<◌}
 use Rattle.mt_word.specs.declared.permutation_word.TheConstants.{SLOTS}
 use Rattle.mt_border.specs.Border.{BorderView}
-use Rattle.mt_border.specs.Parts.{IsKeyOf, IsValueOf}
-use Rattle.mt_border.specs.Slots.{slot_at}
+use Rattle.mt_border.specs.Keys.{IsKeyPart}
+use Rattle.mt_border.specs.Parts.{IsValueOf}
+use Rattle.mt_border.specs.Slots.{slot_at, key_at}
 use Rattle.mt_arena.specs.declared.node.Node.{Node}
 use Rattle.mt_arena.specs.declared.node.Node.TheVariants.{Head, Interior, Border}
 use Rattle.mt_arena.specs.declared.part.Field.{Field}
@@ -22,7 +23,7 @@ abbrev pub IsFieldOf : BorderView → Field → Part → Type 0
 IsFieldOf b Version (VersionPart version) = version ≡ b.version
 IsFieldOf b Right (RightPart right) = right ≡ b.right
 IsFieldOf b Order (OrderPart order) = order ≡ b.order
-IsFieldOf b (Key number) (KeyPart part) = IsKeyOf (slot_at b number).entry part
+IsFieldOf b (Key number) (KeyPart part) = IsKeyPart (key_at b number) part
 IsFieldOf b (Value number) (ValuePart part) = IsValueOf (slot_at b number).entry.content part
 IsFieldOf b _ _ = ⊥
 

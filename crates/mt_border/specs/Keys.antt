@@ -9,7 +9,7 @@ use Rattle.mt_border.specs.declared.entry.Content.{Content}
 use Rattle.mt_border.specs.declared.entry.Content.TheVariants.{Short, Long, Link}
 use Rattle.mt_border.specs.declared.entry.Entry.{Entry}
 use Rattle.mt_border.specs.declared.field.Mark.{Mark}
-use Rattle.mt_border.specs.declared.field.Mark.TheVariants.{Plain, Layer}
+use Rattle.mt_border.specs.declared.field.Mark.TheVariants.{Plain, Unstable, Layer}
 use Rattle.mt_border.specs.declared.field.KeyPart.{KeyPart}
 use Rattle.mt_border.specs.declared.unwritten.KeyRest.{KeyRest}
 use Rattle.mt_border.specs.declared.unwritten.KeyRest.TheVariants.{Ends, Continues}
@@ -54,6 +54,7 @@ key_seen key = record { slice = key.slice; class = key_class key.rest; suffix = 
 abbrev pub IsRest : Class → Option (List ℕ) → Mark → Type 0
 IsRest (Len bytes) None Plain = bytes ≤ 8
 IsRest LongClass (Some suffix) Plain = (0 < length suffix) × AreBytes suffix
+IsRest LongClass (Some suffix) Unstable = (0 < length suffix) × AreBytes suffix
 IsRest LongClass None Layer = Unit {0}
 IsRest _ _ _ = ⊥
 

@@ -14,7 +14,11 @@ use mt_types::row::Row;
 /// Whether a slot's key has a row, or leads to the layer below.
 #[derive(Clone, Copy, Debug, PartialEq, Eq)]
 pub enum Mark {
+    /// It has a row.
     Plain,
+    /// A layer is being made of it: its value is the row or the link.
+    Unstable,
+    /// It leads to the layer below.
     Layer,
 }
 

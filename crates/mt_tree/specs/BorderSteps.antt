@@ -11,6 +11,7 @@ use Rattle.mt_border.specs.Order.{IsBorder, AreBelow}
 use Rattle.mt_border.specs.declared.entry.Content.TheVariants.{Long, Link}
 use Rattle.mt_border.specs.declared.entry.Entry.{Entry}
 use Rattle.mt_border.specs.declared.slot_table.Slot.{Slot}
+use Rattle.mt_border.specs.declared.unwritten.Unwritten.TheVariants.{Nothing}
 use Rattle.mt_interior.specs.Head.{HeadView}
 use Rattle.mt_arena.specs.Node.{Nodes, head_at, border_at}
 use Rattle.mt_arena.specs.Arena.{ArenaView}
@@ -19,10 +20,11 @@ use Rattle.mt_chart.specs.Steps.{Twin, AreTwins}
 use Rattle.mt_tree.specs.Seen.{entry_place}
 use Rattle.mt_tree.specs.Keeping.{IsOnIn, KeepsAlong, AddsRow, RemovesRow, ReplacesRow}
 
--- A ROW IS SHOWN. The border has room, its first unused slot holds a row, and once that is live at the place, the
--- border is in order and in its interval.
+-- A ROW IS SHOWN. The border has room, its first unused slot holds a row, whose key and value are written, and once that
+-- is live at the place, the border is in order and in its interval.
 pub record MayShowAt (b : BorderView) (place version : ℕ) : Type 0 where
   pub room : length b.live < SLOTS
+  pub written : b.unwritten ≡ Nothing
   pub within : place ≤ length b.live
   pub row : IsSome (next_row b.unused)
   pub sound : IsBorder (with_shown b place version)
@@ -52,6 +54,7 @@ pub record SetsRowAt (a after : ArenaView) (number place : ℕ) (row : Row) : Ty
 -- place `keep` on, and is to stand between it and its right neighbour.
 pub record IsUpperHalf (b half : BorderView) (keep : ℕ) : Type 0 where
   pub locked : b.version.locked ≡ true
+  pub written : b.unwritten ≡ Nothing
   pub within : keep ≤ length b.live
   pub upper : half.live ≡ drop keep b.live
   pub right : half.right ≡ b.right

@@ -4,6 +4,7 @@ ghost use Rattle.std.specs.Prelude.{◌≡◌, ◌↔◌, [], Some, true, false,
 ghost use Rattle.mt_border.specs.Border.{with_locked, with_unlocked, with_deleted, with_filled, with_shown, with_hidden, with_value, with_split, with_link_at, with_right, fill_is_spent, row_at};
 ghost use Rattle.mt_word.specs.declared.permutation_word.TheConstants.{SLOTS};
 ghost use Rattle.mt_border.specs.Order.{IsBorder};
+ghost use Rattle.mt_border.specs.declared.unwritten.Unwritten.TheVariants.{Nothing};
 ghost use Rattle.mt_arena.specs.Node.{border_at};
 ghost use Rattle.mt_arena.specs.Arena.{with_border_changed};
 ghost use Rattle.mt_tree.specs.Keeping.{KeepsTree};
@@ -30,7 +31,8 @@ impl Tree {
     /// Unlocks a border. If keys were being inserted into it or it was being split, the counter of that is raised, and its
     /// flag cleared. Constant cost.
     pub fn unlock_border(&mut self, number: NodeNo)
-        requires { IsSomeAnd (border_at self.old.nodes number.0) (λ b. b.version.locked ≡ true) }
+        requires locked { IsSomeAnd (border_at self.old.nodes number.0) (λ b. b.version.locked ≡ true) }
+        requires written { IsSomeAnd (border_at self.old.nodes number.0) (λ b. b.unwritten ≡ Nothing) }
         ensures value { self.new ≡ with_border_changed self.old number.0 with_unlocked }
         ensures sound { IsSomeAnd (border_at self.new.nodes number.0) IsBorder }
         ensures keeps { KeepsTree self.old self.new }
@@ -58,6 +60,7 @@ impl Tree {
     pub fn fill_slot(&mut self, number: NodeNo, entry: Entry) -> Result<(), Refusal>
         requires room { IsSomeAnd (border_at self.old.nodes number.0) (λ b. length b.live < SLOTS) }
         requires locked { IsSomeAnd (border_at self.old.nodes number.0) (λ b. b.version.locked ≡ true) }
+        requires written { IsSomeAnd (border_at self.old.nodes number.0) (λ b. b.unwritten ≡ Nothing) }
         ensures filled { OnOk result (self.new ≡ with_border_changed self.old number.0 (λ b. with_filled b entry)) }
         ensures unchanged { OnErr result (self.new ≡ self.old) }
         ensures spent { IsErr result ↔ IsSomeAnd (border_at self.old.nodes number.0) (λ b. IsTrue (fill_is_spent b)) }
@@ -81,7 +84,8 @@ impl Tree {
 
     /// Hides the entry at a place of a border, which has a row. Constant cost.
     pub fn hide_row(&mut self, number: NodeNo, place: usize)
-        requires { IsSomeAnd (border_at self.old.nodes number.0) (λ b. HasRowAt b place) }
+        requires row { IsSomeAnd (border_at self.old.nodes number.0) (λ b. HasRowAt b place) }
+        requires written { IsSomeAnd (border_at self.old.nodes number.0) (λ b. b.unwritten ≡ Nothing) }
         ensures value { self.new ≡ with_border_changed self.old number.0 (λ b. with_hidden b place) }
         ensures sound { IsSomeAnd (border_at self.new.nodes number.0) IsBorder }
         ensures hides { HidesRowAt self.old self.new number.0 place }
@@ -145,7 +149,8 @@ impl Tree {
 
     /// Hides the link at a place of a border to a layer that is marked deleted. Constant cost.
     pub fn hide_link(&mut self, number: NodeNo, place: usize)
-        requires { IsSomeAnd (border_at self.old.nodes number.0) (λ b. HasMarkedLayerAt self.old.nodes b place) }
+        requires marked { IsSomeAnd (border_at self.old.nodes number.0) (λ b. HasMarkedLayerAt self.old.nodes b place) }
+        requires written { IsSomeAnd (border_at self.old.nodes number.0) (λ b. b.unwritten ≡ Nothing) }
         ensures value { self.new ≡ with_border_changed self.old number.0 (λ b. with_hidden b place) }
         ensures sound { IsSomeAnd (border_at self.new.nodes number.0) IsBorder }
         ensures drops { DropsLayerAt self.old self.new number.0 place }
