@@ -11,14 +11,16 @@ use Rattle.mt_types.specs.declared.numbers.NodeNo.{NodeNo}
 use Rattle.mt_word.specs.Version.{VersionView, IsVersion, IsUnspent}
 use Rattle.mt_border.specs.Entry.{entry_rank, IsEntry, IsContent, with_row, with_link, content_with_row, content_class, entry_suffix}
 use Rattle.mt_border.specs.Table.{first_changed, changed_at, left_slot, left_slots, number_at, slot_changed, with_entry, filled}
-use Rattle.mt_border.specs.Border.{BorderView, entries_of, first_held, first_suffix, filled_version, with_filled, with_hidden, with_value, with_link_at, with_split}
-use Rattle.mt_border.specs.Order.{IsBorder, IsUnwritten, IsOrdered, AreEntries, HoldEntries, AreBelow, IsLeftOf}
+use Rattle.mt_border.specs.Border.{BorderView, entries_of, first_held, first_suffix, inserting_version, with_inserting, with_key, with_filled, with_hidden, with_value, with_link_at, with_split}
+use Rattle.mt_border.specs.Keys.{key_seen, IsKey}
+use Rattle.mt_border.specs.Order.{IsBorder, IsUnwritten, AwaitsValue, IsOrdered, AreEntries, HoldEntries, AreBelow, IsLeftOf}
 use Rattle.mt_border.proofs.SlotLemmas.{seen_changed, seen_hidden, seen_filled, seen_split}
 use Rattle.mt_border.specs.declared.entry.Entry.{Entry}
 use Rattle.mt_border.specs.declared.entry.Content.{Content}
 use Rattle.mt_border.specs.declared.entry.Content.TheVariants.{Short, Long, Link}
 use Rattle.mt_border.specs.declared.entry.RightLink.{RightLink}
 use Rattle.mt_border.specs.declared.slot_table.Slot.{Slot}
+use Rattle.mt_border.specs.declared.unwritten.SlotKey.{SlotKey}
 use Rattle.mt_border.specs.declared.unwritten.Unwritten.{Unwritten}
 use Rattle.mt_border.specs.declared.unwritten.Unwritten.TheVariants.{Nothing, Value}
 
@@ -116,6 +118,10 @@ nothing_deleted xs i h e = omega (arith, ap (λ (t : List _). length t) e)
 pub all_written : (b : BorderView) → b.unwritten ≡ Nothing → IsUnwritten b b.unwritten
 all_written b written = subst (λ (u : Unwritten). IsUnwritten b u) (sym written) tt
 
+-- a value
+pub awaits : (b : BorderView) (key : SlotKey) → b.unwritten ≡ Value key → IsBorder b → AwaitsValue b key
+awaits b key is h = subst (λ (u : Unwritten). IsUnwritten b u) is h.pending
+
 -- the same as before, in a border with as many live entries, whose unused slots and version are the same
 still_unwritten : (b then : BorderView) (u : Unwritten) → then.version ≡ b.version → length then.live ≡ length b.live → then.unused ≡ b.unused → IsUnwritten b u → IsUnwritten then u
 still_unwritten b then Nothing version live unused h = tt
@@ -184,27 +190,63 @@ border_hidden b i within written h = record {
   pending = all_written (with_hidden b i) written;
 }
 
--- the version of a border after a filling
-pub filled_deleted : (held : Bool) (v : VersionView) → (filled_version held v).deleted ≡ v.deleted
-filled_deleted true v = refl
-filled_deleted false v = refl
+-- the version of a border into which a key is to be inserted
+pub inserting_deleted : (held : Bool) (v : VersionView) → (inserting_version held v).deleted ≡ v.deleted
+inserting_deleted true v = refl
+inserting_deleted false v = refl
 
-filled_border : (held : Bool) (v : VersionView) → (filled_version held v).border ≡ v.border
-filled_border true v = refl
-filled_border false v = refl
+inserting_border : (held : Bool) (v : VersionView) → (inserting_version held v).border ≡ v.border
+inserting_border true v = refl
+inserting_border false v = refl
 
--- the border is locked, so it may be flagged
-filled_locked : (held : Bool) (v : VersionView) → v.locked ≡ true → (filled_version held v).locked ≡ true
-filled_locked true v locked = locked
-filled_locked false v locked = locked
+-- it is locked, so it may be marked
+inserting_locked : (held : Bool) (v : VersionView) → v.locked ≡ true → (inserting_version held v).locked ≡ true
+inserting_locked true v locked = locked
+inserting_locked false v locked = locked
 
-filled_unspent : (held : Bool) (v : VersionView) → (held ≡ true → v.vinsert < 2 ^ 56 - 1) → IsUnspent v → IsUnspent (filled_version held v)
-filled_unspent true v room h = record { inserts = λ set. room refl; splits = h.splits }
-filled_unspent false v room h = h
+inserting_unspent : (held : Bool) (v : VersionView) → (held ≡ true → v.vinsert < 2 ^ 56 - 1) → IsUnspent v → IsUnspent (inserting_version held v)
+inserting_unspent true v room h = record { inserts = λ set. room refl; splits = h.splits }
+inserting_unspent false v room h = h
 
-filled_counters : (held : Bool) (v : VersionView) → IsVersion v → IsVersion (filled_version held v)
-filled_counters true v h = record { vinsert_fits = h.vinsert_fits; vsplit_fits = h.vsplit_fits }
-filled_counters false v h = h
+inserting_counters : (held : Bool) (v : VersionView) → IsVersion v → IsVersion (inserting_version held v)
+inserting_counters true v h = record { vinsert_fits = h.vinsert_fits; vsplit_fits = h.vsplit_fits }
+inserting_counters false v h = h
+
+pub border_inserting : (b : BorderView) → b.version.locked ≡ true → b.unwritten ≡ Nothing → (first_held b.unused ≡ true → b.version.vinsert < 2 ^ 56 - 1) → IsBorder b → IsBorder (with_inserting b)
+border_inserting b locked written unspent h = record {
+  seen = h.seen;
+  slots = h.slots;
+  low_fits = h.low_fits;
+  ordered = h.ordered;
+  entries = h.entries;
+  held_back = h.held_back;
+  from_low = h.from_low;
+  left_of = h.left_of;
+  deleted_empty = λ deleted. h.deleted_empty (sym (inserting_deleted (first_held b.unused) b.version) ∙ deleted);
+  border = inserting_border (first_held b.unused) b.version ∙ h.border;
+  flags = λ set. inserting_locked (first_held b.unused) b.version locked;
+  unspent = inserting_unspent (first_held b.unused) b.version unspent h.unspent;
+  counters = inserting_counters (first_held b.unused) b.version h.counters;
+  pending = all_written (with_inserting b) written;
+}
+
+pub border_keyed : (b : BorderView) (key : SlotKey) → length b.live < 15 → b.version.locked ≡ true → (first_held b.unused ≡ true → b.version.inserting ≡ true) → IsKey (key_seen key) → IsBorder b → IsBorder (with_key b key)
+border_keyed b key room locked marked whole h = record {
+  seen = h.seen;
+  slots = h.slots;
+  low_fits = h.low_fits;
+  ordered = h.ordered;
+  entries = h.entries;
+  held_back = h.held_back;
+  from_low = h.from_low;
+  left_of = h.left_of;
+  deleted_empty = h.deleted_empty;
+  border = h.border;
+  flags = h.flags;
+  unspent = h.unspent;
+  counters = h.counters;
+  pending = record { locked = locked; room = room; flagged = marked; whole = whole };
+}
 
 hold_filled : (entry : Entry) (slots : List Slot) → IsEntry entry → HoldEntries slots → HoldEntries (first_changed (filled entry) slots)
 hold_filled entry [] g h = h
@@ -218,8 +260,8 @@ length-first_changed : {X : Type 0} (f : X → X) (xs : List X) → length (firs
 length-first_changed f [] = refl
 length-first_changed f (x ∷ xs) = refl
 
-pub border_filled : (b : BorderView) (entry : Entry) → length b.live < 15 → b.version.locked ≡ true → b.unwritten ≡ Nothing → (first_held b.unused ≡ true → b.version.vinsert < 2 ^ 56 - 1) → IsEntry entry → IsBorder b → IsBorder (with_filled b entry)
-border_filled b entry room locked written unspent g h = record {
+pub border_filled : (b : BorderView) (entry : Entry) → length b.live < 15 → IsEntry entry → IsBorder b → IsBorder (with_filled b entry)
+border_filled b entry room g h = record {
   seen = seen_filled b.live b.unused b.slots b.order h.seen entry room;
   slots = rw (length-first_changed (filled entry) b.unused) h.slots;
   low_fits = h.low_fits;
@@ -228,12 +270,12 @@ border_filled b entry room locked written unspent g h = record {
   held_back = hold_filled entry b.unused g h.held_back;
   from_low = h.from_low;
   left_of = h.left_of;
-  deleted_empty = λ deleted. h.deleted_empty (sym (filled_deleted (first_held b.unused) b.version) ∙ deleted);
-  border = filled_border (first_held b.unused) b.version ∙ h.border;
-  flags = λ set. filled_locked (first_held b.unused) b.version locked;
-  unspent = filled_unspent (first_held b.unused) b.version unspent h.unspent;
-  counters = filled_counters (first_held b.unused) b.version h.counters;
-  pending = all_written (with_filled b entry) written;
+  deleted_empty = h.deleted_empty;
+  border = h.border;
+  flags = h.flags;
+  unspent = h.unspent;
+  counters = h.counters;
+  pending = tt;
 }
 
 take_none : (k : ℕ) (xs : List Entry) → xs ≡ [] → take k xs ≡ []

@@ -5,18 +5,19 @@ use Rattle.mt_types.specs.declared.row.Row.{Row}
 use Rattle.mt_types.specs.declared.numbers.NodeNo.{NodeNo}
 use Rattle.mt_word.specs.Slots.{Slots, with_first_unused_at, without_place, with_first}
 use Rattle.mt_word.specs.Version.{VersionView}
-use Rattle.mt_border.specs.Entry.{IsEntry, at_version, with_row, with_link}
+use Rattle.mt_border.specs.Entry.{IsEntry, entry_with, at_version, with_row, with_link}
 use Rattle.mt_border.specs.Table.{TableView, IsSlotTable, blank_slot, live_slots, number_at, next_number, slot_changed, left_slot, with_entry, filled, marked, with_all_filled, with_more_live, row_of_first}
-use Rattle.mt_border.specs.Border.{BorderView, border_view, entries_of, first_held, first_row, first_suffix, filled_version, with_filled, with_shown, with_hidden, with_value, with_link_at, with_entries, with_split}
+use Rattle.mt_border.specs.Border.{BorderView, border_view, entries_of, first_held, first_row, first_suffix, inserting_version, with_inserting, with_filled, with_shown, with_hidden, with_value, with_link_at, with_entries, with_split}
 use Rattle.mt_border.specs.Order.{IsBorder, AreBelow}
 use Rattle.mt_border.proofs.TableLemmas.{length-picked, next_below, room_left}
 use Rattle.mt_border.proofs.SlotLemmas.{view_of_seen, length-with_all_filled}
-use Rattle.mt_border.proofs.BorderLemmas.{border_value, border_link, border_hidden, border_filled, border_split}
+use Rattle.mt_border.proofs.BorderLemmas.{border_value, border_link, border_hidden, awaits, border_inserting, border_filled, border_split}
 use Rattle.mt_border.specs.declared.entry.Entry.{Entry}
 use Rattle.mt_border.specs.declared.entry.RightLink.{RightLink}
 use Rattle.mt_border.specs.declared.slot_table.Slot.{Slot}
+use Rattle.mt_border.specs.declared.unwritten.SlotKey.{SlotKey}
 use Rattle.mt_border.specs.declared.unwritten.Unwritten.{Unwritten}
-use Rattle.mt_border.specs.declared.unwritten.Unwritten.TheVariants.{Nothing}
+use Rattle.mt_border.specs.declared.unwritten.Unwritten.TheVariants.{Nothing, Value}
 
 -- ---- entries are filled in, one after the other
 -- one more entry, at the next of the numbers that are left
@@ -123,15 +124,27 @@ module _ (layer low : ℕ) (right : Option RightLink) (version : VersionView) (t
       let seen = view_of_seen (with_link_at b i head) whole.seen in
       (seen, subst IsBorder (sym seen) whole)
 
-  pub sound_filled : (entry : Entry) (slot : Slot) (flagged : VersionView) → length b.live < 15 → version.locked ≡ true → left ≡ Nothing → slice_get b.unused 0 ≡ Some slot → flagged ≡ filled_version slot.held_key version → (slot.held_key ≡ true → version.vinsert < 2 ^ 56 - 1) → IsEntry entry → IsBorder b →
-      let new : BorderView = border_view layer low right flagged (record t { slots = slot_changed (next_number t.order) (filled entry) t.slots }) left in
-      (new ≡ with_filled b entry) × IsBorder new
-  sound_filled entry slot flagged room locked written first e unspent whole h =
+  -- the border is marked, and the key and the value of the first unused slot are written
+  pub sound_inserting : (slot : Slot) (flagged : VersionView) → version.locked ≡ true → left ≡ Nothing → slice_get b.unused 0 ≡ Some slot → flagged ≡ inserting_version slot.held_key version → (slot.held_key ≡ true → version.vinsert < 2 ^ 56 - 1) → IsBorder b →
+      let new : BorderView = border_view layer low right flagged t left in
+      (new ≡ with_inserting b) × IsBorder new
+  sound_inserting slot flagged locked written first e unspent h =
       let held : first_held b.unused ≡ slot.held_key = first_held_is b.unused slot first in
-      let same : filled_version (first_held b.unused) version ≡ flagged = ap (λ (held : Bool). filled_version held version) held ∙ sym e in
-      let made = border_filled b entry room locked written (λ was. unspent (sym held ∙ was)) whole h in
-      let seen = ap (λ (v : VersionView). border_view layer low right v (record t { slots = slot_changed (next_number t.order) (filled entry) t.slots }) left) (sym same) ∙ view_of_seen (with_filled b entry) made.seen in
-      (seen, subst IsBorder (sym seen) made)
+      let same : inserting_version (first_held b.unused) version ≡ flagged = ap (λ (held : Bool). inserting_version held version) held ∙ sym e in
+      let seen : border_view layer low right flagged t left ≡ with_inserting b = ap (λ (v : VersionView). border_view layer low right v t left) (sym same) in
+      (seen, subst IsBorder (sym seen) (border_inserting b locked written (λ was. unspent (sym held ∙ was)) h))
+
+  pub sound_filled : (own : SlotKey) (row : Row) (entry : Entry) → left ≡ Value own → entry ≡ entry_with own row → IsEntry entry → IsBorder b →
+      let new : BorderView = border_view layer low right version (record t { slots = slot_changed (next_number t.order) (filled entry) t.slots }) Nothing in
+      ((key : SlotKey) → left ≡ Value key → new ≡ with_filled b (entry_with key row)) × IsBorder new
+  sound_filled own row entry is e whole h =
+      let made = border_filled b entry (awaits b own is h).room whole h in
+      let seen = view_of_seen (with_filled b entry) made.seen in (
+        λ key named. (let same : Value own ≡ Value key = sym is ∙ named in
+            let key_is : own ≡ key = cc in
+            seen ∙ ap (λ (x : Entry). with_filled b x) (e ∙ ap (λ (k : SlotKey). entry_with k row) key_is)),
+        subst IsBorder (sym seen) made,
+      )
 
   -- the first unused slot has a version and a mark, and is live at place i
   pub sound_shown : (i number : ℕ) → length b.live < 15 → IsSlotTable t.slots t.order → IsBorder (with_shown b i number) →

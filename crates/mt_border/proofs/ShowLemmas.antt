@@ -11,11 +11,11 @@ use borrow.Author.Tests.{ltb-true, ltb-false}
 use Rattle.std.specs.Cmp.Lexicographic.{pointwise}
 use Rattle.mt_slice.specs.declared.slice_class.Class.{Class}
 use Rattle.mt_border.specs.Entry.{entry_rank, rank_at, IsEntry, IsContent, entry_class, at_version, content_at_version, content_class, content_row, content_of, entry_row}
-use Rattle.mt_border.specs.Border.{BorderView, with_shown, with_filled, first_held, next_row}
+use Rattle.mt_border.specs.Border.{BorderView, with_shown, with_filled, next_row}
 use Rattle.mt_border.specs.Table.{first_changed, filled, shown, slot_changed, next_number}
 use Rattle.mt_word.specs.Slots.{with_first_unused_at}
 use Rattle.mt_border.proofs.SlotLemmas.{seen_shown}
-use Rattle.mt_border.proofs.BorderLemmas.{filled_deleted, all_written}
+use Rattle.mt_border.proofs.BorderLemmas.{all_written}
 use Rattle.mt_types.specs.declared.row.Row.{Row}
 use Rattle.mt_slice.specs.declared.slice_class.Class.TheVariants.{Len, Long as LongClass}
 use Rattle.mt_border.specs.Order.{IsBorder, IsOrdered, IsLeftOf, HoldEntries, AreInSlots}
@@ -182,13 +182,13 @@ border_shown b slot rest i version e written here between low right h =
     })
 
 -- what was filled in may be shown where a search did not find it
-pub filled_shown : (b : BorderView) (entry : Entry) (suffix : List ℕ) (i version : ℕ) → length b.live < 15 → b.unwritten ≡ Nothing → b.version.deleted ≡ false → found_in entry.slice (entry_class entry) suffix b.live ≡ Absent i → b.low ≤ entry.slice → IsBeforeRight entry.slice b.right → IsBorder b → IsBorder (with_filled b entry) → IsBorder (with_shown (with_filled b entry) i version)
-filled_shown b entry suffix i version room written here absent low right h whole = go b.unused refl
+pub filled_shown : (b : BorderView) (entry : Entry) (suffix : List ℕ) (i version : ℕ) → length b.live < 15 → b.version.deleted ≡ false → found_in entry.slice (entry_class entry) suffix b.live ≡ Absent i → b.low ≤ entry.slice → IsBeforeRight entry.slice b.right → IsBorder b → IsBorder (with_filled b entry) → IsBorder (with_shown (with_filled b entry) i version)
+filled_shown b entry suffix i version room here absent low right h whole = go b.unused refl
   where
     go : (unused : List Slot) → b.unused ≡ unused → IsBorder (with_shown (with_filled b entry) i version)
     go [] e = absurd (let none : length b.unused ≡ 0 = ap (λ (u : List Slot). length u) e in omega (arith, h.slots, none))
     go (slot ∷ rest) e =
-        border_shown (with_filled b entry) (filled entry slot) rest i version (ap (λ (u : List Slot). first_changed (filled entry) u) e) written (filled_deleted (first_held b.unused) b.version ∙ here) (between_from_absent entry.slice (entry_class entry) suffix b.live i h.ordered absent) low right whole
+        border_shown (with_filled b entry) (filled entry slot) rest i version (ap (λ (u : List Slot). first_changed (filled entry) u) e) refl here (between_from_absent entry.slice (entry_class entry) suffix b.live i h.ordered absent) low right whole
 
 pub filled_row : (b : BorderView) (entry : Entry) → length b.live < 15 → IsSome (entry_row entry) → IsBorder b → IsSome (next_row (with_filled b entry).unused)
 filled_row b entry room row h = go b.unused refl

@@ -13,7 +13,8 @@ use Rattle.mt_border.specs.Table.{TableView, blank_slot, live_slots, unused_slot
 use Rattle.mt_border.specs.declared.entry.Entry.{Entry}
 use Rattle.mt_border.specs.declared.entry.RightLink.{RightLink}
 use Rattle.mt_border.specs.declared.unwritten.Unwritten.{Unwritten}
-use Rattle.mt_border.specs.declared.unwritten.Unwritten.TheVariants.{Nothing}
+use Rattle.mt_border.specs.declared.unwritten.Unwritten.TheVariants.{Nothing, Value}
+use Rattle.mt_border.specs.declared.unwritten.SlotKey.{SlotKey}
 use Rattle.mt_border.specs.declared.slot_table.Slot.{Slot}
 
 -- a border of a layer: the least slice that may stand in it, the border to the right, the version,
@@ -101,21 +102,29 @@ first_suffix (entry ∷ entries) = entry_suffix entry
 abbrev pub suffix_at : ℕ → List Entry → Option (List ℕ)
 suffix_at place live = first_suffix (drop place live)
 
--- a filling would set the flag of a counter that is at its greatest value
-abbrev pub fill_is_spent : BorderView → Bool
-fill_is_spent b = first_held b.unused && (b.version.vinsert == MAX_INSERTS)
+-- an insertion would set the flag of a counter that is at its greatest value
+abbrev pub insert_is_spent : BorderView → Bool
+insert_is_spent b = first_held b.unused && (b.version.vinsert == MAX_INSERTS)
 
--- the version, after a slot was filled that held a key before, or did not
-abbrev pub filled_version : Bool → VersionView → VersionView
-filled_version true v = record v { inserting = true }
-filled_version false v = v
+-- the version, before a key is inserted into a slot that held one before, or did not
+abbrev pub inserting_version : Bool → VersionView → VersionView
+inserting_version true v = record v { inserting = true }
+inserting_version false v = v
+
+-- the border once it is marked for the key that is to be inserted into the first unused slot
+abbrev pub with_inserting : BorderView → BorderView
+with_inserting b = record b { version = inserting_version (first_held b.unused) b.version }
+
+-- the border once that slot has this key, and its old value
+abbrev pub with_key : BorderView → SlotKey → BorderView
+with_key b key = record b { unwritten = Value key }
 
 -- the border once the first unused slot holds this entry
 abbrev pub with_filled : BorderView → Entry → BorderView
 with_filled b entry = record b {
-  version = filled_version (first_held b.unused) b.version;
   unused = first_changed (filled entry) b.unused;
   slots = slot_changed (next_number b.order) (filled entry) b.slots;
+  unwritten = Nothing;
 }
 
 -- the border once what the first unused slot holds is live at a place, its row made by the commit of this number

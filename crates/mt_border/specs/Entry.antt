@@ -9,6 +9,9 @@ use Rattle.mt_slice.specs.declared.slice_class.Class.TheVariants.{Len, Long as L
 use Rattle.mt_border.specs.declared.entry.Content.{Content}
 use Rattle.mt_border.specs.declared.entry.Content.TheVariants.{Short, Long, Link}
 use Rattle.mt_border.specs.declared.entry.Entry.{Entry}
+use Rattle.mt_border.specs.declared.unwritten.KeyRest.{KeyRest}
+use Rattle.mt_border.specs.declared.unwritten.KeyRest.TheVariants.{Ends, Continues}
+use Rattle.mt_border.specs.declared.unwritten.SlotKey.{SlotKey}
 
 -- the class of what is at a slice
 abbrev pub content_class : Content → Class
@@ -37,17 +40,29 @@ pub record IsEntry (entry : Entry) : Type 0 where
   pub slice_fits : entry.slice < 2 ^ 64
   pub content : IsContent entry.content
 
+-- what a row's key and its row are together
+abbrev pub content_with : KeyRest → Row → Content
+content_with (Ends bytes) row = Short bytes row
+content_with (Continues suffix) row = Long suffix row
+
+abbrev pub entry_with : SlotKey → Row → Entry
+entry_with key row = record { slice = key.slice; content = content_with key.rest row }
+
+-- the key with this rest in the layer
+abbrev pub rest_after : Class → List ℕ → KeyRest
+rest_after (Len bytes) suffix = Ends bytes
+rest_after LongClass suffix = Continues suffix
+
+abbrev pub key_of_rest : List ℕ → SlotKey
+key_of_rest rest = record { slice = slice_number rest; rest = rest_after (class_of (length rest)) (drop 8 rest) }
+
 -- the row of a key whose rest in the layer has this class, and this after its slice
 abbrev pub content_of : Class → List ℕ → Row → Content
-content_of (Len bytes) suffix row = Short bytes row
-content_of LongClass suffix row = Long suffix row
+content_of class suffix row = content_with (rest_after class suffix) row
 
 -- the entry of a key with this rest in the layer
 abbrev pub entry_of_row : List ℕ → Row → Entry
-entry_of_row rest row = record {
-  slice = slice_number rest;
-  content = content_of (class_of (length rest)) (drop 8 rest) row;
-}
+entry_of_row rest row = entry_with (key_of_rest rest) row
 
 -- the row, if there is one
 abbrev pub content_row : Content → Option Row

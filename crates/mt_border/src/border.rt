@@ -1,13 +1,12 @@
 //! A border node: fifteen slots, their order, its low and its right link, and its changes.
 
-ghost use Rattle.std.specs.Prelude.{◌≡◌, ◌+◌, ◌<◌, ◌≤◌, ◌↔◌, length, take, drop, slice_get, Some, IsSome, IsOk, IsErr, IsTrue, OnOk, OnErr, IfOk, IfErr, true, false, []};
+ghost use Rattle.std.specs.Prelude.{◌≡◌, ◌+◌, ◌<◌, ◌≤◌, ◌↔◌, length, take, drop, slice_get, Some, IsSome, IsTrue, IfOk, true, false, []};
 ghost use Rattle.std.specs.List.{list_any};
 ghost use Rattle.std.specs.Bool.{IsFalse};
 ghost use Rattle.mt_word.specs.declared.permutation_word.TheConstants.{SLOTS};
-ghost use Rattle.mt_word.specs.declared.version_word.TheConstants.{MAX_INSERTS, MAX_SPLITS};
-ghost use Rattle.mt_word.specs.Version.{IsVersion};
+ghost use Rattle.mt_word.specs.declared.version_word.TheConstants.{MAX_SPLITS};
 ghost use Rattle.mt_border.specs.Entry.{IsEntry};
-ghost use Rattle.mt_border.specs.Border.{new_border, with_filled, with_shown, with_hidden, with_value, with_link_at, with_entries, with_split, with_right, with_locked, with_unlocked, with_deleted, right_for, row_at, suffix_at, fill_is_spent, filled_version, next_row};
+ghost use Rattle.mt_border.specs.Border.{new_border, with_hidden, with_value, with_link_at, with_entries, with_split, with_right, with_locked, with_unlocked, with_deleted, right_for, row_at, suffix_at};
 ghost use Rattle.mt_border.specs.Keys.{IsKeyPart};
 ghost use Rattle.mt_border.specs.Parts.{IsValueOf};
 ghost use Rattle.mt_border.specs.Slots.{slot_at, key_at};
@@ -21,7 +20,7 @@ use crate::unwritten::Unwritten;
 use mt_types::copying::TryCopy;
 use mt_types::items::Items;
 use mt_types::numbers::NodeNo;
-use mt_types::refusal::{NoMemory, Refusal};
+use mt_types::refusal::NoMemory;
 use mt_types::row::Row;
 use mt_word::{Permutation, SLOTS, Version};
 use std::alloc::Global;
@@ -36,9 +35,9 @@ pub struct Border {
     layer: u8,
     low: u64,
     right: Option<RightLink>,
-    version: Version,
-    table: SlotTable,
-    unwritten: Unwritten,
+    pub(crate) version: Version,
+    pub(crate) table: SlotTable,
+    pub(crate) unwritten: Unwritten,
 }
 
 impl Model for Border {
@@ -50,20 +49,6 @@ impl Model for Border {
     ghost view = { λ b. border_view b.layer b.low b.right b.version b.table b.unwritten };
 
     ghost invariant = { λ b. IsBorder (border_view b.layer b.low b.right b.version b.table b.unwritten) };
-}
-
-// The version after a slot was filled, which held a key before or did not.
-fn version_filled(version: Version, held_key: bool) -> Result<Version, Refusal>
-    ensures ok { IfOk result (λ flagged. flagged ≡ filled_version held_key version) }
-    ensures unspent { IsOk result → held_key ≡ true → version.vinsert < MAX_INSERTS }
-    ensures spent { IsErr result ↔ ((held_key ≡ true) × (version.vinsert ≡ MAX_INSERTS)) }
-    ensures only { IfErr result (λ refusal. refusal ≡ Refusal.Spent) }
-{
-    let mut flagged = version;
-    if held_key && flagged.set_inserting().is_err() {
-        return Err(Refusal::Spent);
-    }
-    Ok(flagged)
 }
 
 // The version while the border is split.
@@ -158,15 +143,6 @@ impl Border {
         self.version.is_split_spent()
     }
 
-    /// Whether a fill of the first unused slot is refused: that slot held a key, and the counter of insertions is at
-    /// its greatest value, 2^56 - 1. Constant cost.
-    pub fn is_fill_spent(&self) -> bool
-        requires { length self.now.live < SLOTS }
-        ensures { IsTrue result ↔ IsTrue (fill_is_spent self.now) }
-    {
-        self.table.first_unused().held_key && self.version.is_insert_spent()
-    }
-
     /// The live entry at a place. Constant cost.
     #[inline]
     pub fn entry(&self, place: usize) -> &Entry
@@ -253,47 +229,6 @@ impl Border {
         ensures sound { IsBorder self.new }
     {
         self.version.mark_deleted();
-    }
-
-    /// Writes an entry into the first unused slot, in which it isn't visible. If that slot held a key, the border is
-    /// marked as one into which keys are being inserted, until it is unlocked. The slot then holds no key that was live.
-    /// Constant cost.
-    ///
-    /// # Errors
-    ///
-    /// `Spent` if the slot held a key, and the counter of insertions is at its greatest value, 2^56 - 1. Nothing is
-    /// changed then.
-    pub fn fill_slot(&mut self, entry: Entry) -> Result<(), Refusal>
-        requires room { length self.old.live < SLOTS }
-        requires locked { self.old.version.locked ≡ true }
-        requires written { self.old.unwritten ≡ Nothing }
-        ensures filled { OnOk result (self.new ≡ with_filled self.old entry) }
-        ensures unchanged { OnErr result (self.new ≡ self.old) }
-        ensures spent { IsErr result ↔ IsTrue (fill_is_spent self.old) }
-        ensures only { IfErr result (λ refusal. refusal ≡ Refusal.Spent) }
-        ensures sound { IsBorder self.new }
-    {
-        let _class = entry.class();
-        let held_key = self.table.first_unused().held_key;
-        self.version = version_filled(self.version, held_key)?;
-        self.table.fill(entry);
-        Ok(())
-    }
-
-    /// Makes what the first unused slot holds live at this place, with its row as made by the commit of this number.
-    /// The permutation alone makes it visible. Constant cost.
-    pub fn show(&mut self, place: usize, version: u64)
-        requires room { length self.old.live < SLOTS }
-        requires written { self.old.unwritten ≡ Nothing }
-        requires within { place ≤ length self.old.live }
-        requires row { IsSome (next_row self.old.unused) }
-        requires sound { IsBorder (with_shown self.old place version) }
-        ensures value { self.new ≡ with_shown self.old place version }
-        ensures sound { IsBorder self.new }
-    {
-        self.table.stamp(version);
-        self.table.mark();
-        self.table.insert_at(place);
     }
 
     /// Hides the entry at this place, by the permutation alone. Its slot is then the first unused one, and one that

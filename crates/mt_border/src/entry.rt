@@ -6,7 +6,8 @@ ghost use Rattle.mt_slice.specs.Classes.{place_at};
 ghost use Rattle.std.specs.Option.{option_copied};
 ghost use Rattle.mt_border.specs.Entry.{entry_class, entry_of_row, entry_row, IsEntry};
 
-use mt_slice::{Class, Length, SLICE_BYTES, slice_of};
+use crate::unwritten::SlotKey;
+use mt_slice::{Class, Length};
 use mt_types::copying::TryCopy;
 use mt_types::numbers::NodeNo;
 use mt_types::refusal::NoMemory;
@@ -110,12 +111,7 @@ impl Entry {
         ensures whole { IfOk result IsEntry }
         ensures short { length rest.now ≤ 8 → IsOk result }
     {
-        let (slice, class) = slice_of(rest);
-        let content = match class {
-            Class::Len(bytes) => Content::Short(bytes, row),
-            Class::Long => Content::Long(Suffix::copied(alloc, &rest[SLICE_BYTES..])?, row),
-        };
-        Ok(Entry { slice, content })
+        Ok(SlotKey::of_rest(alloc, rest)?.with_row(row))
     }
 
     /// The row, if the entry has one: a link has none. Constant cost.

@@ -5,6 +5,7 @@ mod border;
 mod entry;
 mod field;
 mod found;
+mod inserting;
 mod search;
 mod slot_table;
 mod unwritten;

@@ -1,12 +1,18 @@
 //! What of a locked border isn't written yet where others read it.
 
-ghost use Rattle.std.specs.Prelude.{◌≡◌};
+ghost use Rattle.std.specs.Prelude.{◌≡◌, ◌≤◌, IfOk, IsOk, length, drop};
+ghost use Rattle.mt_slice.specs.Place.{place_of};
+ghost use Rattle.mt_slice.specs.Classes.{place_at};
+ghost use Rattle.mt_border.specs.Entry.{entry_with, key_of_rest, IsEntry};
 ghost use Rattle.std.specs.Option.{option_copied};
 ghost use Rattle.mt_border.specs.Keys.{key_class, key_suffix, key_seen, IsKey, IsKeyPart};
 
-use crate::entry::Suffix;
+use crate::entry::{Content, Entry, Suffix};
 use crate::field::{KeyPart, Mark};
-use mt_slice::{Class, Length};
+use mt_slice::{Class, Length, SLICE_BYTES, slice_of};
+use mt_types::refusal::NoMemory;
+use mt_types::row::Row;
+use std::alloc::Global;
 
 /// How the key of a row continues after its slice.
 #[derive(Debug, Drop)]
@@ -46,6 +52,43 @@ impl KeyRest {
 }
 
 impl SlotKey {
+    /// The key in a layer, from its rest there.
+    ///
+    /// Takes no memory if the rest has at most eight bytes. Otherwise it copies the bytes after the eighth, with two
+    /// allocations.
+    ///
+    /// # Errors
+    ///
+    /// `NoMemory` if an allocation is refused.
+    pub fn of_rest(alloc: Global, rest: &[u8]) -> Result<SlotKey, NoMemory>
+        ensures value { IfOk result (λ key. key ≡ key_of_rest rest.now) }
+        ensures place { IfOk result (λ key. place_of rest.now ≡ place_at key.slice (key_class key.rest)
+            (place_of (drop 8 rest.now))) }
+        ensures whole { IfOk result (λ key. IsKey (key_seen key)) }
+        ensures short { length rest.now ≤ 8 → IsOk result }
+    {
+        let (slice, class) = slice_of(rest);
+        let rest = match class {
+            Class::Len(bytes) => KeyRest::Ends(bytes),
+            Class::Long => KeyRest::Continues(Suffix::copied(alloc, &rest[SLICE_BYTES..])?),
+        };
+        Ok(SlotKey { slice, rest })
+    }
+
+    /// The entry of the key with a row. Takes no memory.
+    pub fn with_row(self, row: Row) -> Entry
+        requires { IsKey (key_seen self) }
+        ensures value { result ≡ entry_with self row }
+        ensures whole { IsEntry result }
+    {
+        let SlotKey { slice, rest } = self;
+        let content = match rest {
+            KeyRest::Ends(bytes) => Content::Short(bytes, row),
+            KeyRest::Continues(suffix) => Content::Long(suffix, row),
+        };
+        Entry { slice, content }
+    }
+
     // The class of the key.
     fn class(&self) -> Class
         ensures value { result ≡ key_class self.now.rest }
