@@ -11,8 +11,9 @@ use Rattle.mt_types.specs.declared.numbers.NodeNo.{NodeNo}
 use Rattle.mt_word.specs.Version.{number_of}
 use Rattle.mt_border.specs.Entry.{entry_suffix, content_with_row, with_row, with_link}
 use Rattle.mt_border.specs.Table.{blank_slot, picked, number_at, next_number, slot_changed, with_entry, filled}
-use Rattle.mt_border.specs.Border.{BorderView, first_held, first_suffix, suffix_at, filled_version, with_locked, with_unlocked, with_deleted, with_filled, with_shown, with_hidden, with_value, with_link_at, with_split, with_right}
-use Rattle.mt_border.specs.Order.{IsBorder}
+use Rattle.mt_border.specs.Border.{BorderView, first_held, first_suffix, suffix_at, inserting_version, with_locked, with_unlocked, with_deleted, with_inserting, with_key, with_filled, with_shown, with_hidden, with_value, with_link_at, with_split, with_right}
+use Rattle.mt_border.specs.Order.{IsBorder, AwaitsValue}
+use Rattle.mt_border.proofs.BorderLemmas.{awaits}
 use Rattle.mt_border.specs.Slots.{slot_at, is_live, held_at}
 use Rattle.mt_border.proofs.TableLemmas.{length-picked, picked_at}
 use Rattle.mt_border.proofs.SlotLemmas.{live_count, seen_filled, seen_hidden, seen_changed, seen_split, seen_shown}
@@ -23,6 +24,8 @@ use Rattle.mt_border.specs.declared.entry.Content.TheVariants.{Short, Long, Link
 use Rattle.mt_border.specs.declared.entry.Entry.{Entry}
 use Rattle.mt_border.specs.declared.entry.RightLink.{RightLink}
 use Rattle.mt_border.specs.declared.slot_table.Slot.{Slot}
+use Rattle.mt_border.specs.declared.unwritten.SlotKey.{SlotKey}
+use Rattle.mt_border.specs.declared.unwritten.Unwritten.TheVariants.{Value}
 use Rattle.mt_chart.specs.Tree.{Among, first, later, Below, no_right, before_right}
 use Rattle.mt_chart.proofs.Basics.{same_number}
 use Rattle.mt_chart.specs.Noted.{SlotSeen, FieldsSeen, AreSlots, IsSameKey, KeepsSlot, StaysQuiet, Ages}
@@ -119,6 +122,21 @@ hidden_lives live place k h =
     let either = or_less (list_any p (take place live)) (list_any p (drop (place + 1) live)) (list_any p (drop place live)) rest (sym (list_any-append p (take place live) (drop (place + 1) live)) ∙ h) in
     ap (λ (l : List ℕ). list_any p l) (sym (take-append-drop place live)) ∙ (list_any-append p (take place live) (drop place live) ∙ either)
 
+-- THE BORDER IS MARKED for an insertion, if its first unused slot held a key: then it is not quiet
+fields_inserting : (b : BorderView) → Ages (fields_seen b) (fields_seen (with_inserting b))
+fields_inserting b = go (first_held b.unused)
+  where
+    go : (held : Bool) → Ages (fields_seen b) (fields_seen (record b { version = inserting_version held b.version }))
+    go false = fields_same (fields_seen b)
+    go true = record {
+      inserts = omega arith;
+      splits = omega arith;
+      inserted = λ set not. absurd (cc);
+      split = λ set not. let clash : true ≡ false = sym set ∙ not in absurd (cc);
+      deleted = λ d. d;
+      quiet = λ v q r. let clash : true ≡ false = r.no_insert in absurd (cc);
+    }
+
 -- ---- the first unused slot
 module _ (b : BorderView) (h : IsBorder b) (room : length b.live < 15) where
   -- what held a key is not the slot that is filled next
@@ -128,26 +146,22 @@ module _ (b : BorderView) (h : IsBorder b) (room : length b.live < 15) where
       let clash : true ≡ false = sym here ∙ (sym (first_held_is_next b h room) ∙ not) in
       cc
 
-  -- the border once that slot is filled, with a version that says that it held a key, or did not
-  abbrev filled_as : Entry → Bool → BorderView
-  filled_as entry held = record (with_filled b entry) { version = filled_version held b.version }
-
-  -- THE FIRST UNUSED SLOT IS FILLED: if it held a key, the border is then not quiet
-  fields_filled : (entry : Entry) → Ages (fields_seen b) (fields_seen (with_filled b entry))
-  fields_filled entry = go (first_held b.unused) refl
+  -- THE FIRST UNUSED SLOT IS FILLED, whose key is written: if it held a key, the border is not quiet
+  fields_filled : (key : SlotKey) → AwaitsValue b key → (entry : Entry) → Ages (fields_seen b) (fields_seen (with_filled b entry))
+  fields_filled key await entry = go (first_held b.unused) refl
     where
-      go : (held : Bool) → first_held b.unused ≡ held → Ages (fields_seen b) (fields_seen (filled_as entry held))
+      go : (held : Bool) → first_held b.unused ≡ held → Ages (fields_seen b) (fields_seen (with_filled b entry))
       go true was = record {
         inserts = omega arith;
         splits = omega arith;
-        inserted = λ set not. absurd (cc);
+        inserted = λ set not. let clash : true ≡ false = sym set ∙ not in absurd (cc);
         split = λ set not. let clash : true ≡ false = sym set ∙ not in absurd (cc);
         deleted = λ d. d;
-        quiet = λ v q r. let clash : true ≡ false = r.no_insert in absurd (cc);
+        quiet = λ v q r. let clash : true ≡ false = sym (await.flagged was) ∙ q.no_insert in absurd (cc);
       }
       go false not =
-          let same : (k : ℕ) → held_at b k ≡ true → slot_at (filled_as entry false) k ≡ slot_at b k = λ k held. changed_elsewhere b.slots (next_number b.order) k (filled entry) (other_held not k held) in
-          still (fields_seen b) (fields_seen (filled_as entry false)) refl refl refl refl (λ d. d) (beside (fields_seen b) (fields_seen (filled_as entry false))
+          let same : (k : ℕ) → held_at b k ≡ true → slot_at (with_filled b entry) k ≡ slot_at b k = λ k held. changed_elsewhere b.slots (next_number b.order) k (filled entry) (other_held not k held) in
+          still (fields_seen b) (fields_seen (with_filled b entry)) refl refl refl refl (λ d. d) (beside (fields_seen b) (fields_seen (with_filled b entry))
           (λ k held. ap (λ (s : Slot). s.held_key) (same k held) ∙ held)
           (λ k held. ap (λ (s : Slot). slot_seen s.entry) (same k held))
           (λ k held lives. lives)
@@ -261,8 +275,16 @@ ages_deleted b = record { low = refl; fields = fields_deleted b; slots = λ seen
 pub ages_right : (b : BorderView) (right : Option RightLink) → NotLower b.right right → BorderAges b (with_right b right)
 ages_right b right up = record { low = refl; fields = fields_right b right up; slots = λ seen. seen }
 
-pub ages_filled : (b : BorderView) → IsBorder b → length b.live < 15 → (entry : Entry) → BorderAges b (with_filled b entry)
-ages_filled b h room entry = record { low = refl; fields = fields_filled b h room entry; slots = λ seen. seen_filled b.live b.unused b.slots b.order seen entry room }
+pub ages_inserting : (b : BorderView) → BorderAges b (with_inserting b)
+ages_inserting b = record { low = refl; fields = fields_inserting b; slots = λ seen. seen }
+
+pub ages_keyed : (b : BorderView) (key : SlotKey) → BorderAges b (with_key b key)
+ages_keyed b key = record { low = refl; fields = fields_same (fields_seen b); slots = λ seen. seen }
+
+pub ages_filled : (b : BorderView) → IsBorder b → (key : SlotKey) → b.unwritten ≡ Value key → (entry : Entry) → BorderAges b (with_filled b entry)
+ages_filled b h key is entry =
+    let await = awaits b key is h in
+    record { low = refl; fields = fields_filled b h await.room key await entry; slots = λ seen. seen_filled b.live b.unused b.slots b.order seen entry await.room }
 
 pub ages_shown : (b : BorderView) → IsBorder b → length b.live < 15 → (place version : ℕ) → first_held b.unused ≡ false → BorderAges b (with_shown b place version)
 ages_shown b h room place version fresh = record { low = refl; fields = fields_shown b h room place version fresh; slots = λ seen. seen_shown b.live b.unused b.slots b.order place version seen room }

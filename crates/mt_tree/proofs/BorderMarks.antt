@@ -1,10 +1,14 @@
 -- A border that is locked, unlocked or marked deleted, or whose unused slots are filled, keeps the tree at each chart.
 use Rattle.std.proofs.Common.{ℕ, zero, suc, ◌≡◌, List, [], Option, Some, None, true, Result, Ok, Err, OnOk, OnErr, refl, ap, sym, subst, ◌∙◌}
 use Rattle.std.specs.Option.{option_map}
-use Rattle.mt_border.specs.Border.{BorderView, first_held, with_filled, with_locked, with_unlocked, with_deleted}
+use Rattle.mt_border.specs.Border.{BorderView, first_held, with_inserting, with_key, with_filled, with_locked, with_unlocked, with_deleted}
 use Rattle.mt_border.specs.Order.{IsBorder}
-use Rattle.mt_border.specs.declared.entry.Entry.{Entry}
-use Rattle.mt_border.proofs.BorderLemmas.{filled_deleted}
+use Rattle.mt_types.specs.declared.row.Row.{Row}
+use Rattle.mt_border.specs.Entry.{entry_with}
+use Rattle.mt_border.specs.declared.unwritten.Unwritten.TheVariants.{Value}
+use Rattle.mt_tree.specs.BorderSteps.{AwaitsSome}
+use Rattle.mt_border.specs.declared.unwritten.SlotKey.{SlotKey}
+use Rattle.mt_border.proofs.BorderLemmas.{inserting_deleted}
 use Rattle.mt_arena.specs.Node.{border_at}
 use Rattle.mt_arena.specs.Arena.{ArenaView, with_node_at}
 use Rattle.mt_arena.specs.declared.node.Node.TheVariants.{Border}
@@ -39,10 +43,14 @@ pub record IsMarked (b b' : BorderView) : Type 0 where
   pub live : b'.live ≡ b.live
   pub deleted : b.version.deleted ≡ true → b'.version.deleted ≡ true
 
--- a slot is filled, or nothing is changed
-pub filled_is_marked : {T E : Type 0} (result : Result T E) (b b' : BorderView) (entry : Entry) → OnOk result (b' ≡ with_filled b entry) → OnErr result (b' ≡ b) → IsMarked b b'
-filled_is_marked (Ok done) b b' entry filled unchanged = rw filled (record { low = refl; right = refl; live = refl; deleted = λ marked. filled_deleted (first_held b.unused) b.version ∙ marked })
-filled_is_marked (Err refusal) b b' entry filled unchanged = rw unchanged (record { low = refl; right = refl; live = refl; deleted = λ marked. marked })
+-- the border is marked for an insertion, or nothing is changed
+pub inserting_is_marked : {T E : Type 0} (result : Result T E) (b b' : BorderView) → OnOk result (b' ≡ with_inserting b) → OnErr result (b' ≡ b) → IsMarked b b'
+inserting_is_marked (Ok done) b b' marked unchanged = rw marked (record { low = refl; right = refl; live = refl; deleted = λ deleted. inserting_deleted (first_held b.unused) b.version ∙ deleted })
+inserting_is_marked (Err refusal) b b' marked unchanged = rw unchanged (record { low = refl; right = refl; live = refl; deleted = λ deleted. deleted })
+
+-- the value of its first unused slot is written
+pub valued_is_marked : (b b' : BorderView) (row : Row) → AwaitsSome b → ((key : SlotKey) → b.unwritten ≡ Value key → b' ≡ with_filled b (entry_with key row)) → IsMarked b b'
+valued_is_marked b b' row (key, is) value = rw (value key is) (record { low = refl; right = refl; live = refl; deleted = λ deleted. deleted })
 
 module _ (a : ArenaView) (number : ℕ) (b b' : BorderView) (is : border_at a.nodes number ≡ Some b) (same : IsMarked b b') (sound : IsBorder b') where
   here : arena_seen a number ≡ Some (border (border_seen b))
@@ -103,3 +111,6 @@ unlock_keeps a number b is sound = marked_keeps a number b (with_unlocked b) is 
 
 pub mark_keeps : (a : ArenaView) (number : ℕ) (b : BorderView) → border_at a.nodes number ≡ Some b → IsBorder (with_deleted b) → KeepsTree a (with_node_at a number (Border (with_deleted b)))
 mark_keeps a number b is sound = marked_keeps a number b (with_deleted b) is (record { low = refl; right = refl; live = refl; deleted = λ marked. refl }) sound
+
+pub key_keeps : (a : ArenaView) (number : ℕ) (b : BorderView) (key : SlotKey) → border_at a.nodes number ≡ Some b → IsBorder (with_key b key) → KeepsTree a (with_node_at a number (Border (with_key b key)))
+key_keeps a number b key is sound = marked_keeps a number b (with_key b key) is (record { low = refl; right = refl; live = refl; deleted = λ marked. marked }) sound

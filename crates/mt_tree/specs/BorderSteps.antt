@@ -6,12 +6,14 @@ use Rattle.mt_types.specs.declared.numbers.NodeNo.{NodeNo}
 use Rattle.mt_word.specs.declared.permutation_word.TheConstants.{SLOTS}
 use Rattle.mt_word.specs.declared.version_word.TheConstants.{MAX_SPLITS}
 use Rattle.mt_border.specs.Entry.{entry_row}
-use Rattle.mt_border.specs.Border.{BorderView, next_row, row_at, with_shown}
+use Rattle.mt_border.specs.Border.{BorderView, first_held, next_row, row_at, with_shown}
 use Rattle.mt_border.specs.Order.{IsBorder, AreBelow}
 use Rattle.mt_border.specs.declared.entry.Content.TheVariants.{Long, Link}
 use Rattle.mt_border.specs.declared.entry.Entry.{Entry}
 use Rattle.mt_border.specs.declared.slot_table.Slot.{Slot}
-use Rattle.mt_border.specs.declared.unwritten.Unwritten.TheVariants.{Nothing}
+use Rattle.mt_border.specs.declared.unwritten.Unwritten.TheVariants.{Nothing, Value}
+use Rattle.mt_border.specs.declared.unwritten.SlotKey.{SlotKey}
+use Rattle.mt_border.specs.Keys.{key_seen, IsKey}
 use Rattle.mt_interior.specs.Head.{HeadView}
 use Rattle.mt_arena.specs.Node.{Nodes, head_at, border_at}
 use Rattle.mt_arena.specs.Arena.{ArenaView}
@@ -19,6 +21,18 @@ use Rattle.mt_chart.specs.Chart.{on, gone, top, at_level, spot, Chart, OnHead, C
 use Rattle.mt_chart.specs.Steps.{Twin, AreTwins}
 use Rattle.mt_tree.specs.Seen.{entry_place}
 use Rattle.mt_tree.specs.Keeping.{IsOnIn, KeepsAlong, AddsRow, RemovesRow, ReplacesRow}
+
+-- A KEY IS WRITTEN into the first unused slot, of which the border has one. If the slot held a key, the border is marked.
+pub record MayWriteKey (b : BorderView) (key : SlotKey) : Type 0 where
+  pub room : length b.live < SLOTS
+  pub locked : b.version.locked ≡ true
+  pub written : b.unwritten ≡ Nothing
+  pub marked : first_held b.unused ≡ true → b.version.inserting ≡ true
+  pub whole : IsKey (key_seen key)
+
+-- ITS VALUE IS WRITTEN: the key is
+abbrev pub AwaitsSome : BorderView → Type 0
+AwaitsSome b = (key : SlotKey) × (b.unwritten ≡ Value key)
 
 -- A ROW IS SHOWN. The border has room, its first unused slot holds a row, whose key and value are written, and once that
 -- is live at the place, the border is in order and in its interval.

@@ -1,22 +1,24 @@
 //! What a call changes in a border node, and what each change keeps of the whole tree.
 
 ghost use Rattle.std.specs.Prelude.{◌≡◌, ◌↔◌, [], Some, true, false, IsSomeAnd, IsTrue, IsErr, OnOk, OnErr, IfErr, length, ◌<◌};
-ghost use Rattle.mt_border.specs.Border.{with_locked, with_unlocked, with_deleted, with_filled, with_shown, with_hidden, with_value, with_split, with_link_at, with_right, fill_is_spent, row_at};
+ghost use Rattle.mt_border.specs.Border.{with_locked, with_unlocked, with_deleted, with_inserting, with_key, with_filled, with_shown, with_hidden, with_value, with_split, with_link_at, with_right, insert_is_spent, row_at};
 ghost use Rattle.mt_word.specs.declared.permutation_word.TheConstants.{SLOTS};
 ghost use Rattle.mt_border.specs.Order.{IsBorder};
-ghost use Rattle.mt_border.specs.declared.unwritten.Unwritten.TheVariants.{Nothing};
+ghost use Rattle.mt_border.specs.declared.unwritten.Unwritten.TheVariants.{Nothing, Value};
+ghost use Rattle.mt_border.specs.declared.unwritten.SlotKey.{SlotKey as SlotKeyView};
+ghost use Rattle.mt_border.specs.Entry.{entry_with};
 ghost use Rattle.mt_arena.specs.Node.{border_at};
 ghost use Rattle.mt_arena.specs.Arena.{with_border_changed};
 ghost use Rattle.mt_tree.specs.Keeping.{KeepsTree};
-ghost use Rattle.mt_tree.specs.BorderSteps.{MayShowAt, ShowsNext, HasRowAt, HidesRowAt, SetsRowAt, IsUpperHalf, LinksHalfAt, HasLayerFor, MakesLayerAt, IsMarkedRight, UnlinksAt, HasMarkedLayerAt, DropsLayerAt};
+ghost use Rattle.mt_tree.specs.BorderSteps.{MayWriteKey, AwaitsSome, MayShowAt, ShowsNext, HasRowAt, HidesRowAt, SetsRowAt, IsUpperHalf, LinksHalfAt, HasLayerFor, MakesLayerAt, IsMarkedRight, UnlinksAt, HasMarkedLayerAt, DropsLayerAt};
 
 use crate::tree::Tree;
-use mt_border::{Entry, RightLink};
+use mt_border::{RightLink, SlotKey};
 use mt_types::numbers::NodeNo;
 use mt_types::refusal::Refusal;
 use mt_types::row::Row;
 
-#[tactic(auto, using(crate::proofs::SeenLemmas::sound_border, crate::proofs::BorderMarks::lock_keeps, crate::proofs::BorderMarks::unlock_keeps, crate::proofs::BorderMarks::mark_keeps, crate::proofs::BorderRows::shows_next, crate::proofs::BorderRows::hides_at, crate::proofs::BorderRows::sets_at, crate::proofs::UnlinkSteps::may_take_right, crate::proofs::LayerSteps::makes_layer, crate::proofs::LayerSteps::drops_layer))]
+#[tactic(auto, using(crate::proofs::SeenLemmas::sound_border, crate::proofs::BorderMarks::lock_keeps, crate::proofs::BorderMarks::unlock_keeps, crate::proofs::BorderMarks::mark_keeps, crate::proofs::BorderMarks::key_keeps, crate::proofs::BorderRows::shows_next, crate::proofs::BorderRows::hides_at, crate::proofs::BorderRows::sets_at, crate::proofs::UnlinkSteps::may_take_right, crate::proofs::LayerSteps::makes_layer, crate::proofs::LayerSteps::drops_layer))]
 impl Tree {
     /// Locks a border. Constant cost.
     pub fn lock_border(&mut self, number: NodeNo)
@@ -50,25 +52,46 @@ impl Tree {
         self.arena.border_mut(number).mark_deleted();
     }
 
-    /// Writes an entry into the first unused slot of a border, in which it isn't visible. If that slot held a key, the
-    /// border is marked as one into which keys are being inserted, until it is unlocked. Constant cost.
+    /// Marks a border as one into which keys are being inserted, if its first unused slot held a key. It is so marked until
+    /// it is unlocked. Constant cost.
     ///
     /// # Errors
     ///
     /// `Spent` if the slot held a key, and the counter of insertions is at its greatest value, 2^56 - 1. Nothing is
     /// changed then.
-    pub fn fill_slot(&mut self, number: NodeNo, entry: Entry) -> Result<(), Refusal>
+    pub fn mark_inserting(&mut self, number: NodeNo) -> Result<(), Refusal>
         requires room { IsSomeAnd (border_at self.old.nodes number.0) (λ b. length b.live < SLOTS) }
         requires locked { IsSomeAnd (border_at self.old.nodes number.0) (λ b. b.version.locked ≡ true) }
         requires written { IsSomeAnd (border_at self.old.nodes number.0) (λ b. b.unwritten ≡ Nothing) }
-        ensures filled { OnOk result (self.new ≡ with_border_changed self.old number.0 (λ b. with_filled b entry)) }
+        ensures marked { OnOk result (self.new ≡ with_border_changed self.old number.0 with_inserting) }
         ensures unchanged { OnErr result (self.new ≡ self.old) }
-        ensures spent { IsErr result ↔ IsSomeAnd (border_at self.old.nodes number.0) (λ b. IsTrue (fill_is_spent b)) }
+        ensures spent { IsErr result ↔ IsSomeAnd (border_at self.old.nodes number.0) (λ b. IsTrue (insert_is_spent b)) }
         ensures only { IfErr result (λ refusal. refusal ≡ Refusal.Spent) }
         ensures sound { IsSomeAnd (border_at self.new.nodes number.0) IsBorder }
         ensures keeps { KeepsTree self.old self.new }
     {
-        self.arena.border_mut(number).fill_slot(entry)
+        self.arena.border_mut(number).mark_inserting()
+    }
+
+    /// Writes the key of the first unused slot of a border, in which it isn't visible. Constant cost.
+    pub fn write_key(&mut self, number: NodeNo, key: SlotKey)
+        requires { IsSomeAnd (border_at self.old.nodes number.0) (λ b. MayWriteKey b key) }
+        ensures value { self.new ≡ with_border_changed self.old number.0 (λ b. with_key b key) }
+        ensures sound { IsSomeAnd (border_at self.new.nodes number.0) IsBorder }
+        ensures keeps { KeepsTree self.old self.new }
+    {
+        self.arena.border_mut(number).write_key(key);
+    }
+
+    /// Writes the value of the first unused slot of a border, whose key is written. Constant cost.
+    pub fn write_value(&mut self, number: NodeNo, row: Row)
+        requires { IsSomeAnd (border_at self.old.nodes number.0) AwaitsSome }
+        ensures value { (key : SlotKeyView) → IsSomeAnd (border_at self.old.nodes number.0) (λ b. b.unwritten ≡ Value key)
+            → self.new ≡ with_border_changed self.old number.0 (λ b. with_filled b (entry_with key row)) }
+        ensures sound { IsSomeAnd (border_at self.new.nodes number.0) IsBorder }
+        ensures keeps { KeepsTree self.old self.new }
+    {
+        self.arena.border_mut(number).write_value(row);
     }
 
     /// Makes the row that the first unused slot of a border holds live at a place, as made by the commit of this
