@@ -7,7 +7,7 @@ use Rattle.mt_types.specs.declared.numbers.NodeNo.{NodeNo}
 use Rattle.mt_types.specs.declared.event.Answer.TheVariants.{Tidied}
 use Rattle.mt_types.specs.declared.event.TidyRule.TheVariants.{EmptyLayer as LayerRule}
 use Rattle.mt_slice.specs.Place.{slices_above}
-use Rattle.mt_border.specs.Border.{BorderView, with_lock, with_deleted}
+use Rattle.mt_border.specs.Border.{BorderView, with_locked, with_unlocked, with_deleted}
 use Rattle.mt_border.specs.declared.entry.Content.TheVariants.{Link}
 use Rattle.mt_interior.specs.Head.{HeadView}
 use Rattle.mt_interior.specs.Head.{with_deleted as head_deleted}
@@ -28,7 +28,7 @@ use Rattle.mt_steps.specs.declared.progress.Progress.TheVariants.{Moved, Answere
 use Rattle.mt_steps.specs.World.{World, IsWorld, IsLocked, NotAmong, Goes}
 use Rattle.mt_steps.specs.Way.{prefix_of}
 use Rattle.mt_steps.proofs.LayerLemmas.{head_apart}
-use Rattle.mt_tree.proofs.AgeLemmas.{ages_lock, ages_deleted}
+use Rattle.mt_tree.proofs.AgeLemmas.{ages_locked, ages_unlocked, ages_deleted}
 use Rattle.mt_steps.proofs.AgingLemmas.{age_same, age_one}
 use Rattle.mt_steps.proofs.BorderLemmas.{alive_changed, keys_same, now_named, others_named, goes_border, heads_changed, twins_changed, unlocked_free, unlocked_root, mine_free, locked_may, locked_kept, on_kept, among_one}
 use Rattle.mt_steps.proofs.NodeLemmas.{known_some, root_place, head_there}
@@ -45,7 +45,7 @@ use Rattle.mt_remove.proofs.ClosingGoes.{head_now, border_same, goes_marked}
 
 -- ---- a border is unlocked, and the call owns the others still
 abbrev unlocked_one : BorderView → BorderView
-unlocked_one b = with_lock b false
+unlocked_one b = with_unlocked b
 
 goes_unlocked : (epoch : ℕ) (a : ArenaView) (w : World) (n : ℕ) (b : BorderView) → border_at a.nodes n ≡ Some b → b.version.locked ≡ true → b.version.deleted ≡ false → NotAmong n w.closing → IsSome (w.chart n) → (rest : List ℕ) → NotAmong n rest → IsWorld a epoch w → (after : ArenaView) → after ≡ with_border_changed a n unlocked_one → KeepsTree a after
     → (Then : ArenaView → World → Type 0) → Then (with_border_changed a n unlocked_one) w → Goes epoch a after w (n ∷ rest) rest (Then after) × SameContent (arena_seen a) (arena_seen after)
@@ -53,7 +53,7 @@ goes_unlocked epoch a w n b named locked alive free known rest once world after 
     let new : ArenaView = with_border_changed a n unlocked_one in
     let kept = (subst (λ (x : ArenaView). KeepsTree a x) value keeps).keeps epoch w.twins w.chart world.index in
     subst (λ (x : ArenaView). Goes epoch a x w (n ∷ rest) rest (Then x) × SameContent (arena_seen a) (arena_seen x)) (sym value) (
-      goes_border a n b unlocked_one named epoch w (n ∷ rest) rest (Then new) world (λ known. (ages_lock b false, inr refl)) kept.index (keys_same a new kept.content world.keys) (mine_free a n w (n ∷ rest) first) (λ other i. inl (later i))
+      goes_border a n b unlocked_one named epoch w (n ∷ rest) rest (Then new) world (λ known. (ages_unlocked b, inr refl)) kept.index (keys_same a new kept.content world.keys) (mine_free a n w (n ∷ rest) first) (λ other i. inl (later i))
           (λ other ne i. elim (among_cases other n rest i) [ inl e ↦ absurd (ne e) | inr j ↦ j ])
           (λ taken. absurd (elim taken [ inl held ↦ (let clash : false ≡ true = held in cc) | inr none ↦ (let some : IsSome (let nothing : Option Spot = None in nothing) = subst (λ (x : Option Spot). IsSome x) none known in cc) ]))
           (locked_may a n b unlocked_one named epoch w world locked free (inr alive)) truth,
@@ -85,7 +85,7 @@ module _ (epoch : ℕ) (a : ArenaView) (tidy : Tidy) (root head above : NodeNo) 
     b_named = border_named a n seen
 
     abbrev lock : BorderView → BorderView
-    lock x = with_lock x true
+    lock x = with_locked x
 
     abbrev new : ArenaView
     new = with_border_changed a n lock
@@ -104,7 +104,7 @@ module _ (epoch : ℕ) (a : ArenaView) (tidy : Tidy) (root head above : NodeNo) 
           let kept = (subst (λ (x : ArenaView). KeepsTree a x) value keeps).keeps epoch w.twins w.chart world.index in
           let Then : ArenaView → World → Type 0 = λ x next. StageIsTrue begun tidy.key tidy.way (AboveLocked layer) x next in
           subst (λ (x : ArenaView). Goes epoch a x w (root.0 ∷ []) (n ∷ root.0 ∷ []) (Then x) × SameContent (arena_seen a) (arena_seen x)) (sym value) (
-            goes_border a n b lock b_named epoch w (root.0 ∷ []) (n ∷ root.0 ∷ []) (Then new) world (λ known. (ages_lock b true, inr refl)) kept.index (keys_same a new kept.content world.keys)
+            goes_border a n b lock b_named epoch w (root.0 ∷ []) (n ∷ root.0 ∷ []) (Then new) world (λ known. (ages_locked b, inr refl)) kept.index (keys_same a new kept.content world.keys)
                 (unlocked_free a n b lock b_named w (root.0 ∷ []) seen.unlocked (known_some w n _ stands.place))
                 (λ other i. elim (among_cases other n (root.0 ∷ []) i) [ inl e ↦ inr e | inr j ↦ inl j ]) (λ other ne i. later i) (λ locked. first)
                 (on_kept a epoch w.chart n _ _ _ _ stands.place world.retired, λ i. refl, alive_changed a n b lock b_named w.chart (inl refl)) (record {
@@ -252,7 +252,7 @@ module _ (epoch : ℕ) (a : ArenaView) (tidy : Tidy) (layer : Layer) (is : tidy.
 -- ---- the two are retired
 module _ (epoch : ℕ) (a : ArenaView) (tidy : Tidy) (root head : NodeNo) (is : tidy.stage ≡ LayerGone root head) where
   abbrev unlock : BorderView → BorderView
-  unlock b = with_lock b false
+  unlock b = with_unlocked b
 
   pub retires_root : (mid after : ArenaView) → mid ≡ with_border_changed a root.0 unlock → KeepsTree a mid → after ≡ with_retired mid root epoch → KeepsTree mid after → TidyStep epoch a after tidy Moved (record tidy { stage = RootRetired head })
   retires_root mid after unlocked keeps retired keeps_too = at_stage epoch a after tidy (LayerGone root head) Moved (record tidy { stage = RootRetired head }) is refl (ap (λ (x : ArenaView). x.retired) (retired ∙ ap (λ (x : ArenaView). with_retired x root epoch) unlocked)) (record {
@@ -270,7 +270,7 @@ module _ (epoch : ℕ) (a : ArenaView) (tidy : Tidy) (root head : NodeNo) (is : 
         subst (λ (x : ArenaView). Goes epoch a x w (n ∷ head.0 ∷ []) (head.0 ∷ []) (Then x) × SameContent (arena_seen a) (arena_seen x)) (sym is_last)
         (goes_retired epoch a new w root (head.0 ∷ []) (Then last) (at_level 0) g.prefix g.low g.epoch world kept refl (others_named a n g.b unlock g.named) g.place g.kept
         (λ locked. (let clash : false ≡ true = subst (λ (x : Option Node). IsLocked x) (node-from_border new.nodes n (unlock g.b) now_is) locked in cc))
-        (age_one n g.b (unlock g.b) g.named now_is (λ known. (ages_lock g.b false, inr refl)) (others_named a n g.b unlock g.named))
+        (age_one n g.b (unlock g.b) g.named now_is (λ known. (ages_unlocked g.b, inr refl)) (others_named a n g.b unlock g.named))
         (heads_changed a n g.b unlock g.named w.chart (λ i. absurd (g.free i)) world.heads)
         (twins_changed a n g.b unlock g.named w.chart w.chart w.twins (evolves_same 0 w.chart) world.twins) keeps_last (λ i. apart (among_one n head.0 i))
         (gone_head_then new w root head.0 epoch apart (gone_head_beside a w n head.0 g.b unlock g.named k)));

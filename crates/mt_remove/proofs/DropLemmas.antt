@@ -5,7 +5,7 @@ use Rattle.std.specs.Option.{option_and_then}
 use Rattle.mt_types.specs.declared.numbers.NodeNo.{NodeNo}
 use Rattle.mt_types.specs.declared.event.Answer.TheVariants.{Tidied}
 use Rattle.mt_types.specs.declared.event.TidyRule.TheVariants.{Nothing as NoRule}
-use Rattle.mt_border.specs.Border.{BorderView, with_lock, with_deleted}
+use Rattle.mt_border.specs.Border.{BorderView, with_unlocked, with_deleted}
 use Rattle.mt_interior.specs.Interior.{InteriorView, without_child}
 use Rattle.mt_interior.specs.declared.child.Child.{Child}
 use Rattle.mt_arena.specs.Node.{node_at, interior_at, border_at}
@@ -26,7 +26,7 @@ use Rattle.mt_steps.specs.World.{World, IsWorld, IsLockedBorder, Goes}
 use Rattle.mt_steps.specs.Way.{prefix_of}
 use Rattle.mt_steps.proofs.SplitLemmas.{with_spot, spot_changes}
 use Rattle.mt_steps.proofs.AliveLemmas.{alive_node, alive_there, alive_placed}
-use Rattle.mt_tree.proofs.AgeLemmas.{ages_lock, ages_deleted}
+use Rattle.mt_tree.proofs.AgeLemmas.{ages_unlocked, ages_deleted}
 use Rattle.mt_steps.proofs.AgingLemmas.{age_beside}
 use Rattle.mt_steps.proofs.BorderLemmas.{now_named, keys_same, known_stays, goes_border, locked_may, mine_free, on_kept}
 use Rattle.mt_steps.proofs.NodeLemmas.{at_chart, goes_beside, heads_beside, heads_were, interior_others, interior_no_head, interior_no_border, interior_alive, interior_border, interior_taken, interior_is_taken, not_both, known_some, seen_on, free_no_twin, unlocked_no}
@@ -163,7 +163,7 @@ module _ (epoch : ℕ) (a : ArenaView) (tidy : Tidy) (border head : NodeNo) (is 
 -- ---- it is unlocked as it was
 module _ (epoch : ℕ) (a : ArenaView) (tidy : Tidy) (border : NodeNo) (is : tidy.stage ≡ KeepsBorder border) where
   abbrev unlock : BorderView → BorderView
-  unlock b = with_lock b false
+  unlock b = with_unlocked b
 
   pub keeps_border : (after : ArenaView) → after ≡ with_border_changed a border.0 unlock → KeepsTree a after → TidyStep epoch a after tidy (Answered (Tidied NoRule)) tidy
   keeps_border after value keeps = at_stage epoch a after tidy (KeepsBorder border) (Answered (Tidied NoRule)) tidy is refl (ap (λ (x : ArenaView). x.retired) value) (record {
@@ -171,7 +171,7 @@ module _ (epoch : ℕ) (a : ArenaView) (tidy : Tidy) (border : NodeNo) (is : tid
         let new : ArenaView = with_border_changed a border.0 unlock in
         let kept = (subst (λ (x : ArenaView). KeepsTree a x) value keeps).keeps epoch w.twins w.chart world.index in
         subst (λ (x : ArenaView). Goes epoch a x w (border.0 ∷ []) [] (λ next. Unit {0}) × SameContent (arena_seen a) (arena_seen x)) (sym value) (
-          goes_border a border.0 at.b unlock at.named epoch w (border.0 ∷ []) [] (λ next. Unit {0}) world (λ known. (ages_lock at.b false, inr refl)) kept.index (keys_same a new kept.content world.keys) (mine_free a border.0 w (border.0 ∷ []) first) (λ other i. elim i [ ]) (λ other ne i. absurd (only other ne i))
+          goes_border a border.0 at.b unlock at.named epoch w (border.0 ∷ []) [] (λ next. Unit {0}) world (λ known. (ages_unlocked at.b, inr refl)) kept.index (keys_same a new kept.content world.keys) (mine_free a border.0 w (border.0 ∷ []) first) (λ other i. elim i [ ]) (λ other ne i. absurd (only other ne i))
               (λ taken. absurd (elim taken [ inl locked ↦ (let clash : false ≡ true = locked in cc) | inr none ↦ (let some : IsSome (let nothing : Option Spot = None in nothing) = subst (λ (x : Option Spot). IsSome x) none at.known in cc) ]))
               (locked_may a border.0 at.b unlock at.named epoch w world at.locked at.free (inr at.alive)) tt,
           kept.content,

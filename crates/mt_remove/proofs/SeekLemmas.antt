@@ -7,7 +7,7 @@ use Rattle.mt_types.specs.declared.numbers.NodeNo.{NodeNo}
 use Rattle.mt_types.specs.declared.event.Answer.TheVariants.{Tidied}
 use Rattle.mt_types.specs.declared.event.TidyRule.TheVariants.{Nothing as NoRule}
 use Rattle.mt_slice.specs.Place.{slices_above, place_of}
-use Rattle.mt_border.specs.Border.{BorderView, with_lock}
+use Rattle.mt_border.specs.Border.{BorderView, with_locked}
 use Rattle.mt_border.specs.declared.entry.Entry.{Entry}
 use Rattle.mt_border.specs.declared.entry.RightLink.{RightLink}
 use Rattle.mt_arena.specs.Node.{node_at, border_at}
@@ -30,7 +30,7 @@ use Rattle.mt_steps.specs.Causes.{IsMarkedAt}
 use Rattle.mt_steps.specs.Way.{start, prefix_of, rest_of, went_by, IsOnWay, IsAtPlace, IsHeadOf, LeadsToHead, GoesTo, MayGo, Visits}
 use Rattle.mt_steps.proofs.GetLemmas.{may_go}
 use Rattle.mt_steps.proofs.WayLemmas.{starts, starts_at_head}
-use Rattle.mt_tree.proofs.AgeLemmas.{ages_lock}
+use Rattle.mt_tree.proofs.AgeLemmas.{ages_locked}
 use Rattle.mt_steps.proofs.BorderLemmas.{alive_changed, now_named, goes_border, keys_same, unlocked_free, unlocked_root, on_kept, among_one}
 use Rattle.mt_steps.proofs.SplitLemmas.{eqb-ne}
 use Rattle.mt_steps.proofs.NodeLemmas.{known_some}
@@ -275,7 +275,7 @@ module _ (epoch : ℕ) (a : ArenaView) (tidy : Tidy) (noted : Noted) (is : tidy.
     n = tidy.way.node.0
 
     abbrev lock : BorderView → BorderView
-    lock x = with_lock x true
+    lock x = with_locked x
 
     pub locks : (parent : NodeNo) (after : ArenaView) → b.version.locked ≡ false → sign_of b noted ≡ EmptyBorder parent → after ≡ with_border_changed a n lock → KeepsTree a after
         → TidyStep epoch a after tidy Moved (record tidy { stage = Locked tidy.way.node noted.head parent })
@@ -289,7 +289,7 @@ module _ (epoch : ℕ) (a : ArenaView) (tidy : Tidy) (noted : Noted) (is : tidy.
           let kept = (subst (λ (x : ArenaView). KeepsTree a x) value keeps).keeps epoch w.twins w.chart world.index in
           let Then : ArenaView → World → Type 0 = λ x next. StageIsTrue begun tidy.key tidy.way (Locked tidy.way.node noted.head parent) x next in
           subst (λ (x : ArenaView). Goes epoch a x w [] (n ∷ []) (Then x) × SameContent (arena_seen a) (arena_seen x)) (sym value) (
-            goes_border a n b lock named epoch w [] (n ∷ []) (Then new) world (λ known. (ages_lock b true, inr refl)) kept.index (keys_same a new kept.content world.keys)
+            goes_border a n b lock named epoch w [] (n ∷ []) (Then new) world (λ known. (ages_locked b, inr refl)) kept.index (keys_same a new kept.content world.keys)
                 (unlocked_free a n b lock named w [] unlocked (known_some w n _ stands.stands.place))
                 (λ other i. inr (among_one other n i)) (λ other ne i. elim i [ ]) (λ locked. first) (on_kept a epoch w.chart n _ _ _ _ stands.stands.place world.retired, λ i. refl, alive_changed a n b lock named w.chart (inl refl)) (
                   (stands.stands.posted, record { b = lock b; named = now_named a n b lock named; locked = refl; empty = d.empty; later = d.low; place = stands.stands.place; free = unlocked_root a w.closing w.chart n b named unlocked world.heads }, ap (λ (x : BorderView). x.version.deleted) (sym same) ∙ at.alive),
@@ -313,7 +313,7 @@ module _ (epoch : ℕ) (a : ArenaView) (tidy : Tidy) (noted : Noted) (is : tidy.
           let kept = (subst (λ (x : ArenaView). KeepsTree a x) value keeps).keeps epoch w.twins w.chart world.index in
           let Then : ArenaView → World → Type 0 = λ x next. StageIsTrue begun tidy.key tidy.way (RootLocked tidy.way.node noted.head upper) x next in
           subst (λ (x : ArenaView). Goes epoch a x w [] (n ∷ []) (Then x) × SameContent (arena_seen a) (arena_seen x)) (sym value) (
-            goes_border a n b lock named epoch w [] (n ∷ []) (Then new) world (λ known. (ages_lock b true, inr refl)) kept.index (keys_same a new kept.content world.keys)
+            goes_border a n b lock named epoch w [] (n ∷ []) (Then new) world (λ known. (ages_locked b, inr refl)) kept.index (keys_same a new kept.content world.keys)
                 (unlocked_free a n b lock named w [] unlocked (known_some w n _ stands.stands.place))
                 (λ other i. inr (among_one other n i)) (λ other ne i. elim i [ ]) (λ locked. first) (on_kept a epoch w.chart n _ _ _ _ stands.stands.place world.retired, λ i. refl, alive_changed a n b lock named w.chart (inl refl)) (record {
                   border = record { b = lock b; named = now_named a n b lock named; known = known_some w n _ stands.stands.place; locked = refl; empty = d.empty; right = d.right };

@@ -5,7 +5,7 @@ use Rattle.std.specs.Option.{option_map, option_and_then}
 use Rattle.mt_types.specs.declared.numbers.NodeNo.{NodeNo}
 use Rattle.mt_types.specs.declared.event.Answer.TheVariants.{Tidied}
 use Rattle.mt_types.specs.declared.event.TidyRule.TheVariants.{EmptyBorder as BorderRule}
-use Rattle.mt_border.specs.Border.{BorderView, with_lock, with_right}
+use Rattle.mt_border.specs.Border.{BorderView, with_unlocked, with_right}
 use Rattle.mt_border.specs.declared.entry.RightLink.{RightLink}
 use Rattle.mt_arena.specs.Node.{interior_of, border_at, border_of}
 use Rattle.mt_arena.specs.Arena.{ArenaView, with_border_changed, with_retired}
@@ -31,7 +31,7 @@ use Rattle.mt_steps.specs.Causes.{IsMarkedAt, IsLockedAlready}
 use Rattle.mt_steps.proofs.SplitLemmas.{with_spot, spot_changes}
 use Rattle.mt_steps.proofs.AliveLemmas.{alive_gone, alive_there, alive_placed}
 use Rattle.mt_tree.specs.Fields.{BorderAges}
-use Rattle.mt_tree.proofs.AgeLemmas.{ages_lock, ages_right, NotLower, not_lower}
+use Rattle.mt_tree.proofs.AgeLemmas.{ages_unlocked, ages_right, NotLower, not_lower}
 use Rattle.mt_steps.proofs.AgingLemmas.{age_one, on_as}
 use Rattle.mt_steps.proofs.BorderLemmas.{alive_changed, now_named, others_named, no_interior, known_stays, heads_changed, twins_changed, unlocked_free, unlocked_root, on_kept}
 use Rattle.mt_steps.proofs.NodeLemmas.{at_chart, goes_beside, heads_were, known_some}
@@ -181,7 +181,7 @@ module _ (epoch : ℕ) (a : ArenaView) (tidy : Tidy) (border head node : NodeNo)
 -- ---- it is retired
 module _ (epoch : ℕ) (a : ArenaView) (tidy : Tidy) (border : NodeNo) (is : tidy.stage ≡ Unlinked border) where
   abbrev unlock : BorderView → BorderView
-  unlock b = with_lock b false
+  unlock b = with_unlocked b
 
   pub retires : (mid after : ArenaView) → mid ≡ with_border_changed a border.0 unlock → KeepsTree a mid → after ≡ with_retired mid border epoch → KeepsTree mid after → TidyStep epoch a after tidy (Answered (Tidied BorderRule)) tidy
   retires mid after unlocked keeps retired keeps_too = at_stage epoch a after tidy (Unlinked border) (Answered (Tidied BorderRule)) tidy is refl (ap (λ (x : ArenaView). x.retired) (retired ∙ ap (λ (x : ArenaView). with_retired x border epoch) unlocked)) (record {
@@ -195,7 +195,7 @@ module _ (epoch : ℕ) (a : ArenaView) (tidy : Tidy) (border : NodeNo) (is : tid
         subst (λ (x : ArenaView). Goes epoch a x w (border.0 ∷ []) [] (λ next. Unit {0}) × SameContent (arena_seen a) (arena_seen x)) (sym is_last)
         (goes_retired epoch a new w border [] (λ next. Unit {0}) (at_level 0) g.prefix g.low g.epoch world kept refl (others_named a border.0 g.b unlock g.named) g.place g.kept
         (λ locked. (let clash : false ≡ true = subst (λ (x : Option Node). IsLocked x) (node-from_border new.nodes border.0 (unlock g.b) now_is) locked in cc))
-        (age_one border.0 g.b (unlock g.b) g.named now_is (λ known. (ages_lock g.b false, inr refl)) (others_named a border.0 g.b unlock g.named))
+        (age_one border.0 g.b (unlock g.b) g.named now_is (λ known. (ages_unlocked g.b, inr refl)) (others_named a border.0 g.b unlock g.named))
         (heads_changed a border.0 g.b unlock g.named w.chart (λ i. absurd (g.free i)) world.heads)
         (twins_changed a border.0 g.b unlock g.named w.chart w.chart w.twins (evolves_same 0 w.chart) world.twins) keeps_last (λ i. elim i [ ]) tt);
   }) tt tt refl
