@@ -11,7 +11,7 @@ use Rattle.mt_slice.specs.Place.{Place, AreBytes, place_of, under}
 use Rattle.mt_slice.specs.Classes.{class_of}
 use Rattle.mt_slice.proofs.Slices.{bytes-drop}
 use Rattle.mt_commit.specs.Log.{LogView, newest, with_delta}
-use Rattle.mt_border.specs.Border.{BorderView, with_lock, with_hidden, with_shown, with_value, first_held, row_at}
+use Rattle.mt_border.specs.Border.{BorderView, with_unlocked, with_hidden, with_shown, with_value, first_held, row_at}
 use Rattle.mt_border.specs.Entry.{entry_row}
 use Rattle.mt_border.specs.Order.{IsBorder}
 use Rattle.mt_border.specs.declared.found.Found.TheVariants.{Row as RowFound}
@@ -43,7 +43,7 @@ use Rattle.std.specs.Prelude.{IsSomeAnd}
 use Rattle.mt_steps.proofs.FoundLemmas.{some_at, some_and}
 use Rattle.mt_write.proofs.EntryLemmas.{row_of_content, entry_place_is}
 use Rattle.mt_write.proofs.VersionLemmas.{other_found}
-use Rattle.mt_tree.proofs.AgeLemmas.{ages_lock, ages_shown, ages_hidden, ages_value}
+use Rattle.mt_tree.proofs.AgeLemmas.{ages_unlocked, ages_shown, ages_hidden, ages_value}
 use Rattle.std.proofs.lemmas.Option.{slice_get_within}
 use Rattle.mt_tree.proofs.RowLemmas.{stands_at, tells_row}
 use Rattle.mt_steps.proofs.GetLemmas.{found_is_row}
@@ -244,7 +244,7 @@ module _ (C : ℕ) (a : ArenaView) (log : LogView) (key : List ℕ) (edit : Edit
   EndLaw after p then Then stage = StepLaw C a after log log (edit_request key edit) (stage_held way.node.0 stage) p then (λ begun moves past x w. StageIsTrue C key edit way stage begun x w) Then
 
   abbrev unlock : BorderView → BorderView
-  unlock b = with_lock b false
+  unlock b = with_unlocked b
 
   -- a remove is ready, or it fails
   pub takes : (stage : Stage) (left : LogView) → edit ≡ RemoveEdit → PreparesRemove key way a log (Some stage) left
@@ -283,7 +283,7 @@ module _ (C : ℕ) (a : ArenaView) (log : LogView) (key : List ℕ) (edit : Edit
   ends Then now w after is keeps world at truth =
       let kept = keeps.keeps now w.twins w.chart world.index in (
         subst (λ (x : ArenaView). Goes now a x w (way.node.0 ∷ []) [] Then) (sym is)
-            (goes_border a way.node.0 at.b unlock at.named now w (way.node.0 ∷ []) [] _ world (λ known. (ages_lock at.b false, inr refl)) (subst (λ (x : ArenaView). IsIndexAt x now w.twins w.chart) is kept.index)
+            (goes_border a way.node.0 at.b unlock at.named now w (way.node.0 ∷ []) [] _ world (λ known. (ages_unlocked at.b, inr refl)) (subst (λ (x : ArenaView). IsIndexAt x now w.twins w.chart) is kept.index)
             (subst (λ (x : ArenaView). RowsAreOfKeys x) is (keys_same a after kept.content world.keys))
             (own_free a way.node.0 w) (λ other i. elim i [ ]) (λ other ne i. absurd (ne (among_one other way.node.0 i))) (λ taken. absurd (elim taken [ inl locked ↦ (let clash : false ≡ true = locked in cc) | inr none ↦ (let some : IsSome (let nothing : Option Spot = None in nothing) = subst (λ (x : Option Spot). IsSome x) none at.known in cc) ])) (locked_may a way.node.0 at.b unlock at.named now w world at.locked at.free (inr at.alive)) truth),
         record { content = kept.content; trimmed = refl; deltas = refl },

@@ -5,7 +5,7 @@ use Rattle.std.proofs.lemmas.List.Elements.{All-nil, All-push}
 use Rattle.mt_types.specs.declared.event.Answer.{Answer}
 use Rattle.mt_types.specs.declared.event.Answer.TheVariants.{Absent as AbsentAnswer}
 use Rattle.mt_commit.specs.Log.{LogView, IsLog, newest}
-use Rattle.mt_border.specs.Border.{BorderView, with_lock}
+use Rattle.mt_border.specs.Border.{BorderView, with_locked, with_unlocked}
 use Rattle.mt_arena.specs.Node.{border_at}
 use Rattle.mt_arena.specs.Arena.{ArenaView, IsArena, with_border_changed}
 use Rattle.mt_tree.specs.Keeping.{KeepsTree}
@@ -47,10 +47,10 @@ module _ (C : ℕ) (a : ArenaView) (log : LogView) (write : Write) (may : MayRun
 
   module _ (is_trimmed : IsTrimmed log) (arena : IsArena a) where
     -- ---- there is no row to remove
-    module _ (same : ArenaView) (left : LogView) (done : ArenaView) (none : FindsNone C a same log left write) (end : done ≡ with_border_changed same write.way.node.0 (λ x. with_lock x false)) (kept : KeepsTree same done) (arena_done : IsArena done) (sound_left : IsLog left) where
+    module _ (same : ArenaView) (left : LogView) (done : ArenaView) (none : FindsNone C a same log left write) (end : done ≡ with_border_changed same write.way.node.0 with_unlocked) (kept : KeepsTree same done) (arena_done : IsArena done) (sound_left : IsLog left) where
       finds : WriteStep C a done log left at_lock Locked (Answered AbsentAnswer) write
       finds = at_step C a done log left at_lock write.stage Locked (Answered AbsentAnswer) write refl
-          (none.1 done (subst (λ (x : ArenaView). done ≡ with_border_changed x write.way.node.0 (λ y. with_lock y false)) none.0 end) (subst (λ (x : ArenaView). KeepsTree x done) none.0 kept))
+          (none.1 done (subst (λ (x : ArenaView). done ≡ with_border_changed x write.way.node.0 with_unlocked) none.0 end) (subst (λ (x : ArenaView). KeepsTree x done) none.0 kept))
 
       pub trimmed_none : IsTrimmed left
       trimmed_none = left_trimmed C (state a log at_lock) may done left (Answered AbsentAnswer) write finds is_trimmed refl
@@ -105,7 +105,7 @@ module _ (C : ℕ) (a : ArenaView) (log : LogView) (write : Write) (may : MayRun
           is_locked_border after may_end.w write.way.node.0 (holds.locked write.way.node.0 holds.own)
 
       -- ---- and ends
-      module _ (idle : write.stage ≡ Seeks) (done : ArenaView) (answer : Answer) (answer_is : answer ≡ written_answer write.edit number) (end : done ≡ with_border_changed after write.way.node.0 (λ x. with_lock x false)) (kept : KeepsTree after done) (arena_done : IsArena done) (sound_left : IsLog left) where
+      module _ (idle : write.stage ≡ Seeks) (done : ArenaView) (answer : Answer) (answer_is : answer ≡ written_answer write.edit number) (end : done ≡ with_border_changed after write.way.node.0 with_unlocked) (kept : KeepsTree after done) (arena_done : IsArena done) (sound_left : IsLog left) where
         stops : WriteStep C after done left left is_stored (Stored number None) (Answered answer) write
         stops = at_step C after done left left is_stored write.stage (Stored number None) (Answered answer) write refl (ends_stored after done write kept number None answer refl idle answer_is end C left)
 
@@ -130,7 +130,7 @@ module _ (C : ℕ) (a : ArenaView) (log : LogView) (write : Write) (may : MayRun
 
 -- ---- the lock
 module _ (C : ℕ) (a locked : ArenaView) (log : LogView) (write : Write) (may : MayRun C (state a log write)) (is_trimmed : IsTrimmed log) (idle : write.stage ≡ Seeks) (visits : Visits a write.key write.way Here) (b : BorderView) (named : border_at a.nodes write.way.node.0 ≡ Some b) (unlocked : b.version.locked ≡ false)
-    (value : locked ≡ with_border_changed a write.way.node.0 (λ x. with_lock x true)) (keeps : KeepsTree a locked) where
+    (value : locked ≡ with_border_changed a write.way.node.0 with_locked) (keeps : KeepsTree a locked) where
   locks : WriteStep C a locked log log write write.stage Moved (record write { stage = Locked })
   locks = subst (λ (st : Stage). WriteStep C a locked log log write st Moved (record write { stage = Locked })) (sym idle) (seek_ends a write Here visits idle locked b named unlocked refl value keeps C log)
 

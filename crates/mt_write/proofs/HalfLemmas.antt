@@ -44,8 +44,9 @@ use Rattle.mt_write.proofs.WriteLemmas.{quiet_step}
 pub half_may_fill : (key : List ℕ) (edit : Edit) (way : Way) (b : BorderView) (cut : ℕ) (c : IsCutAt key way b cut) → MayFill (empty_half b c.middle) (drop cut b.live) b.right
 half_may_fill key edit way b cut c = record { empty = refl; fresh = refl; sound = cut_upper b cut c.middle true c.sound c.full c.place.lawful c.is_middle }
 
-pub half_is_upper : (key : List ℕ) (edit : Edit) (way : Way) (b : BorderView) (cut : ℕ) (c : IsCutAt key way b cut) → IsUpperHalf b (upper_half b cut c.middle) cut
-half_is_upper key edit way b cut c = record {
+pub half_is_upper : (key : List ℕ) (edit : Edit) (way : Way) (b : BorderView) (cut : ℕ) (c : IsCutAt key way b cut) → b.version.locked ≡ true → IsUpperHalf b (upper_half b cut c.middle) cut
+half_is_upper key edit way b cut c locked = record {
+  locked = locked;
   within = let full = c.full in let last = c.place.lawful.last in omega (arith, full, last);
   upper = refl;
   right = refl;
@@ -246,4 +247,4 @@ module _ (C begun : ℕ) (a : ArenaView) (w : World) (key : List ℕ) (edit : Ed
   filled_link truth =
       let (b, at, c, s, p) = truth in
       subst (λ (o : Option BorderView). IsSomeAnd o (λ x. IsSomeAnd (border_at a.nodes half.0) (λ upper. IsUpperHalf x upper cut))) (sym at.named)
-      (subst (λ (o : Option BorderView). IsSomeAnd o (λ upper. IsUpperHalf b upper cut)) (sym s.named) (half_is_upper key edit way b cut c))
+      (subst (λ (o : Option BorderView). IsSomeAnd o (λ upper. IsUpperHalf b upper cut)) (sym s.named) (half_is_upper key edit way b cut c at.locked))

@@ -5,7 +5,7 @@ use Rattle.mt_types.specs.declared.numbers.NodeNo.{NodeNo}
 use Rattle.mt_types.specs.declared.refusal.Refusal.{Refusal}
 use Rattle.mt_types.specs.declared.event.Answer.{Answer}
 use Rattle.mt_commit.specs.Log.{LogView}
-use Rattle.mt_border.specs.Border.{BorderView, with_entries, with_link_at, with_lock, with_split}
+use Rattle.mt_border.specs.Border.{BorderView, with_entries, with_link_at, with_unlocked, with_split}
 use Rattle.mt_border.specs.declared.entry.Entry.{Entry}
 use Rattle.mt_interior.specs.Head.{with_lock as with_head_lock}
 use Rattle.mt_arena.specs.Node.{border_at}
@@ -97,7 +97,7 @@ module _ (a after : ArenaView) (write : Write) where
       leads C a after log log write (LayerReady layer) Moved (Layered layer.head) write.way refl (links_layer C a log write.key write.edit write.way layer after linked makes) tt (tt, tt) (refl, refl) refl tt
 
   module _ (keeps : KeepsTree a after) where
-    pub enters_layer : (head : NodeNo) → after ≡ with_border_changed a write.way.node.0 (λ b. with_lock b false) → TreeStep a after write (Layered head) Moved (record write { way = way_below write.way head; head = head; stage = Seeks })
+    pub enters_layer : (head : NodeNo) → after ≡ with_border_changed a write.way.node.0 with_unlocked → TreeStep a after write (Layered head) Moved (record write { way = way_below write.way head; head = head; stage = Seeks })
     enters_layer head unlocked = λ C log. record {
       request = refl;
       law = goes_below C a log write.key write.edit write.way write.head head after unlocked keeps;
@@ -109,17 +109,17 @@ module _ (a after : ArenaView) (write : Write) where
     }
 
     -- ---- the end
-    pub ends_stored : (commit : ℕ) (split : Option Halves) (answer : Answer) → split ≡ None → write.stage ≡ Seeks → answer ≡ written_answer write.edit commit → after ≡ with_border_changed a write.way.node.0 (λ b. with_lock b false) → TreeStep a after write (Stored commit split) (Answered answer) write
+    pub ends_stored : (commit : ℕ) (split : Option Halves) (answer : Answer) → split ≡ None → write.stage ≡ Seeks → answer ≡ written_answer write.edit commit → after ≡ with_border_changed a write.way.node.0 with_unlocked → TreeStep a after write (Stored commit split) (Answered answer) write
     ends_stored commit split answer none idle answer_is unlocked = λ C log. subst (λ (s : Option Halves). WriteStep C a after log log write (Stored commit s) (Answered answer) write) (sym none)
         (closes C a after log log write (Stored commit None) (Answered answer) (answers C a log write.key write.edit write.way commit answer answer_is (write_held write) (WriteIsTrue C write) after unlocked keeps) tt
         (tt, subst (λ (s : Stage). IsNotFailed s) (sym idle) tt) refl refl tt)
 
-    pub ends_failed : (refusal : Refusal) (split : Option Halves) → split ≡ None → after ≡ with_border_changed a write.way.node.0 (λ b. with_lock b false) → TreeStep a after write (Failed refusal split) (Refused refusal) write
+    pub ends_failed : (refusal : Refusal) (split : Option Halves) → split ≡ None → after ≡ with_border_changed a write.way.node.0 with_unlocked → TreeStep a after write (Failed refusal split) (Refused refusal) write
     ends_failed refusal split none unlocked = λ C log. subst (λ (s : Option Halves). WriteStep C a after log log write (Failed refusal s) (Refused refusal) write) (sym none)
         (closes C a after log log write (Failed refusal None) (Refused refusal) (refuses C a log write.key write.edit write.way refusal (write_held write) (WriteIsTrue C write) after unlocked keeps) tt (refl, refl) refl refl tt)
 
     -- the left half is unlocked, and the posting of the other begins
-    pub begins_posting : (split : Halves) (posting : Posting) → IsNewPosting write.head split.half posting → NewPostingIsTrue posting → (b : BorderView) → border_at a.nodes split.half.0 ≡ Some b → posting.low ≡ b.low → after ≡ with_border_changed a split.left.0 (λ b. with_lock b false)
+    pub begins_posting : (split : Halves) (posting : Posting) → IsNewPosting write.head split.half posting → NewPostingIsTrue posting → (b : BorderView) → border_at a.nodes split.half.0 ≡ Some b → posting.low ≡ b.low → after ≡ with_border_changed a split.left.0 with_unlocked
         → (ending : Ending) → TreeStep a after write (ending_stage ending (Some split)) Moved (record write { way = record { node = split.half; layer = write.way.layer }; stage = Posts posting ending })
     begins_posting split posting new begins b named low unlocked (EndStored commit) = λ C log. record {
       request = refl;

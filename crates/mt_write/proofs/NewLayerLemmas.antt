@@ -11,7 +11,7 @@ use Rattle.mt_types.specs.declared.numbers.NodeNo.{NodeNo}
 use Rattle.mt_slice.specs.Place.{slice_number, slices_above, rest_at}
 use Rattle.mt_slice.specs.Classes.{class_of}
 use Rattle.mt_commit.specs.Log.{LogView}
-use Rattle.mt_border.specs.Border.{BorderView, with_entries, with_lock, with_link_at, new_border}
+use Rattle.mt_border.specs.Border.{BorderView, with_entries, with_unlocked, with_link_at, new_border}
 use Rattle.mt_border.specs.Entry.{IsEntry, entry_of_row}
 use Rattle.mt_border.specs.Order.{IsBorder}
 use Rattle.mt_border.specs.declared.entry.Content.TheVariants.{Long}
@@ -71,7 +71,8 @@ lone_sound number entry whole = record {
   left_of = tt;
   deleted_empty = λ deleted. cc;
   border = refl;
-  unflagged = (refl, refl);
+  flags = λ set. cc;
+  unspent = record { inserts = λ set. cc; splits = λ set. cc };
   counters = record { vinsert_fits = omega arith; vsplit_fits = omega arith };
 }
 
@@ -192,7 +193,7 @@ module _ (C : ℕ) (a : ArenaView) (log : LogView) (key : List ℕ) (edit : Edit
   }
 
 -- the border is unlocked, and the call continues in the layer, whose head it knows
-pub goes_below : (C : ℕ) (a : ArenaView) (log : LogView) (key : List ℕ) (edit : Edit) (way : Way) (old_head head : NodeNo) (after : ArenaView) → after ≡ with_border_changed a way.node.0 (λ b. with_lock b false) → KeepsTree a after
+pub goes_below : (C : ℕ) (a : ArenaView) (log : LogView) (key : List ℕ) (edit : Edit) (way : Way) (old_head head : NodeNo) (after : ArenaView) → after ≡ with_border_changed a way.node.0 with_unlocked → KeepsTree a after
     → StepLaw C a after log log (edit_request key edit) (stage_held way.node.0 (Layered head)) Moved (stage_held head.0 Seeks) (λ begun moves past x w. HeadedStage C key edit way old_head (Layered head) begun x w) (λ begun moves past x w. HeadedStage C key edit (way_below way head) head Seeks begun x w)
 goes_below C a log key edit way old_head head after is keeps = record {
   steps = λ now begun moves past w world before truth.

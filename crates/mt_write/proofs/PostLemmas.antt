@@ -6,7 +6,7 @@ use Rattle.mt_slice.specs.Place.{slices_above}
 use Rattle.mt_types.specs.declared.numbers.NodeNo.{NodeNo}
 use Rattle.mt_types.specs.declared.event.Request.{Request}
 use Rattle.mt_commit.specs.Log.{LogView}
-use Rattle.mt_border.specs.Border.{BorderView, with_lock}
+use Rattle.mt_border.specs.Border.{BorderView, with_unlocked}
 use Rattle.mt_arena.specs.Node.{border_at, border_of}
 use Rattle.mt_arena.specs.Arena.{ArenaView, with_border_changed}
 use Rattle.mt_chart.specs.Tree.{Among, first, later}
@@ -35,7 +35,7 @@ use Rattle.mt_steps.specs.World.{IsLockedBorder}
 use Rattle.mt_steps.specs.declared.way.Went.{Went}
 use Rattle.mt_steps.specs.declared.way.Went.TheVariants.{To}
 use Rattle.mt_steps.specs.Way.{GoesTo, Visits}
-use Rattle.mt_tree.proofs.AgeLemmas.{ages_lock}
+use Rattle.mt_tree.proofs.AgeLemmas.{ages_unlocked}
 use Rattle.mt_steps.proofs.WayLemmas.{starts_at_head}
 use Rattle.mt_steps.proofs.FrameLemmas.{goes_same, quiet_same}
 use Rattle.mt_write.specs.declared.writing.Stage.TheVariants.{Seeks}
@@ -112,7 +112,7 @@ module _ (C : ℕ) (a : ArenaView) (key : List ℕ) (edit : Edit) (way : Way) (h
   }
 
 -- ---- the left half is unlocked
-module _ (C : ℕ) (a : ArenaView) (log : LogView) (key : List ℕ) (edit : Edit) (way : Way) (split : Halves) (after : ArenaView) (is : after ≡ with_border_changed a split.left.0 (λ b. with_lock b false)) (keeps : KeepsTree a after) where
+module _ (C : ℕ) (a : ArenaView) (log : LogView) (key : List ℕ) (edit : Edit) (way : Way) (split : Halves) (after : ArenaView) (is : after ≡ with_border_changed a split.left.0 with_unlocked) (keeps : KeepsTree a after) where
   abbrev on_half : Way
   on_half = record { node = split.half; layer = way.layer }
 
@@ -130,10 +130,10 @@ module _ (C : ℕ) (a : ArenaView) (log : LogView) (key : List ℕ) (edit : Edit
   unlocks now w Then world has truth =
       let kept = keeps.keeps now w.twins w.chart world.index in
       let left = has.locked split.left.0 (later first) in
-      let unlock : BorderView → BorderView = λ x. with_lock x false in
+      let unlock : BorderView → BorderView = λ x. with_unlocked x in
       let new : ArenaView = with_border_changed a split.left.0 unlock in (
         subst (λ (x : ArenaView). Goes now a x w (split.half.0 ∷ split.left.0 ∷ []) (split.half.0 ∷ []) Then) (sym is)
-            (goes_border a split.left.0 left.b unlock left.named now w (split.half.0 ∷ split.left.0 ∷ []) (split.half.0 ∷ []) Then world (λ known. (ages_lock left.b false, inr refl)) (subst (λ (x : ArenaView). IsIndexAt x now w.twins w.chart) is kept.index)
+            (goes_border a split.left.0 left.b unlock left.named now w (split.half.0 ∷ split.left.0 ∷ []) (split.half.0 ∷ []) Then world (λ known. (ages_unlocked left.b, inr refl)) (subst (λ (x : ArenaView). IsIndexAt x now w.twins w.chart) is kept.index)
             (subst (λ (x : ArenaView). RowsAreOfKeys x) is (keys_same a after kept.content world.keys))
             (mine_free a split.left.0 w (split.half.0 ∷ split.left.0 ∷ []) (later first)) (λ other i. inl (widen other i)) (λ other ne i. among_two other i ne)
             (λ taken. absurd (elim taken [ inl locked ↦ (let clash : false ≡ true = locked in cc) | inr none ↦ (let some : IsSome (let nothing : Option Spot = None in nothing) = subst (λ (x : Option Spot). IsSome x) none left.known in cc) ])) (locked_may a split.left.0 left.b unlock left.named now w world left.locked left.free (inr left.alive)) truth),
@@ -147,7 +147,7 @@ module _ (C : ℕ) (a : ArenaView) (log : LogView) (key : List ℕ) (edit : Edit
         let k = has.locked split.half.0 first in
         let differ : split.half.0 ≢ split.left.0 = λ e. has.halves.apart (sym e) in
         let left = has.locked split.left.0 (later first) in
-        let here : border_at after.nodes split.half.0 ≡ Some k.b = subst (λ (x : ArenaView). border_at x.nodes split.half.0 ≡ Some k.b) (sym is) (ap (option_and_then border_of) (others_named a split.left.0 left.b (λ b. with_lock b false) left.named split.half.0 differ) ∙ k.named) in
+        let here : border_at after.nodes split.half.0 ≡ Some k.b = subst (λ (x : ArenaView). border_at x.nodes split.half.0 ≡ Some k.b) (sym is) (ap (option_and_then border_of) (others_named a split.left.0 left.b with_unlocked left.named split.half.0 differ) ∙ k.named) in
         let low : posting.low ≡ has.halves.low = low_is ∙ has.halves.low_is r read in
         new.begins after w begun (prefix_of key way) (record {
           b = k.b;

@@ -7,7 +7,7 @@ use Rattle.mt_types.specs.declared.refusal.Refusal.{Refusal}
 use Rattle.mt_types.specs.declared.event.Answer.TheVariants.{Absent as AbsentAnswer}
 use Rattle.mt_commit.specs.Log.{LogView, newest, with_delta}
 use Rattle.mt_border.specs.Cut.{IsBestCut}
-use Rattle.mt_border.specs.Border.{BorderView, row_at, with_hidden, with_lock, with_shown, with_value}
+use Rattle.mt_border.specs.Border.{BorderView, row_at, with_hidden, with_locked, with_unlocked, with_shown, with_value}
 use Rattle.mt_border.specs.Entry.{entry_row}
 use Rattle.mt_border.specs.declared.entry.Entry.{Entry}
 use Rattle.mt_border.specs.declared.found.Found.TheVariants.{Row as RowFound}
@@ -189,9 +189,9 @@ module _ (a : ArenaView) (write : Write) (went : Went) (visits : Visits a write.
       subst (λ (s : Stage). WriteStep C a a log log write Seeks Waits (record { key = write.key; edit = write.edit; way = write.way; head = write.head; stage = s })) (sym idle)
       (leads C a a log log write Seeks Waits Seeks write.way refl (seek_waits C a write.key write.edit write.way log) (inr locked) (tt, tt) (refl, inr (locked, refl)) tt tt)
 
-  pub seek_ends : (after : ArenaView) (b : BorderView) → border_at a.nodes write.way.node.0 ≡ Some b → b.version.locked ≡ false → went ≡ Here → after ≡ with_border_changed a write.way.node.0 (λ b. with_lock b true) → KeepsTree a after → TreeStep a after write Seeks Moved (record write { stage = Locked })
+  pub seek_ends : (after : ArenaView) (b : BorderView) → border_at a.nodes write.way.node.0 ≡ Some b → b.version.locked ≡ false → went ≡ Here → after ≡ with_border_changed a write.way.node.0 with_locked → KeepsTree a after → TreeStep a after write Seeks Moved (record write { stage = Locked })
   seek_ends after b named unlocked is value keeps = λ C log. subst (λ (x : ArenaView). WriteStep C a x log log write Seeks Moved (record write { stage = Locked })) (sym value)
-      (leads C a (with_border_changed a write.way.node.0 (λ b. with_lock b true)) log log write Seeks Moved Locked write.way refl
+      (leads C a (with_border_changed a write.way.node.0 with_locked) log log write Seeks Moved Locked write.way refl
       (seek_locks C a write.key write.edit write.way went visits b named unlocked is (subst (λ (x : ArenaView). KeepsTree a x) value keeps) log) tt (tt, tt) (inl (refl, refl)) (inl (refl, refl)) tt)
 
 -- where a visit leads that doesn't end at its border
@@ -304,7 +304,7 @@ module _ (C : ℕ) (a : ArenaView) (log left : LogView) (write : Write) (is : wr
       )
       (remove_ready a log left write.key write.way stage prepared, refl) refl tt
 
-  pub finds_none : (after : ArenaView) → made ≡ None → after ≡ with_border_changed a write.way.node.0 (λ b. with_lock b false) → KeepsTree a after → WriteStep C a after log left write Locked (Answered AbsentAnswer) write
+  pub finds_none : (after : ArenaView) → made ≡ None → after ≡ with_border_changed a write.way.node.0 with_unlocked → KeepsTree a after → WriteStep C a after log left write Locked (Answered AbsentAnswer) write
   finds_none after none value keeps =
       let (lacking, same) = subst (λ (s : Option Stage). PreparesRemove write.key write.way a log s left) none ready in
       closes C a after log left write Locked (Answered AbsentAnswer) (lacks C a log write.key write.edit write.way (write_held write) (WriteIsTrue C write) after is value keeps lacking left same) tt

@@ -9,7 +9,7 @@ use Rattle.mt_types.specs.declared.refusal.Refusal.TheVariants.{NoMemory, ArenaF
 use Rattle.mt_types.specs.declared.numbers.NodeNo.{NodeNo}
 use Rattle.mt_slice.specs.Place.{place_of, first_slice}
 use Rattle.mt_commit.specs.Log.{LogView, slowest}
-use Rattle.mt_border.specs.Border.{BorderView, with_lock}
+use Rattle.mt_border.specs.Border.{BorderView, with_locked}
 use Rattle.mt_border.specs.declared.entry.Entry.{Entry}
 use Rattle.mt_border.specs.declared.entry.RightLink.{RightLink}
 use Rattle.mt_border.specs.declared.found.Found.{Found}
@@ -44,7 +44,7 @@ use Rattle.mt_steps.specs.World.{IsLockedBorder}
 use Rattle.mt_steps.proofs.FrameLemmas.{goes_same, quiet_same}
 use Rattle.std.specs.Prelude.{IsTrue}
 use Rattle.mt_write.proofs.VersionLemmas.{same_version}
-use Rattle.mt_tree.proofs.AgeLemmas.{ages_lock}
+use Rattle.mt_tree.proofs.AgeLemmas.{ages_locked}
 use Rattle.mt_steps.proofs.WayLemmas.{starts}
 use Rattle.mt_steps.proofs.BorderLemmas.{alive_changed, now_named, others_named, keys_same, goes_border, on_kept, unlocked_root, unlocked_free, among_one}
 
@@ -133,7 +133,7 @@ known_on arena chart number prefix node stands = subst (λ (x : Option Spot). Is
 -- ---- the lock
 module _ (C : ℕ) (a : ArenaView) (key : List ℕ) (edit : Edit) (way : Way) (went : Went) (visits : Visits a key way went) where
   abbrev lock : BorderView → BorderView
-  lock b = with_lock b true
+  lock b = with_locked b
 
   pub seek_locks : (b : BorderView) → border_at a.nodes way.node.0 ≡ Some b → b.version.locked ≡ false → went ≡ Here → KeepsTree a (with_border_changed a way.node.0 lock) → (log : LogView)
       → StepLaw C a (with_border_changed a way.node.0 lock) log log (edit_request key edit) (stage_held way.node.0 Seeks) Moved (stage_held way.node.0 Locked) (λ begun moves past x w. StageIsTrue C key edit way Seeks begun x w) (λ begun moves past x w. StageIsTrue C key edit way Locked begun x w)
@@ -144,7 +144,7 @@ module _ (C : ℕ) (a : ArenaView) (key : List ℕ) (edit : Edit) (way : Way) (w
         let stands = subst (λ (x : BorderView). IsWhere (arena_seen a) w.chart way.node.0 (prefix_of key way) (border_seen x) (place_of (rest_of key way))) same at.here.stands in
         let kept = keeps.keeps now w.twins w.chart world.index in
         quiet_step key edit
-        (goes_border a way.node.0 b lock named now w [] (way.node.0 ∷ []) _ world (λ known. (ages_lock b true, inr refl)) kept.index (keys_same a (with_border_changed a way.node.0 lock) kept.content world.keys)
+        (goes_border a way.node.0 b lock named now w [] (way.node.0 ∷ []) _ world (λ known. (ages_locked b, inr refl)) kept.index (keys_same a (with_border_changed a way.node.0 lock) kept.content world.keys)
         (unlocked_free a way.node.0 b lock named w [] unlocked (known_on (arena_seen a) w.chart way.node.0 (prefix_of key way) (border_seen b) stands.stands))
         (λ other i. inr (among_one other way.node.0 i)) (λ other ne i. elim i [ ]) (λ locked. first) (on_kept a now w.chart way.node.0 (at_level 0) (prefix_of key way) b.low stands.stands.posted stands.stands.place world.retired, λ i. refl, alive_changed a way.node.0 b lock named w.chart (inl refl)) (
           lock b,

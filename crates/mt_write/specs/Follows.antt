@@ -1,9 +1,9 @@
 -- Which stage of a put or remove follows which: said of the nodes before the step, and of the call before and after it.
-use Rattle.std.specs.Prelude.{ℕ, ◌≡◌, ◌≢◌, ◌⊎◌, ◌+◌, List, [], Option, Some, None, IsSomeAnd, false}
+use Rattle.std.specs.Prelude.{ℕ, ◌≡◌, ◌≢◌, ◌⊎◌, ◌+◌, List, [], Option, Some, None, IsSomeAnd}
 use Rattle.mt_border.specs.Cut.{IsBestCut}
 use Rattle.mt_arena.specs.Node.{border_at}
 use Rattle.mt_arena.specs.Arena.{ArenaView, with_border_changed}
-use Rattle.mt_border.specs.Border.{with_lock}
+use Rattle.mt_border.specs.Border.{with_unlocked}
 use Rattle.mt_tree.specs.Keeping.{KeepsTree}
 use Rattle.mt_types.specs.declared.event.Answer.TheVariants.{Absent}
 use Rattle.mt_types.specs.declared.numbers.NodeNo.{NodeNo}
@@ -192,5 +192,5 @@ MayBeAt a write stage = (C : ℕ) × (log : LogView) × MayStage C a log write s
 -- there is no row to remove: the write has changed nothing, and with the unlock of its border it answers
 abbrev pub FindsNone : ℕ → ArenaView → ArenaView → LogView → LogView → WriteView → Type 0
 FindsNone C a same log left write = (same ≡ a) × ((after : ArenaView)
-    → after ≡ with_border_changed a write.way.node.0 (λ b. with_lock b false) → KeepsTree a after
+    → after ≡ with_border_changed a write.way.node.0 with_unlocked → KeepsTree a after
     → WriteStep C a after log left write Locked (Answered Absent) write)

@@ -2,7 +2,7 @@
 //! between.
 
 ghost use Rattle.std.specs.Prelude.{◌≡◌, ℕ, ◌<◌, ◌≤◌, IfOk, IfErr, IsSomeAnd, None, true, false};
-ghost use Rattle.mt_border.specs.Border.{with_lock};
+ghost use Rattle.mt_border.specs.Border.{with_unlocked};
 ghost use Rattle.mt_arena.specs.Node.{border_at};
 ghost use Rattle.mt_arena.specs.Arena.{IsArena, with_border_changed};
 ghost use Rattle.mt_tree.specs.Keeping.{KeepsTree};
@@ -97,7 +97,7 @@ impl Write {
     fn unlock(&self, tree: &mut Tree, steps: u64, commits: u64, answer: Answer) -> WriteRun
         requires { IsSomeAnd (border_at tree.old.nodes self.now.way.node.0) (λ b. b.version.locked ≡ true) }
         ensures run { result ≡ record { steps = steps; commits = commits; last = Progress.Answered answer } }
-        ensures unlocked { tree.new ≡ with_border_changed tree.old self.now.way.node.0 (λ b. with_lock b false) }
+        ensures unlocked { tree.new ≡ with_border_changed tree.old self.now.way.node.0 with_unlocked }
         ensures keeps { KeepsTree tree.old tree.new }
         ensures arena { IsArena tree.new }
     {

@@ -1,6 +1,6 @@
 //! Making ready at the border that a put or remove has locked: the new row, the columns of the row, or the row's copy.
 
-ghost use Rattle.std.specs.Prelude.{◌≡◌, ℕ, List, ◌≤◌, ◌<◌, ◌+◌, ◌-◌, ◌*◌, length, MatchOption, MatchResult, Err, IfOk, IfErr, OnOk, OnErr, IsFalse, IsSome, IsSomeAnd, Some, None};
+ghost use Rattle.std.specs.Prelude.{◌≡◌, ℕ, List, ◌≤◌, ◌<◌, ◌+◌, ◌-◌, ◌*◌, length, MatchOption, MatchResult, Err, IfOk, IfErr, OnOk, OnErr, IsFalse, IsSome, IsSomeAnd, Some, None, true};
 ghost use Rattle.mt_border.specs.Border.{row_at, fill_is_spent};
 ghost use Rattle.mt_commit.specs.Log.{IsLog, reserve_fault};
 ghost use Rattle.mt_types.specs.declared.event.Request.TheVariants.{Put as PutRequest, Remove as RemoveRequest};
@@ -100,6 +100,7 @@ fn put_columns(
     requires room { IsSomeAnd (border_at tree.old.nodes row.now.way.node.0)
         (λ b. (length b.live < SLOTS) × IsFalse (fill_is_spent b)) }
     requires made { columns ≡ columns_after row.now.columns row.now.sets.now None }
+    requires locked { IsSomeAnd (border_at tree.old.nodes row.now.way.node.0) (λ b. b.version.locked ≡ true) }
     ensures ok { OnOk result (FillsNew row.now.columns row.now.key.now row.now.sets.now row.now.way tree.old row.now.key.now
         columns tree.new) }
     ensures err { OnErr result (tree.new ≡ tree.old) }
@@ -119,6 +120,7 @@ fn put_new(alloc: Global, tree: &mut Tree, row: &NewRow<'_>) -> Result<(), NoMem
     requires within { 8 * row.now.way.layer ≤ length row.now.key.now - 1 }
     requires room { IsSomeAnd (border_at tree.old.nodes row.now.way.node.0)
         (λ b. (length b.live < SLOTS) × IsFalse (fill_is_spent b)) }
+    requires locked { IsSomeAnd (border_at tree.old.nodes row.now.way.node.0) (λ b. b.version.locked ≡ true) }
     ensures ok { OnOk result (FillsNew row.now.columns row.now.key.now row.now.sets.now row.now.way tree.old row.now.key.now
         (columns_after row.now.columns row.now.sets.now None) tree.new) }
     ensures err { OnErr result (tree.new ≡ tree.old) }
@@ -132,6 +134,7 @@ fn put_logged(alloc: Global, tree: &mut Tree, row: &NewRow<'_>) -> Result<(Key, 
     requires within { 8 * row.now.way.layer ≤ length row.now.key.now - 1 }
     requires room { IsSomeAnd (border_at tree.old.nodes row.now.way.node.0)
         (λ b. (length b.live < SLOTS) × IsFalse (fill_is_spent b)) }
+    requires locked { IsSomeAnd (border_at tree.old.nodes row.now.way.node.0) (λ b. b.version.locked ≡ true) }
     ensures ok { IfOk result (λ made. FillsNew row.now.columns row.now.key.now row.now.sets.now row.now.way tree.old made.0 made.1
         tree.new) }
     ensures err { OnErr result (tree.new ≡ tree.old) }
@@ -154,6 +157,7 @@ pub fn fill(
     requires within { 8 * row.now.way.layer ≤ length row.now.key.now - 1 }
     requires absent { IsSomeAnd (border_at tree.old.nodes row.now.way.node.0)
         (λ b. (length b.live < SLOTS) × (found_for (rest_of row.now.key.now row.now.way) b.live ≡ AbsentFound place)) }
+    requires locked { IsSomeAnd (border_at tree.old.nodes row.now.way.node.0) (λ b. b.version.locked ≡ true) }
     ensures ready { MatchResult result
         (λ stage. Prepares row.now.columns row.now.key.now row.now.sets.now row.now.way tree.old log.old split stage tree.new log.new)
         (λ refusal. MayFail log.old (PutRequest row.now.key.now row.now.sets.now) refusal × IsBack tree.old tree.new
@@ -184,6 +188,7 @@ pub fn fill_unread(
 ) -> Result<(), Refusal>
     requires within { 8 * row.now.way.layer ≤ length row.now.key.now - 1 }
     requires room { IsSomeAnd (border_at tree.old.nodes row.now.way.node.0) (λ b. length b.live < SLOTS) }
+    requires locked { IsSomeAnd (border_at tree.old.nodes row.now.way.node.0) (λ b. b.version.locked ≡ true) }
     ensures ok { OnOk result (FillsNew row.now.columns row.now.key.now row.now.sets.now row.now.way tree.old row.now.key.now
         (columns_after row.now.columns row.now.sets.now None) tree.new × (log.new ≡ with_room log.old)) }
     ensures err { IfErr result (λ refusal. MayFail log.old (PutRequest row.now.key.now row.now.sets.now) refusal
@@ -287,6 +292,7 @@ pub fn prepare(
         (λ b. found ≡ found_for (rest_of row.now.key.now row.now.way) b.live) }
     requires stands { IsSomeAnd (border_at tree.old.nodes row.now.way.node.0)
         (λ b. IsFoundAt (rest_of row.now.key.now row.now.way) b.live found) }
+    requires locked { IsSomeAnd (border_at tree.old.nodes row.now.way.node.0) (λ b. b.version.locked ≡ true) }
     ensures ready { Prepares row.now.columns row.now.key.now row.now.sets.now row.now.way tree.old log.old None result tree.new
         log.new }
     ensures fault { IsSomeAnd (border_at tree.old.nodes row.now.way.node.0)

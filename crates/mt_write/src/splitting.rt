@@ -1,6 +1,6 @@
 //! The split of a full border: a half is spared, filled and linked, and the new row goes to the half of its key.
 
-ghost use Rattle.std.specs.Prelude.{◌≡◌, ℕ, ◌≤◌, ◌-◌, ◌*◌, length, MatchResult, IsSomeAnd, Some};
+ghost use Rattle.std.specs.Prelude.{◌≡◌, ℕ, ◌≤◌, ◌-◌, ◌*◌, length, MatchResult, IsSomeAnd, Some, true};
 ghost use Rattle.mt_types.specs.declared.event.Request.TheVariants.{Put as PutRequest};
 ghost use Rattle.mt_commit.specs.Log.{LogView};
 ghost use Rattle.mt_border.specs.Border.{with_entries, with_split};
@@ -107,6 +107,7 @@ fn fill_half(
     requires within { 8 * write.now.way.layer ≤ length write.now.key - 1 }
     requires half { IsSomeAnd (border_at tree.old.nodes write.now.way.node.0)
         (IsHalf write.now.key write.now.way) }
+    requires locked { IsSomeAnd (border_at tree.old.nodes write.now.way.node.0) (λ b. b.version.locked ≡ true) }
     requires put { PutsNew write.now.edit }
     ensures fault { IsSomeAnd (border_at tree.old.nodes write.now.way.node.0)
         (λ b. FailsBy (fill_fault log.old b) (Some split) result) }

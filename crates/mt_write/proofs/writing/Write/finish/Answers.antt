@@ -1,6 +1,6 @@
 -- A run at the border of its key: the lock, and what follows it.
-use Rattle.std.proofs.Common.{true, refl, sym, subst}
-use Rattle.mt_border.specs.Border.{BorderView, with_lock}
+use Rattle.std.proofs.Common.{refl, sym, subst}
+use Rattle.mt_border.specs.Border.{BorderView, with_locked}
 use Rattle.mt_arena.specs.Node.{border_at}
 use Rattle.mt_arena.specs.Arena.{ArenaView}
 use Rattle.mt_steps.specs.declared.progress.Progress.TheVariants.{Answered, Moved}
@@ -21,7 +21,7 @@ act-came_to-requires c = record {
   arena = c.free_numbers-locked.ensures.arena;
   sound = c.number-trimmed.ensures.sound;
   finds = subst (λ (x : ArenaView). Finds x c.args.self.now.key c.args.self.now.way c.args.found) (sym c.lock_border.ensures.value)
-      (finds_changed c.args.tree.now c.args.self.now.key c.args.self.now.way c.args.found c.requires.finds (λ (b : BorderView). with_lock b true) (λ b. refl));
+      (finds_changed c.args.tree.now c.args.self.now.key c.args.self.now.way c.args.found c.requires.finds (λ (b : BorderView). with_locked b) (λ b. refl));
 }
 
 pub unlock-requires-in-Commits : goal.unlock-requires-in-Commits

@@ -1,6 +1,6 @@
-use Rattle.std.proofs.Common.{◌≡◌, true, false, sym, subst}
+use Rattle.std.proofs.Common.{◌≡◌, true, sym, subst}
 use Rattle.std.specs.Prelude.{IsSomeAnd, Option}
-use Rattle.mt_border.specs.Border.{BorderView, with_lock}
+use Rattle.mt_border.specs.Border.{BorderView, with_unlocked}
 use Rattle.mt_arena.specs.Node.{border_at}
 use Rattle.mt_arena.specs.Arena.{ArenaView, with_border_changed}
 use Rattle.mt_tree.specs.Keeping.{KeepsTree}
@@ -17,7 +17,7 @@ pub returns-in_default : goal.returns-in_default
 returns-in_default c =
     let none = c.ready.ensures.none c.in_default.is in
     none.1 c.unlock_border.new.self
-    (subst (λ (x : ArenaView). c.unlock_border.new.self ≡ with_border_changed x c.args.self.now.way.node.0 (λ b. with_lock b false)) none.0 c.unlock_border.ensures.value)
+    (subst (λ (x : ArenaView). c.unlock_border.new.self ≡ with_border_changed x c.args.self.now.way.node.0 with_unlocked) none.0 c.unlock_border.ensures.value)
     (subst (λ (x : ArenaView). KeepsTree x c.unlock_border.new.self) none.0 c.unlock_border.ensures.keeps)
 
 pub returns : goal.returns
