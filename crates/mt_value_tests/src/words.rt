@@ -40,16 +40,36 @@ fn version_words(rt: HostRuntime) {
     assert_eq!(rt; version.to_u128(), 0x10);
     version.lock();
     assert_eq!(rt; version.to_u128(), 0x11);
-    assert_eq!(rt; version.bump_insert(), Ok(()));
-    assert_eq!(rt; version.to_u128(), 0x111);
-    assert_eq!(rt; version.bump_split(), Ok(()));
-    assert_eq!(rt; version.to_u128(), 0x1_0000_0000_0000_0111);
+    assert_eq!(rt; version.set_inserting(), Ok(()));
+    assert_eq!(rt; version.to_u128(), 0x13);
+    assert_eq!(rt; version.set_splitting(), Ok(()));
+    assert_eq!(rt; version.to_u128(), 0x17);
+    assert!(rt; version.is_flagged() && version.is_locked());
+    version.unlock_changed();
+    assert_eq!(rt; version.to_u128(), 0x1_0000_0000_0000_0110);
+    assert!(rt; !version.is_flagged() && !version.is_locked());
     version.mark_deleted();
-    assert_eq!(rt; version.to_u128(), 0x1_0000_0000_0000_0119);
-    assert!(rt; version.is_locked());
+    assert_eq!(rt; version.to_u128(), 0x1_0000_0000_0000_0118);
+    version.lock();
     version.unlock();
     assert_eq!(rt; version.to_u128(), 0x1_0000_0000_0000_0118);
     assert_eq!(rt; Version::new_inner().to_u128(), 0);
+}
+
+#[test]
+fn one_flag_raises_its_counter(rt: HostRuntime) {
+    let mut version = Version::new_border();
+    version.lock();
+    assert_eq!(rt; version.set_inserting(), Ok(()));
+    version.unlock_changed();
+    assert_eq!(rt; version.to_u128(), 0x110);
+    version.lock();
+    assert_eq!(rt; version.set_splitting(), Ok(()));
+    version.unlock_changed();
+    assert_eq!(rt; version.to_u128(), 0x1_0000_0000_0000_0110);
+    version.lock();
+    version.unlock_changed();
+    assert_eq!(rt; version.to_u128(), 0x1_0000_0000_0000_0110);
 }
 
 #[test]
@@ -57,14 +77,17 @@ fn words_of_versions(rt: HostRuntime) {
     for word in [0x20, 0x40, 0x80] {
         assert!(rt; Version::from_u128(word).is_none());
     }
-    let spent = Version::from_u128(0xffff_ffff_ffff_ffff_ffff_ffff_ffff_ff1f);
-    let mut version = spent.expect(&rt, "bits 5 to 7 are zero");
+    let last = Version::from_u128(0xffff_ffff_ffff_fffe_ffff_ffff_ffff_fe11);
+    let mut version = last.expect(&rt, "bits 5 to 7 are zero");
+    assert_eq!(rt; version.set_inserting(), Ok(()));
+    assert_eq!(rt; version.set_splitting(), Ok(()));
+    version.unlock_changed();
     assert_eq!(rt; version.vinsert(), 0xff_ffff_ffff_ffff);
     assert_eq!(rt; version.vsplit(), 0xffff_ffff_ffff_ffff);
-    assert_eq!(rt; version.bump_insert(), Err(SpentCounter));
-    assert_eq!(rt; version.bump_split(), Err(SpentCounter));
+    assert_eq!(rt; version.set_inserting(), Err(SpentCounter));
+    assert_eq!(rt; version.set_splitting(), Err(SpentCounter));
     assert_eq!(rt;
         version.to_u128(),
-        0xffff_ffff_ffff_ffff_ffff_ffff_ffff_ff1f
+        0xffff_ffff_ffff_ffff_ffff_ffff_ffff_ff10
     );
 }

@@ -154,18 +154,6 @@ ended_split_word w v set unspent h =
     let room = unspent.splits set in
     record { is = omega (arith, h.is, one); whole = record { vinsert_fits = h.whole.vinsert_fits; vsplit_fits = omega (arith, room, one) } }
 
-pub inserted_word : (w : ℕ) (v : VersionView) → v.vinsert < 2 ^ 56 - 1 → IsWordOfVersion w v → IsWordOfVersion (w + 2 ^ 8) (record v { vinsert = v.vinsert + 1 })
-inserted_word w v room h = record {
-  is = omega (arith, h.is);
-  whole = record { vinsert_fits = omega arith; vsplit_fits = h.whole.vsplit_fits };
-}
-
-pub split_word : (w : ℕ) (v : VersionView) → v.vsplit < 2 ^ 64 - 1 → IsWordOfVersion w v → IsWordOfVersion (w + 2 ^ 64) (record v { vsplit = v.vsplit + 1 })
-split_word w v room h = record {
-  is = omega (arith, h.is);
-  whole = record { vinsert_fits = h.whole.vinsert_fits; vsplit_fits = omega arith };
-}
-
 -- what is said of a word's view, from its version
 pub view_after : (w new : ℕ) (v next : VersionView) → (IsWordOfVersion w v → IsWordOfVersion new next) → IsVersionWord w → version_of_word w ≡ v → version_of_word new ≡ next
 view_after w new v next step h e = version_of_word_is new next (step (version_is w v h e))

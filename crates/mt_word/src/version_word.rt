@@ -280,44 +280,6 @@ impl Version {
         self.word |= DELETED;
     }
 
-    /// Raises `vinsert` by one.
-    ///
-    /// # Errors
-    ///
-    /// `SpentCounter` where it is `MAX_INSERTS`. Nothing is then changed.
-    pub fn bump_insert(&mut self) -> Result<(), SpentCounter>
-        ensures ok { IsOk result ↔ (self.old.vinsert < MAX_INSERTS) }
-        ensures spent { IsErr result ↔ (self.old.vinsert ≡ MAX_INSERTS) }
-        ensures raised { OnOk result (self.new ≡ record self.old { vinsert = self.old.vinsert + 1 }) }
-        ensures unchanged { OnErr result (self.new ≡ self.old) }
-        ensures whole { IsVersion self.new }
-    {
-        if self.is_insert_spent() {
-            return Err(SpentCounter);
-        }
-        self.word += 1 << VINSERT_SHIFT;
-        Ok(())
-    }
-
-    /// Raises `vsplit` by one.
-    ///
-    /// # Errors
-    ///
-    /// `SpentCounter` where it is `MAX_SPLITS`. Nothing is then changed.
-    pub fn bump_split(&mut self) -> Result<(), SpentCounter>
-        ensures ok { IsOk result ↔ (self.old.vsplit < MAX_SPLITS) }
-        ensures spent { IsErr result ↔ (self.old.vsplit ≡ MAX_SPLITS) }
-        ensures raised { OnOk result (self.new ≡ record self.old { vsplit = self.old.vsplit + 1 }) }
-        ensures unchanged { OnErr result (self.new ≡ self.old) }
-        ensures whole { IsVersion self.new }
-    {
-        if self.is_split_spent() {
-            return Err(SpentCounter);
-        }
-        self.word += 1 << VSPLIT_SHIFT;
-        Ok(())
-    }
-
     /// The word itself.
     pub fn to_u128(&self) -> u128
         ensures value { result ≡ word_of_version self.now }
