@@ -90,7 +90,7 @@ true_at begun a w posting stage is truth = subst (λ (s : PostStage). PostStageI
 
 -- the border that was to be posted is locked
 pub still_locked : (a : ArenaView) (w : World) (prefix : List ℕ) (number low : ℕ) → IsToPost a w prefix number low → IsLockedBorder a w number
-still_locked a w prefix number low t = record { b = t.b; named = t.named; known = known_some w number _ t.place; locked = t.locked; alive = t.alive; free = t.free }
+still_locked a w prefix number low t = record { b = t.b; named = t.named; known = known_some w number _ t.place; locked = t.locked; alive = t.alive; written = t.written; free = t.free }
 
 -- from the head it begins its way
 pub from_head : (begun : ℕ) (prefix : List ℕ) (wanted : Child) (number : ℕ) (w : World) → IsHeadOf w begun number prefix → IsWalking begun prefix wanted number w

@@ -2,6 +2,7 @@
 use Rattle.std.specs.Prelude.{ℕ, ◌≡◌, ◌⊎◌, ◌<◌, ◌≤◌, ◌+◌, List, [], ◌∷◌, length, drop, slice_get, Some, None, true, false}
 use Rattle.mt_types.specs.declared.limits.TheConstants.{MAX_LEVEL}
 use Rattle.mt_types.specs.declared.numbers.NodeNo.{NodeNo}
+use Rattle.mt_border.specs.declared.unwritten.Unwritten.TheVariants.{Nothing}
 use Rattle.mt_border.specs.Border.{BorderView}
 use Rattle.mt_interior.specs.Interior.{InteriorView, IsInterior, new_interior, with_children, with_lock}
 use Rattle.mt_interior.specs.declared.child.Child.{Child}
@@ -59,6 +60,7 @@ pub record IsToPost (a : ArenaView) (w : World) (prefix : List ℕ) (number low 
   pub low_is : b.low ≡ low
   pub locked : b.version.locked ≡ true
   pub alive : b.version.deleted ≡ false
+  pub written : b.unwritten ≡ Nothing
   pub place : w.chart number ≡ Some (spot (at_level 0) prefix low (on false))
   pub free : NotAmong number w.closing
 

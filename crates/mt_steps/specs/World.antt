@@ -4,6 +4,7 @@ use Rattle.mt_types.specs.declared.limits.TheConstants.{MAX_KEY_BYTES}
 use Rattle.mt_types.specs.declared.row.Row.{Row}
 use Rattle.mt_slice.specs.Place.{Place, AreBytes, place_of}
 use Rattle.mt_arena.specs.Node.{node_at, head_at, interior_at, border_at}
+use Rattle.mt_border.specs.declared.unwritten.Unwritten.TheVariants.{Nothing}
 use Rattle.mt_border.specs.Border.{BorderView}
 use Rattle.mt_arena.specs.Arena.{ArenaView}
 use Rattle.mt_interior.specs.Head.{HeadView}
@@ -143,13 +144,14 @@ abbrev pub NotAmong : ℕ → List ℕ → Type 0
 NotAmong number numbers = Among number numbers → ⊥
 
 -- the number is a border of the tree, and is locked, and not by a call that takes its layer out; it is not marked
--- deleted
+-- deleted, and all of it is written
 pub record IsLockedBorder (a : ArenaView) (w : World) (number : ℕ) : Type 0 where
   pub b : BorderView
   pub named : border_at a.nodes number ≡ Some b
   pub known : IsSome (w.chart number)
   pub locked : b.version.locked ≡ true
   pub alive : b.version.deleted ≡ false
+  pub written : b.unwritten ≡ Nothing
   pub free : NotAmong number w.closing
 
 -- each interior among these numbers that is gone went in this epoch or later
