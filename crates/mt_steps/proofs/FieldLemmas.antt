@@ -1,19 +1,12 @@
--- A get that reads a field of a border: what it knows then, and where that leads.
-use Rattle.std.proofs.Common.{ℕ, suc, ◌≡◌, ◌≢◌, ◌<◌, ◌≤◌, ◌+◌, ◌⊎◌, inl, inr, Bool, true, false, cond, ◌||◌, ◌&&◌, ◌==◌, List, [], ◌∷◌, length, map, drop, slice_get, Option, Some, None, refl, sym, ap, subst, ◌∙◌, add-one, arith}
-use Rattle.std.specs.Prelude.{slice_index, nat_lt, nat_le}
+-- A get that reads a field of a border other than a key: what it knows then, and where that leads.
+use Rattle.std.proofs.Common.{ℕ, suc, ◌≡◌, ◌<◌, ◌≤◌, ◌+◌, Bool, true, false, cond, List, ◌∷◌, length, map, Option, Some, None, refl, sym, ap, subst, add-one, arith}
+use Rattle.std.specs.Prelude.{slice_index, nat_lt}
 use Rattle.std.specs.Option.{option_map}
-use Rattle.std.proofs.lemmas.Bool.{lt-ltb, le-ltb, ltb-true, ltb-false, leb-true, le-leb, eq-eqb, or_right, cases_lt, cases_Bool, cond-true, cond-false}
-use Rattle.std.proofs.lemmas.List.{drop_all}
-use Rattle.std.proofs.lemmas.Bool.Decides.{eqb_tells}
+use Rattle.std.proofs.lemmas.Bool.{ltb-true, ltb-false}
 use Rattle.mt_types.specs.Rows.{shown}
 use Rattle.mt_types.specs.declared.numbers.NodeNo.{NodeNo}
-use Rattle.mt_slice.specs.Place.{Place, last, deeper, AreBytes, place_of, first_slice, first_class, slice_number}
-use Rattle.mt_slice.specs.Classes.{class_number, class_of, place_at}
-use Rattle.mt_slice.specs.declared.slice_class.Class.{Class}
-use Rattle.mt_slice.specs.declared.slice_class.Class.TheVariants.{Len, Long as LongClass}
-use Rattle.mt_slice.proofs.PlaceOn.{place_of-place_at, place_of-short, place_of-long}
+use Rattle.mt_slice.specs.Place.{Place, AreBytes, place_of, slice_number}
 use Rattle.mt_border.specs.Border.{BorderView}
-use Rattle.mt_border.specs.Entry.{content_class}
 use Rattle.mt_border.specs.Slots.{slot_at}
 use Rattle.mt_border.specs.declared.entry.Content.{Content}
 use Rattle.mt_border.specs.declared.entry.Content.TheVariants.{Short, Long, Link}
@@ -22,10 +15,10 @@ use Rattle.mt_border.specs.declared.entry.RightLink.{RightLink}
 use Rattle.mt_arena.specs.Arena.{ArenaView}
 use Rattle.mt_arena.specs.Node.{border_at}
 use Rattle.mt_chart.specs.Tree.{Arena, Right, Below}
-use Rattle.mt_chart.specs.Chart.{class, Holds}
+use Rattle.mt_chart.specs.Chart.{Holds}
 use Rattle.mt_chart.specs.Walk.{Trail}
 use Rattle.mt_chart.proofs.ReadingStay.{right_held, climbs_right}
-use Rattle.mt_tree.specs.Seen.{arena_seen, border_seen, right_seen, entry_seen, content_seen}
+use Rattle.mt_tree.specs.Seen.{arena_seen, border_seen, right_seen, content_seen}
 use Rattle.mt_tree.specs.Fields.{fields_seen}
 use Rattle.mt_tree.proofs.DescentLemmas.{slice_of_place}
 use Rattle.mt_steps.specs.Reader.{bounded, by_visit, counters_of, looked, settled}
@@ -37,14 +30,12 @@ use Rattle.mt_steps.specs.Finding.{FindReading}
 use Rattle.mt_steps.specs.declared.reader.Reading.TheVariants.{Restarts, Repeats, GoesOn, To, Finds}
 use Rattle.mt_types.specs.declared.event.Request.TheVariants.{Get as GetRequest}
 use Rattle.mt_types.specs.declared.event.Answer.TheVariants.{Absent as AbsentAnswer, Found}
-use Rattle.mt_steps.specs.Finding.{is_before}
 use Rattle.mt_steps.specs.Getting.{AtBorder, HasBound, FindingIsTrue, reads_made}
 use Rattle.mt_steps.specs.Standing.{counters_seen, Still}
 use Rattle.mt_steps.proofs.StandLemmas.{looks_at, holds_on, bound, there_now, few_live, orders_now, still_so}
 use Rattle.mt_steps.specs.World.{World, IsWorld}
 use Rattle.mt_steps.specs.Way.{IsOnWay, prefix_of, rest_of}
 use Rattle.mt_steps.specs.Step.{IsRight}
-use Rattle.mt_types.specs.declared.row.Row.{Row}
 use Rattle.mt_word.specs.Slots.{Slots}
 use Rattle.mt_chart.specs.Tree.{border}
 use Rattle.mt_chart.specs.ScanRun.{Stood, Lacked}
@@ -57,26 +48,8 @@ use Rattle.mt_chart.proofs.ReadingStay.{searches_stay, ages_none}
 use Rattle.mt_tree.proofs.AgeLemmas.{are_slots}
 use Rattle.mt_steps.specs.declared.finding.Sight.TheVariants.{Absent as AbsentSight}
 use Rattle.mt_steps.specs.Finding.{settles, next_key}
-use Rattle.std.specs.Prelude.{unwrap_or}
-use Rattle.std.specs.Str.{bytes_eq}
-use Rattle.std.proofs.lemmas.Slice.Eq.{bytes_eq-Decides}
-use Rattle.std.proofs.lemmas.Option.{slice_get-get_or}
-use Rattle.mt_slice.proofs.Slices.{bytes-drop}
-use Rattle.mt_slice.proofs.Canonical.{same_from_place_of}
-use Rattle.mt_border.specs.Entry.{content_suffix, IsContent}
-use Rattle.mt_border.specs.Parts.{IsKeyOf, content_mark as part_mark}
 use Rattle.mt_border.specs.declared.entry.Entry.{Entry}
-use Rattle.mt_border.specs.declared.field.KeyPart.{KeyPart}
-use Rattle.mt_border.specs.declared.field.Mark.{Mark}
-use Rattle.mt_border.specs.declared.field.Mark.TheVariants.{Plain, Layer}
-use Rattle.mt_chart.specs.Tree.{HoldsRow}
-use Rattle.mt_chart.specs.Noted.{plain}
-use Rattle.mt_chart.specs.Reading.{StandsBefore, StandsAfter, HasLinkKey}
-use Rattle.mt_chart.proofs.ReadingKeys.{passes_key, stops_after, stops_other, finds_row, finds_link}
-use Rattle.mt_tree.specs.Fields.{content_mark}
-use Rattle.mt_tree.proofs.DescentLemmas.{class_long}
 use Rattle.mt_steps.specs.declared.finding.Kind.TheVariants.{Row as RowKind, Link as LinkKind}
-use Rattle.mt_steps.specs.Finding.{key_found, key_read}
 use Rattle.mt_slice.specs.Place.{rest_at, slices_above}
 use Rattle.mt_border.specs.Parts.{IsValueOf}
 use Rattle.mt_border.specs.declared.field.ValuePart.{ValuePart}
@@ -91,53 +64,11 @@ use Rattle.mt_tree.specs.declared.visit.Visit.TheVariants.{Again as VisitAgain, 
 use Rattle.mt_steps.specs.declared.finding.Kind.{Kind}
 use Rattle.mt_steps.specs.declared.finding.Sight.{Sight}
 use Rattle.mt_steps.specs.declared.finding.Sight.TheVariants.{Row as RowSight, Link as LinkSight}
-use Rattle.mt_steps.specs.Finding.{value_read, at_order, notes_at, FindNotes}
+use Rattle.mt_steps.specs.Finding.{value_read, at_order, notes_at}
 use Rattle.mt_steps.specs.Getting.{IsPlaceOf, GoesDeeper, KeyIsTrue, Fits, SightIsTrue}
 use Rattle.mt_steps.specs.Way.{Visits, went_by}
 use Rattle.mt_steps.proofs.WayLemmas.{layer_below}
 use Rattle.mt_steps.proofs.ReaderLemmas.{looked_by, bounded_by, settled_by}
-
--- ---- ranks
-class_seen : (content : Content) → class (content_seen content) ≡ class_number (content_class content)
-class_seen (Short bytes row) = refl
-class_seen (Long suffix row) = refl
-class_seen (Link head) = refl
-
-first_class_of : (rest : List ℕ) → first_class (place_of rest) ≡ class_number (class_of (length rest))
-first_class_of rest = ap first_class (place_of-place_at rest) ∙ go (class_of (length rest))
-  where
-    go : (c : Class) → first_class (place_at (slice_number rest) c (place_of (drop 8 rest))) ≡ class_number c
-    go (Len bytes) = refl
-    go LongClass = refl
-
-class_of-short : (n : ℕ) → n ≤ 8 → class_of n ≡ Len n
-class_of-short n most = cond-true (nat_le n 8) (Len n) LongClass (le-leb n 8 most)
-
-class_of-long : (n : ℕ) → 8 < n → class_of n ≡ LongClass
-class_of-long n more = elim (cases_Bool (nat_le n 8)) [
-  | inl h ↦ absurd (let few = leb-true n 8 h in omega (arith, few, more))
-  | inr h ↦ cond-false (nat_le n 8) (Len n) LongClass h
-]
-
-before_tells : (slice number other_slice other : ℕ) → is_before slice number other_slice other ≡ true → (slice < other_slice) ⊎ ((slice ≡ other_slice) × (number < other))
-before_tells slice number other_slice other is = elim (cases_lt slice other_slice) [
-  | inl less ↦ inl less
-  | inr most ↦
-      let here : ((slice == other_slice) && nat_lt number other) ≡ true = sym (ap (λ (b : Bool). b || ((slice == other_slice) && nat_lt number other)) (le-ltb slice other_slice most)) ∙ is in
-      elim (eqb_tells slice other_slice) [
-        | inl q ↦ inr (q.1, ltb-true number other (sym (ap (λ (b : Bool). b && nat_lt number other) q.0) ∙ here))
-        | inr q ↦ absurd (let none : false ≡ true = sym (ap (λ (b : Bool). b && nat_lt number other) q.0) ∙ here in cc)
-      ]
-]
-
-not_before : (slice number other_slice other : ℕ) → is_before slice number other_slice other ≡ false → (slice < other_slice → ⊥) × (slice ≡ other_slice → number < other → ⊥)
-not_before slice number other_slice other is = (
-  (λ less. let yes : is_before slice number other_slice other ≡ true = ap (λ (b : Bool). b || ((slice == other_slice) && nat_lt number other)) (lt-ltb slice other_slice less) in let clash : true ≡ false = sym yes ∙ is in absurd (cc)),
-  (λ same less.
-      let inside : ((slice == other_slice) && nat_lt number other) ≡ true = ap (λ (b : Bool). b && nat_lt number other) (eq-eqb slice other_slice same) ∙ lt-ltb number other less in
-      let yes : is_before slice number other_slice other ≡ true = or_right (nat_lt slice other_slice) ((slice == other_slice) && nat_lt number other) inside in
-      let clash : true ≡ false = sym yes ∙ is in absurd (cc)),
-)
 
 -- it moves to another node, which is higher in the order of a descent
 pub record GoesOnTo (begun : ℕ) (key : List ℕ) (way next : Way) (w : World) : Type 0 where
@@ -208,24 +139,24 @@ module _ (a : ArenaView) (now : ℕ) (w : World) (world : IsWorld a now w) (begu
     there : arena_seen a way.node.0 ≡ Some (border (border_seen at.here.b))
     there = there_now a now w world begun prefix slice way.node.0 counters at.here
 
-    searches_later : (noted : Option Right) (numbers : List ℕ) (place : ℕ) → (Still counters at.here.b → Searches (shown asked) w.chart begun arenas prefix f noted numbers (place_of rest) place)
+    pub searches_later : (noted : Option Right) (numbers : List ℕ) (place : ℕ) → (Still counters at.here.b → Searches (shown asked) w.chart begun arenas prefix f noted numbers (place_of rest) place)
         → Still counters at.here.b → Searches (shown asked) w.chart begun (arena_seen a ∷ arenas) prefix f noted numbers (place_of rest) place
     searches_later noted numbers place = searches_stay (shown asked) begun way.node.0 w.chart w.chart (arena_seen a) arenas prefix f f (counters_seen counters) (evolves_same begun w.chart) world.index.tree there refl (ages_none f)
         (are_slots at.here.b at.here.slots) at.here.looked.come at.here.looked.known noted numbers (place_of rest) place
 
     -- the key has no row if the search has stopped
-    lacks_then : (noted : Option Right) (numbers : List ℕ) (place : ℕ) (arenas : List Arena) → Below slice noted → (searches : Searches (shown asked) w.chart begun arenas prefix f noted numbers (place_of rest) place) → Stops (place_of rest) searches.was place → Lacked arenas (place_of key)
+    pub lacks_then : (noted : Option Right) (numbers : List ℕ) (place : ℕ) (arenas : List Arena) → Below slice noted → (searches : Searches (shown asked) w.chart begun arenas prefix f noted numbers (place_of rest) place) → Stops (place_of rest) searches.was place → Lacked arenas (place_of key)
     lacks_then noted numbers place arenas below searches stops =
         subst (λ (x : Place). Lacked arenas x) (sym at.layer.under)
         (lacks (shown asked) w.chart begun arenas prefix f noted numbers searches.was searches.order (place_of rest) (subst (λ (n : ℕ). at.here.b.low ≤ n) (sym (slice_of_place rest)) at.here.looked.from_low)
         (subst (λ (n : ℕ). Below n noted) (sym (slice_of_place rest)) below) place searches.before stops)
 
     -- it settles, and has found no row
-    settles_none : (finding : Finding) → reads_made finding < 20 → (Still counters at.here.b → Lacked (arena_seen a ∷ arenas) (place_of key)) → LeadsTo key asked way finding begun past a w (settles counters AbsentSight)
+    pub settles_none : (finding : Finding) → reads_made finding < 20 → (Still counters at.here.b → Lacked (arena_seen a ∷ arenas) (place_of key)) → LeadsTo key asked way finding begun past a w (settles counters AbsentSight)
     settles_none finding few lacked = ((at, tt, lacked), few)
 
     -- the key at a place is next, if there is one
-    next_leads : (finding : Finding) (right : Option RightLink) (order : Slots) (place : ℕ) → reads_made finding < 3 + place → reads_made finding < 20 → length order.live ≤ 15 → HasBound key way counters at.here.b right begun w
+    pub next_leads : (finding : Finding) (right : Option RightLink) (order : Slots) (place : ℕ) → reads_made finding < 3 + place → reads_made finding < 20 → length order.live ≤ 15 → HasBound key way counters at.here.b right begun w
         → (Still counters at.here.b → Searches (shown asked) w.chart begun (arena_seen a ∷ arenas) prefix f (option_map right_seen right) order.live (place_of rest) place)
         → LeadsTo key asked way finding begun past a w (next_key (notes_at counters right order place))
     next_leads finding right order place less few fits bound searches = go (nat_lt place (length order.live)) refl
@@ -244,188 +175,6 @@ module _ (a : ArenaView) (now : ℕ) (w : World) (world : IsWorld a now w) (begu
       order = orders_now a now w world begun prefix slice way.node.0 counters at.here (shown asked) arenas sound right bound still;
       before = λ i slot less is. absurd (omega (arith, less));
     })
-
-    -- ---- the key of a slot
-    module _ (bytes : AreBytes rest) (right : Option RightLink) (order : Slots) (place : ℕ) (within : place < length order.live) (fits : length order.live ≤ 15) (bound : HasBound key way counters at.here.b right begun w)
-        (searches : Still counters at.here.b → Searches (shown asked) w.chart begun arenas prefix f (option_map right_seen right) order.live (place_of rest) place) where
-      abbrev notes : FindNotes
-      notes = notes_at counters right order place
-
-      abbrev number : ℕ
-      number = slice_index order.live place
-
-      abbrev e : Entry
-      e = (slot_at at.here.b number).entry
-
-      number_at_place : slice_get order.live place ≡ Some number
-      number_at_place = slice_get-get_or order.live place 0 within
-
-      later_searches : Still counters at.here.b → Searches (shown asked) w.chart begun (arena_seen a ∷ arenas) prefix f (option_map right_seen right) order.live (place_of rest) place
-      later_searches = searches_later (option_map right_seen right) order.live place searches
-
-      abbrev sought : ℕ
-      sought = class_number (class_of (length rest))
-
-      few : 3 + place < 20
-      few = omega (arith, within, fits)
-
-      -- if its slice and class are those of the key sought
-      module _ (at_slice : e.slice ≡ slice) (part : KeyPart) (is : IsKeyOf e part) where
-        here_slice : e.slice ≡ first_slice (place_of rest)
-        here_slice = at_slice ∙ sym (slice_of_place rest)
-
-        -- a row of the key sought
-        row_here : (row : Row) → HoldsRow e.slice (content_seen e.content) (place_of rest) row → LeadsTo key asked way (Reads notes) begun past a w (GoesOn (AtValue notes RowKind))
-        row_here row holds = (
-          (at, (within, fits), tt, (λ still. finds_row (shown asked) w.chart begun (arena_seen a ∷ arenas) prefix f (option_map right_seen right) order.live (place_of rest) place number number_at_place (later_searches still) row holds)),
-          omega arith,
-        )
-
-        -- the row of another
-        other_here : (other : Place) (row : Row) → content_mark e.content ≡ plain → HoldsRow e.slice (content_seen e.content) other row → class (content_seen e.content) ≡ sought → other ≢ place_of rest
-            → LeadsTo key asked way (Reads notes) begun past a w (settles counters AbsentSight)
-        other_here other row mark holds at_class differs = settles_none (Reads notes) few (λ still.
-            let found = later_searches still in
-            lacks_then (option_map right_seen right) order.live place (arena_seen a ∷ arenas) bound.passes found
-            (stops_other (shown asked) w.chart begun (arena_seen a ∷ arenas) prefix f (option_map right_seen right) order.live (place_of rest) place number number_at_place found mark other row holds here_slice
-            (at_class ∙ sym (first_class_of rest)) differs))
-
-        long_rest : class (content_seen e.content) ≡ sought → class (content_seen e.content) ≡ 9 → 8 < length rest
-        long_rest at_class nine = class_long (length rest) (sym at_class ∙ nine)
-
-        by_content : (content : Content) → e.content ≡ content → class (content_seen content) ≡ sought → (mark : Mark) → mark ≡ part_mark content → (same : Bool) → bytes_eq part.suffix.now (drop 8 rest) ≡ same
-            → LeadsTo key asked way (Reads notes) begun past a w (key_found notes mark same)
-        by_content (Short bytes row) here at_class mark marked same is_same = go mark marked same is_same
-          where
-            most : bytes ≤ 8
-            most = subst (λ (c : Content). IsContent c) here is.whole.content
-
-            short : length rest ≤ 8
-            short = elim (cases_lt 8 (length rest)) [
-              | inl long ↦ absurd (let nine : class_of (length rest) ≡ LongClass = class_of-long (length rest) long in let nine_number : sought ≡ 9 = ap class_number nine in omega (arith, most, at_class, nine_number))
-              | inr few ↦ few
-            ]
-
-            as_long : bytes ≡ length rest
-            as_long = at_class ∙ ap class_number (class_of-short (length rest) short)
-
-            nothing : drop 8 rest ≡ []
-            nothing = drop_all 8 rest short
-
-            no_suffix : part.suffix.now ≡ []
-            no_suffix = is.suffix ∙ ap (λ (c : Content). unwrap_or (content_suffix c) []) here
-
-            holds : HoldsRow e.slice (content_seen e.content) (place_of rest) row
-            holds = subst (λ (c : Content). HoldsRow e.slice (content_seen c) (place_of rest) row) (sym here) (place_of-short rest short ∙ (ap (λ (n : ℕ). last n (length rest)) (sym at_slice) ∙ ap (λ (n : ℕ). last e.slice n) (sym as_long)), refl)
-
-            go : (mark : Mark) → mark ≡ Plain → (same : Bool) → bytes_eq part.suffix.now (drop 8 rest) ≡ same → LeadsTo key asked way (Reads notes) begun past a w (key_found notes mark same)
-            go Plain marked true is_same = row_here row holds
-            go Plain marked false is_same = absurd (let equal : bytes_eq part.suffix.now (drop 8 rest) ≡ true = (bytes_eq-Decides part.suffix.now (drop 8 rest)).1 (no_suffix ∙ sym nothing) in cc)
-            go Layer marked same is_same = absurd (cc)
-        by_content (Long suffix row) here at_class mark marked same is_same = go mark marked same is_same
-          where
-            long : 8 < length rest
-            long = long_rest (ap (λ (c : Content). class (content_seen c)) here ∙ at_class) (ap (λ (c : Content). class (content_seen c)) here)
-
-            suffix_is : part.suffix.now ≡ suffix
-            suffix_is = is.suffix ∙ ap (λ (c : Content). unwrap_or (content_suffix c) []) here
-
-            its_place : Place
-            its_place = deeper e.slice (place_of suffix)
-
-            holds : HoldsRow e.slice (content_seen e.content) its_place row
-            holds = subst (λ (c : Content). HoldsRow e.slice (content_seen c) its_place row) (sym here) (refl, refl)
-
-            same_place : suffix ≡ drop 8 rest → its_place ≡ place_of rest
-            same_place same = ap (λ (n : ℕ). deeper n (place_of suffix)) at_slice ∙ (ap (λ (xs : List ℕ). deeper slice (place_of xs)) same ∙ sym (place_of-long rest long))
-
-            differs : (suffix ≡ drop 8 rest → ⊥) → its_place ≢ place_of rest
-            differs apart same =
-                apart (same_from_place_of suffix (drop 8 rest) (subst AreBytes suffix_is is.bytes) (bytes-drop 8 rest bytes) (below_same (same ∙ place_of-long rest long)))
-              where
-                below_same : deeper e.slice (place_of suffix) ≡ deeper slice (place_of (drop 8 rest)) → place_of suffix ≡ place_of (drop 8 rest)
-                below_same is = cc
-
-            go : (mark : Mark) → mark ≡ Plain → (same : Bool) → bytes_eq part.suffix.now (drop 8 rest) ≡ same → LeadsTo key asked way (Reads notes) begun past a w (key_found notes mark same)
-            go Plain marked true is_same =
-                row_here row (subst (λ (x : Place). HoldsRow e.slice (content_seen e.content) x row) (same_place (sym suffix_is ∙ (bytes_eq-Decides part.suffix.now (drop 8 rest)).0 is_same)) holds)
-            go Plain marked false is_same = other_here its_place row (ap content_mark here) holds (ap (λ (c : Content). class (content_seen c)) here ∙ at_class)
-                (differs (λ alike. let equal : bytes_eq part.suffix.now (drop 8 rest) ≡ true = (bytes_eq-Decides part.suffix.now (drop 8 rest)).1 (suffix_is ∙ alike) in absurd (cc)))
-            go Layer marked same is_same = absurd (cc)
-        by_content (Link head) here at_class mark marked same is_same = go mark marked
-          where
-            long : 8 < length rest
-            long = long_rest (ap (λ (c : Content). class (content_seen c)) here ∙ at_class) (ap (λ (c : Content). class (content_seen c)) here)
-
-            go : (mark : Mark) → mark ≡ Layer → LeadsTo key asked way (Reads notes) begun past a w (key_found notes mark same)
-            go Plain marked = absurd (cc)
-            go Layer marked = (
-              (
-                at,
-                (within, fits),
-                long,
-                (λ still. subst (λ (n : ℕ). HasLinkKey (shown asked) w.chart begun (arena_seen a ∷ arenas) prefix f number n) (slice_of_place rest)
-                    (finds_link (shown asked) w.chart begun (arena_seen a ∷ arenas) prefix f (option_map right_seen right) order.live (place_of rest) place number number_at_place (later_searches still) head.0 here_slice (ap content_seen here))),
-              ),
-              omega arith,
-            )
-
-      pub leads_key : (part : KeyPart) → IsKeyOf e part → LeadsTo key asked way (Reads notes) begun past a w (key_read rest notes part)
-      leads_key part is = go (is_before part.slice own slice sought) refl
-        where
-          own : ℕ
-          own = class_number part.class
-
-          own_is : own ≡ class (content_seen e.content)
-          own_is = ap class_number is.class ∙ sym (class_seen e.content)
-
-          fs : first_slice (place_of rest) ≡ slice
-          fs = slice_of_place rest
-
-          fc : first_class (place_of rest) ≡ sought
-          fc = first_class_of rest
-
-          before : is_before part.slice own slice sought ≡ true → StandsBefore (first_slice (place_of rest)) (first_class (place_of rest)) (entry_seen e)
-          before is_less = let own_slice = is.slice in elim (before_tells part.slice own slice sought is_less) [
-            | inl less ↦ inl (omega (arith, less, own_slice, fs))
-            | inr (same, less) ↦ inr (sym own_slice ∙ same ∙ sym fs, omega (arith, less, own_is, fc))
-          ]
-
-          after : is_before slice sought part.slice own ≡ true → StandsAfter (first_slice (place_of rest)) (first_class (place_of rest)) (entry_seen e)
-          after is_more = let own_slice = is.slice in elim (before_tells slice sought part.slice own is_more) [
-            | inl less ↦ inl (omega (arith, less, own_slice, fs))
-            | inr (same, less) ↦ inr (sym own_slice ∙ sym same ∙ sym fs, omega (arith, less, own_is, fc))
-          ]
-
-          neither : is_before part.slice own slice sought ≡ false → is_before slice sought part.slice own ≡ false → (e.slice ≡ slice) × (class (content_seen e.content) ≡ sought)
-          neither no_less no_more =
-              let own_slice = is.slice in
-              let (a1, a2) = not_before part.slice own slice sought no_less in
-              let (b1, b2) = not_before slice sought part.slice own no_more in
-              let same : part.slice ≡ slice = equal part.slice slice a1 b1 in
-              (sym own_slice ∙ same, sym own_is ∙ equal own sought (a2 same) (b2 (sym same)))
-            where
-              equal : (m n : ℕ) → (m < n → ⊥) → (n < m → ⊥) → m ≡ n
-              equal m n not_less not_more = elim (cases_lt m n) [
-                | inl less ↦ absurd (not_less less)
-                | inr most ↦ elim (cases_lt n m) [ inl less ↦ absurd (not_more less) | inr most' ↦ omega (arith, most, most') ]
-              ]
-
-          at_key : (b : Bool) → is_before part.slice own slice sought ≡ false → is_before slice sought part.slice own ≡ b
-              → LeadsTo key asked way (Reads notes) begun past a w (cond b (settles counters AbsentSight) (key_found notes part.mark (bytes_eq part.suffix.now (drop 8 rest))))
-          at_key true no_less more = settles_none (Reads notes) few (λ still.
-              let found = later_searches still in
-              lacks_then (option_map right_seen right) order.live place (arena_seen a ∷ arenas) bound.passes found
-              (stops_after (shown asked) w.chart begun (arena_seen a ∷ arenas) prefix f (option_map right_seen right) order.live (place_of rest) place number number_at_place found (after more)))
-          at_key false no_less no_more =
-              let (at_slice, at_class) = neither no_less no_more in
-              by_content at_slice part is e.content refl at_class part.mark is.mark (bytes_eq part.suffix.now (drop 8 rest)) refl
-
-          go : (b : Bool) → is_before part.slice own slice sought ≡ b
-              → LeadsTo key asked way (Reads notes) begun past a w (cond b (next_key (notes_at counters right order (place + 1))) (cond (is_before slice sought part.slice own) (settles counters AbsentSight) (key_found notes part.mark (bytes_eq part.suffix.now (drop 8 rest)))))
-          go true less = next_leads (Reads notes) right order (place + 1) (omega arith) few fits bound (λ still.
-              passes_key (shown asked) w.chart begun (arena_seen a ∷ arenas) prefix f (option_map right_seen right) order.live (place_of rest) place number number_at_place (later_searches still) (before less))
-          go false no_less = at_key (is_before slice sought part.slice own) no_less refl
 
     -- ---- the value of a slot
     module _ (order : Slots) (right : Option RightLink) (place : ℕ) (kind : Kind) (fits : IsPlaceOf order place) (deep : GoesDeeper key way kind)

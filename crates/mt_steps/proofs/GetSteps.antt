@@ -38,7 +38,8 @@ use Rattle.mt_promise.specs.declared.limits.TheConstants.{MAX_READS}
 use Rattle.mt_steps.specs.declared.progress.Progress.TheVariants.{Refused}
 use Rattle.mt_steps.specs.Step.{StepLaw, Stepped, MayStep, nothing}
 use Rattle.mt_steps.specs.declared.progress.Progress.{Progress}
-use Rattle.mt_steps.proofs.FieldLemmas.{LeadsTo, on_way, leads_looked, leads_bounded, leads_ordered, leads_key, leads_value, leads_settled, leads_inner}
+use Rattle.mt_steps.proofs.FieldLemmas.{LeadsTo, on_way, leads_looked, leads_bounded, leads_ordered, leads_value, leads_settled, leads_inner}
+use Rattle.mt_steps.proofs.KeyLemmas.{leads_key}
 use Rattle.mt_steps.proofs.GetLemmas.{may_go, may_go_at}
 use Rattle.mt_steps.proofs.PartLemmas.{lends_field, version_part, right_part, order_part, key_part, value_part, head_part, interior_part}
 use Rattle.mt_steps.proofs.FrameLemmas.{goes_same, quiet_same, moves_bounded, trail_begins}
@@ -94,7 +95,7 @@ module _ (a : ArenaView) (now : ℕ) (w : World) (world : IsWorld a now w) (begu
       let field = lends_field a way.node.0 (KeyField n) part lent at.here.b at.here.named in
       let (own, one, is) = key_part at.here.b n part field.is in
       subst (λ (p : Part). LeadsTo key asked way (Reads notes) begun past a w (reading_of (get_at (Reads notes)) p)) (sym one)
-      (leads_key a now w world begun key asked way past notes.glance.counters at rest_bytes notes.glance.right notes.glance.order notes.place within fits bound searches own is)
+      (leads_key a now w world begun key asked way past notes.glance.counters at field.sound rest_bytes notes.glance.right notes.glance.order notes.place within fits bound searches own is)
   leads (AtValue notes kind) (at, fits, deep, is_true) part lent =
       let n = slice_index notes.glance.order.live notes.place in
       let field = lends_field a way.node.0 (ValueField n) part lent at.here.b at.here.named in

@@ -24,6 +24,7 @@ pub mod LoneGet
 pub mod LoneRange
 pub mod StandLemmas
 pub mod FieldLemmas
+pub mod KeyLemmas
 pub mod GetSteps
 pub mod GetStays
 pub mod ListLemmas

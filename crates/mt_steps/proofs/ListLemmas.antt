@@ -1,7 +1,7 @@
 -- A range or build that reads a field of a border: what it knows then, and where that leads.
 use Rattle.std.proofs.Common.{ℕ, ◌≡◌, ◌≤◌, ◌+◌, Bool, true, false, cond, List, [], ◌∷◌, ◌++◌, length, map, slice_get, Option, Some, None, refl, sym, ap, subst, ◌∙◌, arith}
-use Rattle.std.specs.Prelude.{slice_index, nat_lt, unwrap_or}
-use Rattle.std.specs.Option.{option_map}
+use Rattle.std.specs.Prelude.{slice_index, nat_lt}
+use Rattle.std.specs.Option.{option_copied, option_map}
 use Rattle.std.proofs.lemmas.Bool.{ltb-true, ltb-false}
 use Rattle.std.proofs.lemmas.List.{length-append}
 use Rattle.std.proofs.lemmas.Option.{slice_get-get_or}
@@ -9,19 +9,17 @@ use Rattle.mt_types.specs.declared.row.Row.{Row}
 use Rattle.mt_types.specs.declared.numbers.NodeNo.{NodeNo}
 use Rattle.mt_slice.specs.Place.{Place, last, deeper, place_of}
 use Rattle.mt_slice.specs.declared.slice_class.Class.{Class}
-use Rattle.mt_slice.specs.declared.slice_class.Class.TheVariants.{Len, Long as LongClass}
 use Rattle.mt_word.specs.Slots.{Slots}
 use Rattle.mt_border.specs.Border.{BorderView}
 use Rattle.mt_border.specs.Entry.{content_class, content_suffix}
 use Rattle.mt_border.specs.Order.{IsBorder}
-use Rattle.mt_border.specs.Parts.{IsKeyOf, IsValueOf, content_mark as part_mark}
-use Rattle.mt_border.specs.Slots.{slot_at}
+use Rattle.mt_border.specs.Keys.{KeyView, IsKeyPart}
+use Rattle.mt_border.specs.Parts.{IsValueOf}
+use Rattle.mt_border.specs.Slots.{slot_at, key_at}
 use Rattle.mt_border.specs.declared.entry.Content.{Content}
 use Rattle.mt_border.specs.declared.entry.Content.TheVariants.{Short, Long, Link}
 use Rattle.mt_border.specs.declared.entry.Entry.{Entry}
 use Rattle.mt_border.specs.declared.entry.RightLink.{RightLink}
-use Rattle.mt_border.specs.declared.field.Mark.{Mark}
-use Rattle.mt_border.specs.declared.field.Mark.TheVariants.{Plain, Layer}
 use Rattle.mt_border.specs.declared.field.KeyPart.{KeyPart}
 use Rattle.mt_border.specs.declared.field.ValuePart.{ValuePart}
 use Rattle.mt_border.specs.declared.field.ValuePart.TheVariants.{Row as RowPart, Link as LinkPart}
@@ -45,14 +43,14 @@ use Rattle.mt_steps.specs.declared.listing.SlotKey.{SlotKey}
 use Rattle.mt_steps.specs.declared.listing.Listed.{Listed}
 use Rattle.mt_steps.specs.declared.listing.KeyRead.TheVariants.{Short as ShortKey, Long as LongKey, Layer as LayerKey}
 use Rattle.mt_steps.specs.Listing.{ListNotes}
-use Rattle.mt_steps.specs.declared.reader.Reader.TheVariants.{Bounded, Reads, Settles}
+use Rattle.mt_steps.specs.declared.reader.Reader.TheVariants.{Bounded, Reads, AtValue, Settles}
 use Rattle.mt_steps.specs.Listing.{ListReading}
 use Rattle.mt_steps.specs.declared.reader.Reading.TheVariants.{GoesOn}
 use Rattle.mt_steps.specs.Listing.{list_next, list_at_order, value_kept, key_read_of, is_before_link, kept_with, one_more, list_key, list_value, AreFew, ShowsKey, HasKey, ListsSlots, NotesAreTrue, IsReadList, ListLeads}
 use Rattle.mt_steps.specs.Standing.{counters_seen, StandsAt, Still, IsBounded}
 use Rattle.mt_steps.specs.World.{World, IsWorld}
-use Rattle.mt_steps.proofs.StandLemmas.{looks_at, bound, there_now, few_live, orders_now, still_so}
-use Rattle.mt_steps.proofs.ReaderLemmas.{looked_by, bounded_by, settled_by}
+use Rattle.mt_steps.proofs.StandLemmas.{looks_at, bound, there_now, few_live, orders_now, still_so, key_of_still}
+use Rattle.mt_steps.proofs.ReaderLemmas.{looked_by, bounded_by, marked_by, settled_by}
 
 -- ---- an entry that was read key and value apart
 -- if a slot has a row under a key that was read, the entry is that of the key and the row
@@ -120,24 +118,15 @@ kept_few right entries entry place few = go (is_before_link right entry.slice)
     go false = omega (arith, few)
 
 -- what was read of a key, that a slot shows
-shows_key : (e : Entry) (part : KeyPart) → IsKeyOf e part → ShowsKey (key_read_of part.mark part.class part.suffix.now) (content_seen e.content)
-shows_key e part is = go e.content refl part.mark part.class part.suffix.now is.mark is.class is.suffix
+shows_key : (content : Content) (class : Class) (suffix : Option (List ℕ)) → class ≡ content_class content → suffix ≡ content_suffix content → ShowsKey (key_read_of class suffix) (content_seen content)
+shows_key content class suffix is_class is_suffix =
+    subst (λ (c : Class). ShowsKey (key_read_of c suffix) (content_seen content)) (sym is_class)
+    (subst (λ (s : Option (List ℕ)). ShowsKey (key_read_of (content_class content) s) (content_seen content)) (sym is_suffix) (go content))
   where
-    go : (c : Content) → e.content ≡ c → (mark : Mark) (class : Class) (suffix : List ℕ) → mark ≡ part_mark e.content → class ≡ content_class e.content → suffix ≡ unwrap_or (content_suffix e.content) [] → ShowsKey (key_read_of mark class suffix) (content_seen e.content)
-    go (Short bytes row) here mark class suffix is_mark is_class is_suffix =
-        let m : mark ≡ Plain = is_mark ∙ ap part_mark here in
-        let k : class ≡ Len bytes = is_class ∙ ap content_class here in
-        subst (λ (x : Mark). ShowsKey (key_read_of x class suffix) (content_seen e.content)) (sym m)
-        (subst (λ (x : Class). ShowsKey (key_read_of Plain x suffix) (content_seen e.content)) (sym k) (row, ap content_seen here))
-    go (Long own row) here mark class suffix is_mark is_class is_suffix =
-        let m : mark ≡ Plain = is_mark ∙ ap part_mark here in
-        let k : class ≡ LongClass = is_class ∙ ap content_class here in
-        let s : suffix ≡ own = is_suffix ∙ ap (λ (c : Content). unwrap_or (content_suffix c) []) here in
-        subst (λ (x : Mark). ShowsKey (key_read_of x class suffix) (content_seen e.content)) (sym m)
-        (subst (λ (x : Class). ShowsKey (key_read_of Plain x suffix) (content_seen e.content)) (sym k) (row, ap content_seen here ∙ ap (λ (xs : List ℕ). long (place_of xs) row) (sym s)))
-    go (Link head) here mark class suffix is_mark is_class is_suffix =
-        let m : mark ≡ Layer = is_mark ∙ ap part_mark here in
-        subst (λ (x : Mark). ShowsKey (key_read_of x class suffix) (content_seen e.content)) (sym m) (head.0, ap content_seen here)
+    go : (c : Content) → ShowsKey (key_read_of (content_class c) (content_suffix c)) (content_seen c)
+    go (Short bytes row) = (row, refl)
+    go (Long own row) = (row, refl)
+    go (Link head) = (head.0, refl)
 
 -- ---- where a reading leads
 module _ (show : Row → Row) (a : ArenaView) (now : ℕ) (w : World) (world : IsWorld a now w) (begun : ℕ) (prefix : List ℕ) (slice number : ℕ) (past : List Arena) where
@@ -229,8 +218,8 @@ module _ (show : Row → Row) (a : ArenaView) (now : ℕ) (w : World) (world : I
     lists_later = later_lists notes.glance.counters at notes.glance.right notes.glance.order.live notes.place notes.kept lists
 
     -- the key of a slot
-    pub leads_key : (part : KeyPart) → IsKeyOf e part → Leads (list_key notes part)
-    leads_key part is = (
+    pub leads_key : IsBorder at.b → (part : KeyPart) → IsKeyPart (key_at at.b n) part → Leads (list_key notes part)
+    leads_key sound part is = marked_by Leads part.mark (GoesOn (AtValue notes own)) (λ set. tt) (λ clear. (
       at,
       bounded,
       within,
@@ -239,8 +228,17 @@ module _ (show : Row → Row) (a : ArenaView) (now : ℕ) (w : World) (world : I
       λ quiet.
           let so_far = lists_later quiet in
           let (slot, here, was) = noted_at show w.chart begun (arena_seen a ∷ arenas) prefix g so_far.was notes.glance.order.live so_far.order.slots notes.place n at_place in
-          record { read = g.slot n; noted = record { held = was.held; same = same_key (g.slot n); true = was.true }; at_slice = sym is.slice; is = shows_key e part is },
-    )
+          let now_key = key_of_still notes.glance.counters at.b n sound quiet was.held in
+          record {
+            read = g.slot n;
+            noted = record { held = was.held; same = same_key (g.slot n); true = was.true };
+            at_slice = sym (is.slice ∙ ap (λ (k : KeyView). k.slice) now_key);
+            is = shows_key e.content part.class (option_copied part.suffix) (is.class ∙ ap (λ (k : KeyView). k.class) now_key) (is.suffix ∙ ap (λ (k : KeyView). k.suffix) now_key);
+          },
+    ))
+      where
+        own : SlotKey
+        own = record { slice = part.slice; rest = key_read_of part.class (option_copied part.suffix) }
 
     -- one slot more was read
     more_leads : (entry : Entry) → (Still notes.glance.counters at.b → (g.slot n).entry ≡ entry_seen entry) → Leads (one_more notes (Some entry))

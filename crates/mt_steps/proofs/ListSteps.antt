@@ -96,7 +96,7 @@ module _ (show : Row → Row) (a : ArenaView) (now : ℕ) (w : World) (world : I
       let n = slice_index notes.glance.order.live notes.place in
       let field = lends_field a number (KeyField n) part lent at.b at.named in
       let (key, one, is) = key_part at.b n part field.is in
-      subst (λ (p : Part). Leads (list_reading (Reads notes) slice p)) (sym one) (leads_key show a now w world begun prefix slice number past notes at bounded within fews lists key is)
+      subst (λ (p : Part). Leads (list_reading (Reads notes) slice p)) (sym one) (leads_key show a now w world begun prefix slice number past notes at bounded within fews lists field.sound key is)
   list_leads (AtValue notes key) (at, bounded, within, fews, lists, has) part lent =
       let n = slice_index notes.glance.order.live notes.place in
       let field = lends_field a number (ValueField n) part lent at.b at.named in

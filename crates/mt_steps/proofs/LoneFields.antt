@@ -1,17 +1,21 @@
 -- A call alone that reads a border field by field: where a visit of a head or an interior node leads it, and what is live
 -- at a border that nobody has locked.
 use Rattle.std.proofs.Common.{ℕ, ◌≡◌, ◌<◌, ◌≤◌, ◌-◌, [], length, slice_get, Option, Some, None, Bool, true, false, if◌then◌else◌, refl, sym, ap, subst, ◌∙◌, arith}
-use Rattle.std.specs.Prelude.{◌&&◌}
+use Rattle.std.specs.Prelude.{◌&&◌, nat_eq}
 use Rattle.std.specs.Option.{option_map, option_and_then}
 use Rattle.std.proofs.lemmas.Bool.{eq-eqb}
 use Rattle.mt_types.specs.declared.numbers.NodeNo.{NodeNo}
 use Rattle.mt_word.specs.Version.{is_flagged}
 use Rattle.mt_border.specs.Border.{BorderView}
-use Rattle.mt_border.specs.Order.{IsBorder}
-use Rattle.mt_border.specs.Slots.{slot_at}
-use Rattle.mt_border.specs.Table.{number_at}
+use Rattle.mt_border.specs.Keys.{KeyView, content_mark, entry_key}
+use Rattle.mt_border.specs.declared.field.Mark.TheVariants.{Unstable}
+use Rattle.mt_border.specs.Order.{IsBorder, IsUnwritten}
+use Rattle.mt_border.specs.Slots.{slot_at, key_in, key_at}
+use Rattle.mt_border.specs.Table.{number_at, next_number}
+use Rattle.mt_border.specs.declared.unwritten.Unwritten.{Unwritten}
+use Rattle.mt_border.specs.declared.unwritten.Unwritten.TheVariants.{Nothing, Value}
 use Rattle.mt_border.specs.declared.entry.Content.{Content}
-use Rattle.mt_border.specs.declared.entry.Content.TheVariants.{Link}
+use Rattle.mt_border.specs.declared.entry.Content.TheVariants.{Short, Long, Link}
 use Rattle.mt_border.specs.declared.entry.RightLink.{RightLink}
 use Rattle.mt_border.proofs.ChangeLemmas.{number_live}
 use Rattle.mt_border.proofs.SlotLemmas.{live_count}
@@ -84,6 +88,23 @@ unflagged b sound unlocked = go (is_flagged b.version) refl
 -- its counters are those that were noted
 pub counters_same : (one other : Counters) → one ≡ other → same_counters one other ≡ true
 counters_same one other same = λ i. eq-eqb one.inserts other.inserts (ap (λ (c : Counters). c.inserts) same) i && eq-eqb one.splits other.splits (ap (λ (c : Counters). c.splits) same) i
+
+-- of none of its keys a layer is being made
+pub never_unstable : (content : Content) → Unstable ≡ content_mark content → ⊥
+never_unstable (Short bytes row) is = absurd (cc)
+never_unstable (Long suffix row) is = absurd (cc)
+never_unstable (Link head) is = absurd (cc)
+
+-- all of it is written: the key that is read in a slot is that of what the slot holds
+pub key_of_unlocked : (b : BorderView) (number : ℕ) → IsBorder b → b.version.locked ≡ false → key_at b number ≡ entry_key (slot_at b number).entry
+key_of_unlocked b number sound unlocked = go b.unwritten sound.pending
+  where
+    own : KeyView
+    own = entry_key (slot_at b number).entry
+
+    go : (left : Unwritten) → IsUnwritten b left → key_in left (nat_eq number (next_number b.order)) own ≡ own
+    go Nothing pending = refl
+    go (Value key) waits = never unlocked waits.locked
 
 module _ (a : ArenaView) (number : ℕ) (b : BorderView) (named : border_at a.nodes number ≡ Some b) (sound : IsBorder b) (alive : b.version.deleted ≡ false) where
   -- it leads to its right neighbour, and through its links

@@ -9,12 +9,13 @@ use Rattle.mt_word.specs.Slots.{Slots}
 use Rattle.mt_border.specs.Border.{BorderView}
 use Rattle.mt_border.specs.Entry.{content_row}
 use Rattle.mt_border.specs.Order.{IsBorder}
-use Rattle.mt_border.specs.Parts.{content_mark, IsKeyOf, IsValueOf}
-use Rattle.mt_border.specs.Slots.{slot_at}
+use Rattle.mt_border.specs.Keys.{KeyView, content_mark, part_bytes, IsKeyPart}
+use Rattle.mt_border.specs.Parts.{IsValueOf}
+use Rattle.mt_border.specs.Slots.{slot_at, key_at}
 use Rattle.mt_border.specs.declared.entry.Content.{Content}
 use Rattle.mt_border.specs.declared.entry.Content.TheVariants.{Short, Long, Link}
 use Rattle.mt_border.specs.declared.field.Mark.{Mark}
-use Rattle.mt_border.specs.declared.field.Mark.TheVariants.{Plain, Layer}
+use Rattle.mt_border.specs.declared.field.Mark.TheVariants.{Plain, Unstable, Layer}
 use Rattle.mt_border.specs.declared.field.KeyPart.{KeyPart as KeyOf}
 use Rattle.mt_border.specs.declared.field.ValuePart.{ValuePart as ValueOf}
 use Rattle.mt_border.specs.declared.field.ValuePart.TheVariants.{Row as RowPart, Link as LinkPart}
@@ -44,14 +45,14 @@ use Rattle.mt_steps.specs.declared.reader.Reading.TheVariants.{GoesOn, To, Finds
 use Rattle.mt_steps.specs.declared.finding.Sight.{Sight}
 use Rattle.mt_steps.specs.declared.finding.Sight.TheVariants.{Absent, Row as RowSight, Link as LinkSight}
 use Rattle.mt_steps.specs.declared.getting.Get.{Get}
-use Rattle.mt_steps.specs.Finding.{next_key, key_found, is_before, key_read, value_read, settles, notes_at, FindNotes}
+use Rattle.mt_steps.specs.Finding.{next_key, key_found, is_before, key_compared, key_read, value_read, settles, notes_at, FindNotes}
 use Rattle.mt_steps.specs.Getting.{reading_of}
 use Rattle.mt_steps.specs.Standing.{Lends}
 use Rattle.mt_steps.specs.Way.{rest_of}
 use Rattle.mt_steps.specs.World.{is_locked}
-use Rattle.mt_steps.proofs.LoneFields.{never, IsNow, VisitMoves, head_moves, interior_moves, unflagged, counters_same, right_moves, link_moves, link_among, border_alive, border_unlocked}
+use Rattle.mt_steps.proofs.LoneFields.{never, IsNow, VisitMoves, head_moves, interior_moves, unflagged, counters_same, key_of_unlocked, never_unstable, right_moves, link_moves, link_among, border_alive, border_unlocked}
 use Rattle.mt_steps.proofs.PartLemmas.{lends_field, version_part, right_part, order_part, key_part, value_part, head_part, interior_part}
-use Rattle.mt_steps.proofs.ReaderLemmas.{looked_by, bounded_by, settled_by}
+use Rattle.mt_steps.proofs.ReaderLemmas.{looked_by, bounded_by, marked_by, settled_by}
 
 -- ---- what it has noted
 -- a key that was read as a row's is that of a slot with a row
@@ -124,14 +125,18 @@ module _ (a : ArenaView) (number : ℕ) (b : BorderView) (named : border_at a.no
     goes_found (Short bytes row) is Plain of true = (b, now, order, subst (λ (c : Content). IsSome (content_row c)) is refl)
     goes_found (Long suffix row) is Plain of true = (b, now, order, subst (λ (c : Content). IsSome (content_row c)) is refl)
     goes_found (Link head) is Plain of true = absurd (let clash : Plain ≡ Layer = of in cc)
+    goes_found own is Unstable of same = absurd (never_unstable own of)
 
-    goes_key : (rest : List ℕ) (key : KeyOf) → IsKeyOf (slot_at b (slice_index notes.glance.order.live notes.place)).entry key → FindGoes a number (key_read rest notes key)
-    goes_key rest key is = go (is_before key.slice (class_number key.class) (slice_number rest) (class_number (class_of (length rest)))) (is_before (slice_number rest) (class_number (class_of (length rest))) key.slice (class_number key.class))
+    goes_key : (rest : List ℕ) (key : KeyOf) → IsKeyPart (key_at b (slice_index notes.glance.order.live notes.place)) key → FindGoes a number (key_read rest notes key)
+    goes_key rest key is = marked_by (FindGoes a number) key.mark (key_compared rest notes key) (λ set. absurd (never_unstable content (sym set ∙ own_mark))) (λ clear. go (is_before key.slice (class_number key.class) (slice_number rest) (class_number (class_of (length rest)))) (is_before (slice_number rest) (class_number (class_of (length rest))) key.slice (class_number key.class)))
       where
-        go : (before after : Bool) → FindGoes a number (if before then next_key (record notes { place = notes.place + 1 }) else if after then settles notes.glance.counters Absent else key_found notes key.mark (bytes_eq key.suffix.now (drop 8 rest)))
+        own_mark : key.mark ≡ content_mark content
+        own_mark = is.mark ∙ ap (λ (k : KeyView). k.mark) (key_of_unlocked b (slice_index notes.glance.order.live notes.place) sound unlocked)
+
+        go : (before after : Bool) → FindGoes a number (if before then next_key (record notes { place = notes.place + 1 }) else if after then settles notes.glance.counters Absent else key_found notes key.mark (bytes_eq (part_bytes key) (drop 8 rest)))
         go true after = goes_next (record notes { place = notes.place + 1 }) now order
         go false true = (b, now, tt)
-        go false false = goes_found content refl key.mark is.mark (bytes_eq key.suffix.now (drop 8 rest))
+        go false false = goes_found content refl key.mark own_mark (bytes_eq (part_bytes key) (drop 8 rest))
 
     goes_value : notes.place < length notes.glance.order.live → (asked : List ℕ) (kind : Kind) → KindFits kind content → (value : ValueOf) → IsValueOf content value → FindGoes a number (value_read asked notes.glance.counters kind value)
     goes_value within asked RowKind fits (RowPart row) is = (b, now, tt)

@@ -2,23 +2,22 @@
 -- nearer to the end of the border.
 use Rattle.std.proofs.Common.{ℕ, ◌≡◌, ◌<◌, ◌≤◌, ◌+◌, ◌-◌, ◌*◌, ◌⊎◌, inl, inr, List, [], ◌∷◌, ◌++◌, length, Option, Some, Bool, true, false, if◌then◌else◌, refl, sym, ap, subst, ◌∙◌, arith}
 use Rattle.std.specs.Prelude.{nat_lt, slice_index, IsSome}
-use Rattle.std.specs.Option.{option_map, option_and_then}
+use Rattle.std.specs.Option.{option_copied, option_map, option_and_then}
 use Rattle.mt_types.specs.declared.row.Row.{Row}
 use Rattle.mt_types.specs.declared.numbers.NodeNo.{NodeNo}
 use Rattle.mt_slice.specs.Place.{place_of}
 use Rattle.mt_slice.specs.declared.slice_class.Class.{Class}
-use Rattle.mt_slice.specs.declared.slice_class.Class.TheVariants.{Len, Long as LongClass}
 use Rattle.mt_word.specs.Slots.{Slots}
 use Rattle.mt_border.specs.Border.{BorderView}
-use Rattle.mt_border.specs.Entry.{content_row}
+use Rattle.mt_border.specs.Entry.{content_class, content_row, content_suffix}
 use Rattle.mt_border.specs.Order.{IsBorder}
-use Rattle.mt_border.specs.Parts.{content_mark, IsKeyOf, IsValueOf}
-use Rattle.mt_border.specs.Slots.{slot_at}
+use Rattle.mt_border.specs.Keys.{KeyView, IsKeyPart}
+use Rattle.mt_border.specs.Parts.{IsValueOf}
+use Rattle.mt_border.specs.Slots.{slot_at, key_at}
 use Rattle.mt_border.specs.declared.entry.Content.{Content}
 use Rattle.mt_border.specs.declared.entry.Content.TheVariants.{Short, Long, Link}
 use Rattle.mt_border.specs.declared.entry.Entry.{Entry}
 use Rattle.mt_border.specs.declared.entry.RightLink.{RightLink}
-use Rattle.mt_border.specs.declared.field.Mark.{Mark}
 use Rattle.mt_border.specs.declared.field.KeyPart.{KeyPart as KeyOf}
 use Rattle.mt_border.specs.declared.field.ValuePart.{ValuePart as ValueOf}
 use Rattle.mt_border.specs.declared.field.ValuePart.TheVariants.{Row as RowPart, Link as LinkPart}
@@ -53,9 +52,9 @@ use Rattle.mt_steps.specs.Listing.{ListNotes}
 use Rattle.mt_steps.specs.Listing.{list_next, key_read_of, entry_for, is_before_link, kept_with, one_more, list_key, value_kept, list_reading, AreFew}
 use Rattle.mt_steps.specs.Standing.{Lends}
 use Rattle.mt_steps.specs.World.{is_locked}
-use Rattle.mt_steps.proofs.LoneFields.{never, IsNow, VisitMoves, head_moves, interior_moves, unflagged, counters_same, right_moves, right_seen_moves, link_moves, link_among, border_alive, border_unlocked}
+use Rattle.mt_steps.proofs.LoneFields.{never, IsNow, VisitMoves, head_moves, interior_moves, unflagged, counters_same, key_of_unlocked, never_unstable, right_moves, right_seen_moves, link_moves, link_among, border_alive, border_unlocked}
 use Rattle.mt_steps.proofs.PartLemmas.{lends_field, version_part, right_part, order_part, key_part, value_part, head_part, interior_part}
-use Rattle.mt_steps.proofs.ReaderLemmas.{looked_by, bounded_by, settled_by}
+use Rattle.mt_steps.proofs.ReaderLemmas.{looked_by, bounded_by, marked_by, settled_by}
 
 -- ---- what it has noted
 -- the links among these entries are the border's
@@ -174,12 +173,10 @@ module _ (a : ArenaView) (number : ℕ) (b : BorderView) (named : border_at a.no
       leads next (inr (slice, there)) = link_moves a number b named sound alive slice next (links slice next there)
 
 -- ---- the key and the value of a slot
-key_fits : (content : Content) (class : Class) (suffix : List ℕ) → KeyFits (key_read_of (content_mark content) class suffix) content
-key_fits (Short bytes row) (Len n) suffix = refl
-key_fits (Short bytes row) LongClass suffix = refl
-key_fits (Long own row) (Len n) suffix = refl
-key_fits (Long own row) LongClass suffix = refl
-key_fits (Link head) class suffix = tt
+key_fits : (content : Content) → KeyFits (key_read_of (content_class content) (content_suffix content)) content
+key_fits (Short bytes row) = refl
+key_fits (Long suffix row) = refl
+key_fits (Link head) = tt
 
 module _ (a : ArenaView) (number : ℕ) (notes : ListNotes) (s : SlotsNow a number notes) (within : HasNext notes) (few : AreFew notes) where
   abbrev b : BorderView
@@ -191,11 +188,20 @@ module _ (a : ArenaView) (number : ℕ) (notes : ListNotes) (s : SlotsNow a numb
   abbrev entry : Entry
   entry = (slot_at b n).entry
 
-  goes_key : (key : KeyOf) → IsKeyOf entry key → ListGoes a number (Reads notes) (list_key notes key)
-  goes_key key is = (
-    omega (arith, within, few.1),
-    (s, is.slice, subst (λ (m : Mark). KeyFits (key_read_of m key.class key.suffix.now) entry.content) (sym is.mark) (key_fits entry.content key.class key.suffix.now)),
-  )
+  goes_key : IsBorder b → b.version.locked ≡ false → (key : KeyOf) → IsKeyPart (key_at b n) key → ListGoes a number (Reads notes) (list_key notes key)
+  goes_key sound unlocked key is =
+      let now_key = key_of_unlocked b n sound unlocked in
+      marked_by (ListGoes a number (Reads notes)) key.mark (GoesOn (AtValue notes (record { slice = key.slice; rest = key_read_of key.class (option_copied key.suffix) })))
+      (λ set. absurd (never_unstable entry.content (sym set ∙ (is.mark ∙ ap (λ (k : KeyView). k.mark) now_key))))
+      (λ clear. (
+        omega (arith, within, few.1),
+        (
+          s,
+          is.slice ∙ ap (λ (k : KeyView). k.slice) now_key,
+          subst (λ (c : Class). KeyFits (key_read_of c (option_copied key.suffix)) entry.content) (sym (is.class ∙ ap (λ (k : KeyView). k.class) now_key))
+              (subst (λ (s : Option (List ℕ)). KeyFits (key_read_of (content_class entry.content) s) entry.content) (sym (is.suffix ∙ ap (λ (k : KeyView). k.suffix) now_key)) (key_fits entry.content)),
+        ),
+      ))
 
   module _ (sound : IsBorder b) (alive : b.version.deleted ≡ false) (unlocked : b.version.locked ≡ false) (own : SlotKey) (slice_is : own.slice ≡ entry.slice) where
     abbrev slice : ℕ
@@ -274,7 +280,7 @@ module _ (a : ArenaView) (number slice : ℕ) (alive : (node : Node) → node_at
       let k = slice_index notes.glance.order.live notes.place in
       let field = lends_field a number (KeyField k) part lent s.0.b s.0.now.named in
       let (key, one, is) = key_part s.0.b k part field.is in
-      subst (λ (p : Part). ListGoes a number (Reads notes) (list_reading (Reads notes) slice p)) (sym one) (goes_key a number notes s within few key is)
+      subst (λ (p : Part). ListGoes a number (Reads notes) (list_reading (Reads notes) slice p)) (sym one) (goes_key a number notes s within few field.sound (border_unlocked a number unlocked s.0.b s.0.now.named) key is)
   list_goes (AtValue notes own) may (within, few) (s, slice_is, fits) part lent =
       let k = slice_index notes.glance.order.live notes.place in
       let field = lends_field a number (ValueField k) part lent s.0.b s.0.now.named in

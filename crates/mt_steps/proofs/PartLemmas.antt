@@ -4,8 +4,9 @@ use Rattle.std.specs.Option.{option_and_then}
 use Rattle.std.specs.Borrow.{Bor}
 use Rattle.mt_border.specs.Border.{BorderView}
 use Rattle.mt_border.specs.Order.{IsBorder}
-use Rattle.mt_border.specs.Parts.{IsKeyOf, IsValueOf}
-use Rattle.mt_border.specs.Slots.{slot_at}
+use Rattle.mt_border.specs.Keys.{IsKeyPart}
+use Rattle.mt_border.specs.Parts.{IsValueOf}
+use Rattle.mt_border.specs.Slots.{slot_at, key_at}
 use Rattle.mt_border.specs.declared.field.KeyPart.{KeyPart as KeyOf}
 use Rattle.mt_border.specs.declared.field.ValuePart.{ValuePart as ValueOf}
 use Rattle.mt_interior.specs.Head.{HeadView}
@@ -77,7 +78,7 @@ order_part b (OrderPart order) is = ap OrderPart is
 order_part b (KeyPart part) is = absurd is
 order_part b (ValuePart part) is = absurd is
 
-pub key_part : (b : BorderView) (number : ℕ) (part : Part) → IsFieldOf b (Key number) part → (key : KeyOf) × (part ≡ KeyPart key) × IsKeyOf (slot_at b number).entry key
+pub key_part : (b : BorderView) (number : ℕ) (part : Part) → IsFieldOf b (Key number) part → (key : KeyOf) × (part ≡ KeyPart key) × IsKeyPart (key_at b number) key
 key_part b number (HeadPart part) is = absurd is
 key_part b number (InteriorPart part) is = absurd is
 key_part b number (VersionPart part) is = absurd is

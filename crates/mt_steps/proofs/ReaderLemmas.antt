@@ -32,7 +32,9 @@ use Rattle.mt_chart.specs.Tree.{Below, no_right, before_right}
 use Rattle.mt_tree.specs.Seen.{right_seen}
 use Rattle.mt_steps.specs.declared.reader.Counters.{Counters}
 use Rattle.mt_steps.specs.declared.reader.Reader.TheVariants.{Looked, Bounded}
-use Rattle.mt_steps.specs.Reader.{counters_of, same_counters, looked, bounded, settled}
+use Rattle.mt_steps.specs.Reader.{counters_of, same_counters, by_mark, looked, bounded, settled}
+use Rattle.mt_border.specs.declared.field.Mark.{Mark}
+use Rattle.mt_border.specs.declared.field.Mark.TheVariants.{Plain, Unstable, Layer}
 
 module _ {N K F : Type 0} (a : ArenaView) (number slice : ℕ) (reader : Reader N K F) (may : MayRead a number slice reader) (field : Field) where
   -- the interior that is lent has a child for the slice
@@ -114,6 +116,11 @@ module _ {N K F : Type 0} (P : Reading N K F → Type 0) where
       go : (b : Bool) → nat_le next.low slice ≡ b → P (if b then To next.node else GoesOn (Bounded counters (Some next)))
       go true le = to next refl (leb-true next.low slice le)
       go false le = on (before_right (leb-false next.low slice le))
+
+  pub marked_by : (mark : Mark) (reading : Reading N K F) → (mark ≡ Unstable → P Repeats) → ((mark ≡ Unstable → ⊥) → P reading) → P (by_mark mark reading)
+  marked_by Plain reading repeats on = on (λ set. absurd (cc))
+  marked_by Unstable reading repeats on = repeats refl
+  marked_by Layer reading repeats on = on (λ set. absurd (cc))
 
   pub settled_by : (counters : Counters) (found : F) (version : VersionView) → (version.deleted ≡ true → P Restarts) → (is_flagged version ≡ true → P Repeats) → (same_counters (counters_of version) counters ≡ false → P Repeats)
       → (version.deleted ≡ false → is_flagged version ≡ false → same_counters (counters_of version) counters ≡ true → P (Finds found)) → P (settled counters found version)

@@ -5,12 +5,17 @@ use Rattle.std.specs.Prelude.{nat_eq}
 use Rattle.std.specs.List.{list_any}
 use Rattle.std.specs.Option.{option_map}
 use Rattle.std.proofs.lemmas.Bool.{or_right, eq-eqb, eqb-true}
+use Rattle.std.proofs.lemmas.Bool.Decides.{eqb_tells}
 use Rattle.mt_types.specs.declared.row.Row.{Row}
 use Rattle.mt_word.specs.Version.{is_flagged}
-use Rattle.mt_border.specs.Border.{BorderView, entries_of}
-use Rattle.mt_border.specs.Order.{IsBorder}
-use Rattle.mt_border.specs.Slots.{slot_at}
-use Rattle.mt_border.specs.Table.{picked}
+use Rattle.mt_border.specs.Border.{BorderView, entries_of, first_held}
+use Rattle.mt_border.specs.Keys.{KeyView, entry_key}
+use Rattle.mt_border.specs.Order.{IsBorder, IsUnwritten}
+use Rattle.mt_border.specs.Slots.{slot_at, held_at, key_in, key_at}
+use Rattle.mt_border.specs.Table.{picked, next_number}
+use Rattle.mt_border.specs.declared.unwritten.Unwritten.{Unwritten}
+use Rattle.mt_border.specs.declared.unwritten.Unwritten.TheVariants.{Nothing, Value}
+use Rattle.mt_border.proofs.ChangeLemmas.{first_held_is_next}
 use Rattle.mt_border.specs.declared.entry.RightLink.{RightLink}
 use Rattle.mt_border.proofs.FieldLemmas.{live_slot_held}
 use Rattle.mt_border.proofs.SlotLemmas.{live_count}
@@ -104,6 +109,24 @@ still_so counters b alive unflagged same = record {
   inserts = eqb-true b.version.vinsert counters.inserts (and_true (b.version.vinsert == counters.inserts) (b.version.vsplit == counters.splits) same).0;
   splits = eqb-true b.version.vsplit counters.splits (and_true (b.version.vinsert == counters.inserts) (b.version.vsplit == counters.splits) same).1;
 }
+
+-- ---- the key of a slot
+-- the key that is read in a slot that held a key, of a border that is quiet still, is that of what the slot holds
+pub key_of_still : (counters : Counters) (b : BorderView) (number : ℕ) → IsBorder b → Still counters b → held_at b number ≡ true → key_at b number ≡ entry_key (slot_at b number).entry
+key_of_still counters b number sound still held = go b.unwritten sound.pending
+  where
+    own : KeyView
+    own = entry_key (slot_at b number).entry
+
+    go : (left : Unwritten) → IsUnwritten b left → key_in left (nat_eq number (next_number b.order)) own ≡ own
+    go Nothing pending = refl
+    go (Value key) waits = elim (eqb_tells number (next_number b.order)) [
+      | inl (is_next, same) ↦ absurd (
+          let next_held : first_held b.unused ≡ true = first_held_is_next b sound waits.room ∙ (ap (λ (n : ℕ). held_at b n) (sym same) ∙ held) in
+          let flagged : b.version.inserting ≡ true = waits.flagged next_held in
+          let clash : true ≡ false = sym flagged ∙ still.no_insert in cc)
+      | inr (is_other, other) ↦ ap (λ (is : Bool). key_in (Value key) is own) is_other
+    ]
 
 -- ---- what others leave
 -- a border that the chart knows is a border of the arena

@@ -8,11 +8,12 @@ use Rattle.mt_slice.specs.Classes.{class_number, class_of}
 use Rattle.mt_word.specs.Slots.{Slots}
 use Rattle.mt_border.specs.declared.entry.RightLink.{RightLink}
 use Rattle.mt_border.specs.declared.field.Mark.{Mark}
-use Rattle.mt_border.specs.declared.field.Mark.TheVariants.{Plain, Layer}
+use Rattle.mt_border.specs.declared.field.Mark.TheVariants.{Plain, Unstable, Layer}
 use Rattle.mt_border.specs.declared.field.KeyPart.{KeyPart}
 use Rattle.mt_border.specs.declared.field.ValuePart.{ValuePart}
 use Rattle.mt_border.specs.declared.field.ValuePart.TheVariants.{Row as RowPart, Link as LinkPart}
 use Rattle.mt_border.specs.Entry.{entry_row}
+use Rattle.mt_border.specs.Keys.{part_bytes}
 use Rattle.mt_border.specs.Slots.{slot_at}
 use Rattle.mt_arena.specs.Arena.{ArenaView}
 use Rattle.mt_arena.specs.Node.{border_of}
@@ -30,7 +31,7 @@ use Rattle.mt_steps.specs.declared.reader.Reader.{Reader}
 use Rattle.mt_steps.specs.declared.reader.Reader.TheVariants.{Bounded, Reads, AtValue, Settles}
 use Rattle.mt_steps.specs.declared.reader.Reading.{Reading}
 use Rattle.mt_steps.specs.declared.reader.Reading.TheVariants.{Repeats, GoesOn}
-use Rattle.mt_steps.specs.Reader.{by_visit, at_version, at_right, VersionWaits, ReadsField}
+use Rattle.mt_steps.specs.Reader.{by_mark, by_visit, at_version, at_right, VersionWaits, KeyWaits, ReadsField}
 use Rattle.mt_steps.specs.Causes.{TakesMemory}
 
 -- it keeps nothing of the slots before its key's
@@ -63,18 +64,23 @@ next_key notes = if nat_lt notes.place (length notes.glance.order.live) then Goe
 abbrev pub key_found : FindNotes → Mark → Bool → FindReading
 key_found notes Layer same = GoesOn (AtValue notes LinkKind)
 key_found notes Plain same = if same then GoesOn (AtValue notes RowKind) else settles notes.glance.counters Absent
+key_found notes Unstable same = Repeats
 
 -- whether a slice and the number of a class are before others
 abbrev pub is_before : ℕ → ℕ → ℕ → ℕ → Bool
 is_before slice number other_slice other = nat_lt slice other_slice || ((slice == other_slice) && nat_lt number other)
 
--- the key at a place
-abbrev pub key_read : List ℕ → FindNotes → KeyPart → FindReading
-key_read rest notes part = if is_before part.slice (class_number part.class) (slice_number rest) (class_number
+-- the key at a place, by its slice and class
+abbrev pub key_compared : List ℕ → FindNotes → KeyPart → FindReading
+key_compared rest notes part = if is_before part.slice (class_number part.class) (slice_number rest) (class_number
     (class_of (length rest))) then next_key (record notes { place = notes.place + 1 })
     else if is_before (slice_number rest) (class_number (class_of (length rest))) part.slice (class_number part.class) then
     settles notes.glance.counters Absent
-    else key_found notes part.mark (bytes_eq part.suffix.now (drop 8 rest))
+    else key_found notes part.mark (bytes_eq (part_bytes part) (drop 8 rest))
+
+-- the key at a place
+abbrev pub key_read : List ℕ → FindNotes → KeyPart → FindReading
+key_read rest notes part = by_mark part.mark (key_compared rest notes part)
 
 -- the value
 abbrev pub value_read : List ℕ → Counters → Kind → ValuePart → FindReading
@@ -110,8 +116,9 @@ abbrev pub FindReads : ArenaView → ℕ → List ℕ → List ℕ → Finding �
 FindReads a number rest asked finding result = ReadsField a number finding (find_reading finding rest asked) (TakesMemory
     finding) result
 
--- why it waits: for the version that it has read; or the slot of a key that was a row's holds a link
+-- why it waits: for the version or the key that it has read; or the slot of a key that was a row's holds a link
 abbrev pub FindingWaits : Finding → Node → Type 0
+FindingWaits (Reads notes) node = KeyWaits notes node
 FindingWaits (AtValue notes RowKind) node = IsSomeAnd (border_of node)
     (λ b. entry_row (slot_at b (slice_index notes.glance.order.live notes.place)).entry ≡ None)
 FindingWaits finding node = VersionWaits finding node

@@ -1,6 +1,6 @@
 -- What a range or build keeps of the slots of a border, and what is true of it meanwhile.
 use Rattle.std.specs.Prelude.{ℕ, ◌≡◌, ◌≤◌, ◌+◌, nat_lt, Bool, if◌then◌else◌, List, [], ◌∷◌, ◌++◌, length, slice_index, Option, Some, None, Result, IsSomeAnd, true}
-use Rattle.std.specs.Option.{option_map}
+use Rattle.std.specs.Option.{option_copied, option_map}
 use Rattle.mt_types.specs.declared.row.Row.{Row}
 use Rattle.mt_types.specs.declared.refusal.NoMemory.{NoMemory}
 use Rattle.mt_slice.specs.Place.{place_of}
@@ -14,8 +14,6 @@ use Rattle.mt_border.specs.Slots.{slot_at}
 use Rattle.mt_border.specs.declared.entry.Content.TheVariants.{Short, Long, Link}
 use Rattle.mt_border.specs.declared.entry.Entry.{Entry}
 use Rattle.mt_border.specs.declared.entry.RightLink.{RightLink}
-use Rattle.mt_border.specs.declared.field.Mark.{Mark}
-use Rattle.mt_border.specs.declared.field.Mark.TheVariants.{Plain, Layer}
 use Rattle.mt_border.specs.declared.field.KeyPart.{KeyPart}
 use Rattle.mt_border.specs.declared.field.ValuePart.{ValuePart}
 use Rattle.mt_border.specs.declared.field.ValuePart.TheVariants.{Row as RowPart, Link as LinkPart}
@@ -44,7 +42,7 @@ use Rattle.mt_steps.specs.declared.listing.SlotKey.{SlotKey}
 use Rattle.mt_steps.specs.declared.listing.Listed.{Listed}
 use Rattle.mt_steps.specs.declared.progress.Progress.{Progress}
 use Rattle.mt_steps.specs.declared.progress.Progress.TheVariants.{Waits}
-use Rattle.mt_steps.specs.Reader.{by_visit, at_version, at_right, HasNext, VersionWaits, ReadsField}
+use Rattle.mt_steps.specs.Reader.{by_mark, by_visit, at_version, at_right, HasNext, VersionWaits, KeyWaits, ReadsField}
 use Rattle.mt_steps.specs.Standing.{StandsAt, Still, IsBounded}
 use Rattle.mt_steps.specs.Causes.{KeepsSlot}
 use Rattle.mt_steps.specs.World.{World}
@@ -65,17 +63,17 @@ abbrev pub list_next : ListNotes → ListReading
 list_next notes = if nat_lt notes.place (length notes.glance.order.live) then GoesOn (Reads notes) else GoesOn
     (Settles notes.glance.counters (record { entries = notes.kept; right = notes.glance.right }))
 
--- a key, without its slice
-abbrev pub key_read_of : Mark → Class → List ℕ → KeyRead
-key_read_of Layer class suffix = LayerKey
-key_read_of Plain (Len bytes) suffix = ShortKey bytes
-key_read_of Plain LongClass suffix = LongKey suffix
+-- a key of this class, with these bytes after its slice, or none: without its slice
+abbrev pub key_read_of : Class → Option (List ℕ) → KeyRead
+key_read_of (Len bytes) suffix = ShortKey bytes
+key_read_of LongClass (Some suffix) = LongKey suffix
+key_read_of LongClass None = LayerKey
 
 abbrev pub list_key : ListNotes → KeyPart → ListReading
-list_key notes part = GoesOn (AtValue notes (record {
+list_key notes part = by_mark part.mark (GoesOn (AtValue notes (record {
   slice = part.slice;
-  rest = key_read_of part.mark part.class part.suffix.now;
-}))
+  rest = key_read_of part.class (option_copied part.suffix);
+})))
 
 -- the entry of a row, whose key was not that of a layer
 abbrev pub entry_for : ℕ → KeyRead → Row → Option Entry
@@ -147,8 +145,9 @@ abbrev pub ListReads : ArenaView → ℕ → ℕ → Listing → Result ListRead
 ListReads a number slice listing result = ReadsField a number listing (list_reading listing slice) (KeepsSlot listing) result
 
 -- ---- why it waits
--- for the version that it has read; or the slot of a key that was a row's holds a link
+-- for the version or the key that it has read; or the slot of a key that was a row's holds a link
 abbrev pub ListingWaits : Listing → Node → Type 0
+ListingWaits (Reads notes) node = KeyWaits notes node
 ListingWaits (AtValue notes key) node = IsSomeAnd (border_of node)
     (λ b. entry_row (slot_at b (slice_index notes.glance.order.live notes.place)).entry ≡ None)
 ListingWaits listing node = VersionWaits listing node

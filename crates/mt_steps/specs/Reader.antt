@@ -3,7 +3,10 @@
 use Rattle.std.specs.Prelude.{ℕ, ◌≡◌, ◌≢◌, ◌<◌, ◌≤◌, ◌⊎◌, nat_le, ◌==◌, Bool, ◌&&◌, if◌then◌else◌, length, slice_index, Option, Some, None, Result, IsSome, IsSomeAnd, IfOk, IsErr, true, false}
 use Rattle.mt_types.specs.declared.refusal.NoMemory.{NoMemory}
 use Rattle.mt_word.specs.Version.{VersionView, is_flagged}
+use Rattle.mt_border.specs.Slots.{key_at}
 use Rattle.mt_border.specs.declared.entry.RightLink.{RightLink}
+use Rattle.mt_border.specs.declared.field.Mark.{Mark}
+use Rattle.mt_border.specs.declared.field.Mark.TheVariants.{Unstable}
 use Rattle.mt_interior.specs.Interior.{InteriorView}
 use Rattle.mt_arena.specs.Arena.{ArenaView}
 use Rattle.mt_arena.specs.Node.{node_at, interior_at, border_at, border_of}
@@ -39,6 +42,11 @@ abbrev pub bounded : {N K F : Type 0} → ℕ → Counters → Option RightLink 
 bounded slice counters None = GoesOn (Bounded counters None)
 bounded slice counters (Some link) = if nat_le link.low slice then To link.node else GoesOn
     (Bounded counters (Some link))
+
+-- a slot's key: while a layer is being made of it, the border is read again
+abbrev pub by_mark : {N K F : Type 0} → Mark → Reading N K F → Reading N K F
+by_mark Unstable reading = Repeats
+by_mark _ reading = reading
 
 -- the version, again: what was found, if the border is as it was
 abbrev pub settled : {N K F : Type 0} → Counters → F → VersionView → Reading N K F
@@ -113,6 +121,11 @@ VersionWaits Begins node = (is_marked node ≡ true) ⊎ IsSomeAnd (border_of no
 VersionWaits (Settles counters found) node = (is_marked node ≡ true)
     ⊎ IsSomeAnd (border_of node) (λ b. (is_flagged b.version ≡ true) ⊎ (counters_of b.version ≢ counters))
 VersionWaits _ node = ⊥
+
+-- a layer is being made of the key that it reads
+abbrev pub KeyWaits : {N : Type 0} → Notes N → Node → Type 0
+KeyWaits notes node = IsSomeAnd (border_of node)
+    (λ b. (key_at b (slice_index notes.glance.order.live notes.place)).mark ≡ Unstable)
 
 -- it waits so for what it has read
 abbrev pub ReadWaits : {N K F : Type 0} → (Node → Type 0) → ArenaView → ℕ → Reading N K F → Type 0

@@ -1,7 +1,8 @@
 //! A get at a border: what it finds among the keys, and what the value of a slot leads to.
 
-ghost use Rattle.std.specs.Prelude.{◌≡◌, IfOk, IsErr, IsSome};
+ghost use Rattle.std.specs.Prelude.{◌≡◌, ◌⊎◌, IfOk, IsErr, IsSome};
 ghost use Rattle.mt_slice.specs.Place.{slice_number};
+ghost use Rattle.mt_border.specs.declared.field.Mark.TheVariants.{Unstable};
 ghost use Rattle.mt_arena.specs.Node.{node_at};
 ghost use Rattle.mt_steps.specs.Causes.{TakesMemory};
 ghost use Rattle.mt_steps.specs.Reader.{IsOn, IsReader, WantsOrder, WantsKey, WantsValue, MayRead, ReadWaits, FailsAt};
@@ -66,12 +67,13 @@ fn next_key(notes: Notes<()>) -> FindReading
 // whether what follows its slice is the same.
 fn found(notes: Notes<()>, mark: Mark, is_same: bool) -> FindReading
     ensures value { result ≡ key_found notes mark is_same }
-    ensures on { IsOn result }
+    ensures on { IsOn result ⊎ (mark ≡ Unstable) }
 {
     match mark {
         Mark::Layer => Reading::GoesOn(Reader::AtValue(notes, Kind::Link)),
         Mark::Plain if is_same => Reading::GoesOn(Reader::AtValue(notes, Kind::Row)),
         Mark::Plain => settles(notes.glance.counters, Sight::Absent),
+        Mark::Unstable => Reading::Repeats,
     }
 }
 
@@ -117,12 +119,16 @@ fn at_order(finding: Finding, order: Permutation) -> FindReading
 }
 
 // Returns what a get does after it has read the key of a slot. `rest` is what the layers above have left of the key
-// sought. The get reads keys up to the first that isn't before that. Costs a look at what follows its slice.
+// sought. The get reads keys up to the first that isn't before that. While a layer is being made of a key, it waits.
+// Costs a look at what follows its slice.
 fn at_key(finding: Finding, part: &KeyPart<'_>, rest: &[u8]) -> FindReading
     requires { WantsKey finding }
     ensures value { result ≡ at_key finding part.now rest.now }
-    ensures on { IsOn result }
+    ensures on { IsOn result ⊎ (part.now.mark ≡ Unstable) }
 {
+    if part.mark == Mark::Unstable {
+        return Reading::Repeats;
+    }
     let notes = finding.before_key();
     let (slice, class) = slice_of(rest);
     let (own, sought) = (part.class.number(), class.number());
@@ -133,7 +139,7 @@ fn at_key(finding: Finding, part: &KeyPart<'_>, rest: &[u8]) -> FindReading
     if is_before(slice, sought, part.slice, own) {
         return settles(notes.glance.counters, Sight::Absent);
     }
-    found(notes, part.mark, part.suffix == rest_of(rest))
+    found(notes, part.mark, part.bytes() == rest_of(rest))
 }
 
 // Returns what a get does after it has read the value of a slot. Costs the allocations of the columns that are asked for,

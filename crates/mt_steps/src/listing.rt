@@ -1,11 +1,11 @@
 //! A range or build at a border: what it keeps of the slots that it reads.
 
-ghost use Rattle.std.specs.Prelude.{◌≡◌, ◌<◌, ◌≤◌, length, IfOk, IsErr, IsSome, false};
-ghost use Rattle.mt_slice.specs.declared.slice_class.Class.TheVariants.{Long as LongClass};
-ghost use Rattle.mt_border.specs.declared.field.Mark.TheVariants.{Plain};
+ghost use Rattle.std.specs.Prelude.{◌≡◌, ◌⊎◌, ◌<◌, ◌≤◌, length, IfOk, IsErr, IsSome, false};
+ghost use Rattle.std.specs.Option.{option_copied};
+ghost use Rattle.mt_border.specs.declared.field.Mark.TheVariants.{Unstable};
 ghost use Rattle.mt_arena.specs.Node.{node_at};
 ghost use Rattle.mt_steps.specs.Causes.{KeepsSlot};
-ghost use Rattle.mt_steps.specs.Reader.{HasNext, IsReader, WantsOrder, WantsKey, WantsValue, MayRead, ReadWaits, FailsAt};
+ghost use Rattle.mt_steps.specs.Reader.{IsOn, HasNext, IsReader, WantsOrder, WantsKey, WantsValue, MayRead, ReadWaits, FailsAt};
 ghost use Rattle.mt_steps.specs.Listing.{list_next, key_read_of, entry_for, is_before_link, kept_with, one_more, list_value, list_at_order, list_at_key, list_at_value, ListReads, ListingWaits};
 
 use crate::reader::{Notes, Reader, Reading, at_head, at_interior};
@@ -89,17 +89,15 @@ fn with_room(notes: ListNotes) -> Result<ListNotes, NoMemory>
     })
 }
 
-// What a slot's key is, without its slice.
+// What a slot's key is, without its slice. It shares what follows the slice. Only a layer's key continues past its slice
+// and has no bytes there.
 fn key_read(alloc: Global, part: &KeyPart<'_>) -> Result<KeyRead, NoMemory>
-    requires { part.now.mark ≡ Plain → part.now.class ≡ LongClass → 0 < length part.now.suffix.now }
-    ensures { IfOk result (λ key. key ≡ key_read_of part.now.mark part.now.class part.now.suffix.now) }
+    ensures { IfOk result (λ key. key ≡ key_read_of part.now.class (option_copied part.now.suffix)) }
 {
-    match part.mark {
-        Mark::Layer => Ok(KeyRead::Layer),
-        Mark::Plain => match part.class {
-            Class::Len(length) => Ok(KeyRead::Short(length)),
-            Class::Long => Ok(KeyRead::Long(Suffix::copied(alloc, part.suffix)?)),
-        },
+    match (part.class, part.suffix) {
+        (Class::Len(length), _) => Ok(KeyRead::Short(length)),
+        (Class::Long, Some(suffix)) => Ok(KeyRead::Long(suffix.copy(alloc)?)),
+        (Class::Long, None) => Ok(KeyRead::Layer),
     }
 }
 
@@ -197,14 +195,17 @@ fn at_order(alloc: Global, listing: Listing, order: Permutation) -> ListReading
     })
 }
 
-// Returns what the call does after it has read the key of a slot. Costs a copy of what follows its slice, and at the
-// first key the room for what the slots hold.
+// Returns what the call does after it has read the key of a slot. While a layer is being made of the key, it waits. Costs
+// at the first key the room for what the slots hold. What follows the slice of a key is shared.
 fn at_key(alloc: Global, listing: Listing, part: &KeyPart<'_>) -> Result<ListReading, NoMemory>
-    requires wants { WantsKey listing }
-    requires whole { part.now.mark ≡ Plain → part.now.class ≡ LongClass → 0 < length part.now.suffix.now }
+    requires { WantsKey listing }
     ensures reading { IfOk result (λ reading. reading ≡ list_at_key listing part.now) }
+    ensures on { IfOk result (λ reading. IsOn reading ⊎ (part.now.mark ≡ Unstable)) }
     ensures takes { IsErr result → KeepsSlot listing }
 {
+    if part.mark == Mark::Unstable {
+        return Ok(Reading::Repeats);
+    }
     let notes = with_room(listing.before_key())?;
     let key = SlotKey {
         slice: part.slice,
@@ -225,9 +226,9 @@ fn at_value(alloc: Global, listing: Listing, part: &ValuePart<'_>) -> Result<Lis
 }
 
 /// Reads the next field of the border under a number, or visits the head or interior node there, on the way to a slice
-/// of its layer, and returns what the call does then. It is lent only that field or node. For a key it costs a copy of
-/// what follows its slice, and for the first key also the room for what the slots hold; for a row, a copy that shares
-/// the bytes of its columns. The version, the right link and the order take no memory.
+/// of its layer, and returns what the call does then. It is lent only that field or node. For the first key it costs the
+/// room for what the slots hold; what follows the slice of a key is shared. For a row it costs a copy that shares the
+/// bytes of its columns. The version, the right link and the order take no memory.
 ///
 /// # Errors
 ///

@@ -5,7 +5,7 @@ use Rattle.mt_arena.specs.Parts.{IsPart}
 use Rattle.mt_arena.specs.declared.part.Field.{Field}
 use Rattle.mt_steps.specs.Reader.{MayRead, wants}
 use Rattle.mt_steps.specs.Finding.{FindingWaits, find_reading}
-use Rattle.mt_steps.proofs.ReaderLemmas.{waits_head, waits_interior, may_child, on_waits, lent_of}
+use Rattle.mt_steps.proofs.ReaderLemmas.{waits_head, waits_interior, may_child, lent_of}
 use Rattle.mt_steps.proofs.finding.read.Goals as goal
 
 pub at_interior-requires : goal.at_interior-requires
@@ -28,6 +28,3 @@ returns-in-Key-clause-reads c = record {
   does = c.at_key.ensures.value ∙ sym (ap (find_reading c.args.finding c.args.rest.now c.args.asked.now) c.in-Key.is);
   takes = λ is. absurd (let clash : false ≡ true = is in cc);
 }
-
-pub returns-in-Key-clause-waits : goal.returns-in-Key-clause-waits
-returns-in-Key-clause-waits c = on_waits (FindingWaits c.args.finding) c.args.tree.now c.args.number.0 c.at_key.result c.at_key.ensures.on
