@@ -10,7 +10,7 @@ use Rattle.mt_types.specs.declared.refusal.Refusal.TheVariants.{NoMemory, ArenaF
 use Rattle.mt_word.specs.declared.permutation_word.TheConstants.{SLOTS}
 use Rattle.mt_word.specs.declared.version_word.TheConstants.{MAX_SPLITS}
 use Rattle.mt_commit.specs.Log.{LogView, reserve_fault}
-use Rattle.mt_border.specs.Border.{BorderView, fill_is_spent}
+use Rattle.mt_border.specs.Border.{BorderView, insert_is_spent}
 use Rattle.mt_border.specs.declared.found.Found.{Found}
 use Rattle.mt_border.specs.declared.found.Found.TheVariants.{Absent, Row, OtherSuffix}
 use Rattle.mt_arena.specs.Node.{border_at, occupied}
@@ -58,10 +58,10 @@ abbrev pub WriteWaits : ArenaView → WriteView → Progress → Type 0
 WriteWaits a write p = StageWaits a write.way.node.0 write.stage p
 
 -- ---- why a put or remove fails, unless memory is wanting
--- a new row can't be made ready where the slot's counter of insertions would rise and is spent, or no commit's number
+-- a new row can't be made ready if its slot held a key and the counter of insertions is spent, or if no commit's number
 -- is left
 abbrev pub fill_fault : LogView → BorderView → Option Refusal
-fill_fault log b = option_or (refused_if (fill_is_spent b) Spent) (reserve_fault log)
+fill_fault log b = option_or (refused_if (insert_is_spent b) Spent) (reserve_fault log)
 
 -- a full border can't be split where its counter of splits is spent, or no number is left for the half
 abbrev pub split_fault : ArenaView → BorderView → Option Refusal

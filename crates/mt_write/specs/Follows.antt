@@ -26,7 +26,7 @@ use Rattle.mt_write.specs.declared.writing.Halves.{Halves}
 use Rattle.mt_write.specs.declared.writing.Ending.{Ending}
 use Rattle.mt_write.specs.declared.writing.Ending.TheVariants.{Stored as EndStored, Failed as EndFailed}
 use Rattle.mt_write.specs.declared.writing.Stage.{Stage}
-use Rattle.mt_write.specs.declared.writing.Stage.TheVariants.{Seeks, Locked, Spared, HalfFilled, Halved, Posts, LayerSpared, LayerFilled, LayerReady, Layered, Filled, Made, Taken, Stored, Failed}
+use Rattle.mt_write.specs.declared.writing.Stage.TheVariants.{Seeks, Locked, Spared, HalfFilled, Halved, Posts, LayerSpared, LayerFilled, LayerReady, Layered, Reserved, KeyWritten, Filled, Made, Taken, Stored, Failed}
 use Rattle.mt_write.specs.declared.writing.Write.{Write as WriteView}
 use Rattle.mt_commit.specs.Log.{LogView}
 use Rattle.mt_write.specs.Writing.{write_request, ending_stage, MayStage, StageLaw}
@@ -44,15 +44,15 @@ IsCutBest a way cut = IsSomeAnd (border_at a.nodes way.node.0) (λ b. IsBestCut 
 abbrev pub IsMadeReady : ArenaView → Way → Stage → Type 0
 IsMadeReady a way (Spared half cut entries) = IsCutBest a way cut
 IsMadeReady a way (LayerSpared layer entries) = Unit {0}
-IsMadeReady a way (Filled place stored logged split) = split ≡ None
+IsMadeReady a way (Reserved new slot_key row) = new.split ≡ None
 IsMadeReady a way (Made place stored columns logged) = Unit {0}
 IsMadeReady a way (Taken place stored before) = Unit {0}
 IsMadeReady a way (Failed refusal split) = split ≡ None
 IsMadeReady a way _ = ⊥
 
--- at the half where its key belongs its row is ready to be shown, or it has failed
+-- at the half where its key belongs its key and row are made, or it has failed
 abbrev pub IsReadyIn : Halves → Stage → Type 0
-IsReadyIn halves (Filled place stored logged split) = split ≡ Some halves
+IsReadyIn halves (Reserved new slot_key row) = new.split ≡ Some halves
 IsReadyIn halves (Failed refusal split) = split ≡ Some halves
 IsReadyIn halves _ = ⊥
 
@@ -73,6 +73,9 @@ StageFollows a key way (LayerSpared layer entries) next new = StaysAt way next n
 StageFollows a key way (LayerFilled layer) next new = StaysAt way next new (LayerReady layer)
 StageFollows a key way (LayerReady layer) next new = StaysAt way next new (Layered layer.head)
 StageFollows a key way (Layered head) next new = (new ≡ Seeks) × (next ≡ record { node = head; layer = way.layer + 1 })
+StageFollows a key way (Reserved insertion slot_key row) next new = StaysAt way next new (KeyWritten insertion row)
+StageFollows a key way (KeyWritten insertion row) next new = StaysAt way next new
+    (Filled insertion.place insertion.key insertion.logged insertion.split)
 StageFollows a key way (Posts posting ending) next new = PostsOn a posting ending new × (next ≡ way)
 StageFollows a key way (Stored commit split) next new = IsPosting (EndStored commit) new × (split ≢ None)
 StageFollows a key way (Failed refusal split) next new = IsPosting (EndFailed refusal) new × (split ≢ None)

@@ -1,5 +1,5 @@
 -- What a put or remove makes ready at the border that it has locked, and the deltas of their commits.
-use Rattle.std.specs.Prelude.{ℕ, ◌≡◌, ◌<◌, ◌≤◌, ◌+◌, ◌⊎◌, List, [], ◌∷◌, length, drop, Option, Some, None, true, false}
+use Rattle.std.specs.Prelude.{ℕ, ◌≡◌, ◌<◌, ◌≤◌, ◌+◌, ◌⊎◌, List, [], ◌∷◌, length, drop, Option, Some, None, IsSomeAnd, true, false}
 use Rattle.mt_types.specs.declared.limits.TheConstants.{MAX_KEY_BYTES}
 use Rattle.mt_types.specs.declared.row.Row.{Row}
 use Rattle.mt_types.specs.declared.row.Delta.{Delta}
@@ -7,63 +7,77 @@ use Rattle.mt_types.specs.declared.event.Request.TheVariants.{Put as PutRequest,
 use Rattle.mt_slice.specs.Place.{AreBytes}
 use Rattle.mt_word.specs.declared.permutation_word.TheConstants.{SLOTS}
 use Rattle.mt_commit.specs.Log.{LogView}
-use Rattle.mt_border.specs.Border.{BorderView, with_filled, new_border}
+use Rattle.mt_border.specs.Border.{BorderView, with_filled, with_inserting, with_key, new_border}
 use Rattle.mt_arena.specs.declared.node.Node.TheVariants.{Border, Head}
 use Rattle.mt_border.specs.Entry.{IsEntry}
 use Rattle.mt_border.specs.Order.{IsBorder}
 use Rattle.mt_border.specs.declared.entry.Entry.{Entry}
 use Rattle.mt_border.specs.declared.found.Found.TheVariants.{Absent}
+use Rattle.mt_border.specs.declared.unwritten.SlotKey.{SlotKey}
+use Rattle.mt_border.specs.Entry.{entry_with, key_of_rest}
+use Rattle.mt_border.specs.Keys.{key_seen, IsKey}
 use Rattle.mt_arena.specs.Node.{node_at, border_at, Updates}
 use Rattle.mt_arena.specs.declared.node.Node.{Node}
 use Rattle.mt_interior.specs.Head.{new_head}
-use Rattle.mt_arena.specs.Arena.{ArenaView, with_border_changed}
+use Rattle.mt_arena.specs.Arena.{ArenaView, IsArena, with_border_changed}
 use Rattle.mt_tree.specs.Keeping.{KeepsTree, KeepsUnknown, IsUnknown}
 use Rattle.mt_tree.specs.Descent.{found_for, row_found}
 use Rattle.mt_steps.specs.declared.way.Way.{Way}
 use Rattle.mt_write.specs.declared.writing.Edit.{Edit}
 use Rattle.mt_write.specs.declared.writing.Edit.TheVariants.{Put as PutEdit, Remove as RemoveEdit}
 use Rattle.mt_write.specs.declared.writing.Stage.{Stage}
-use Rattle.mt_write.specs.declared.writing.Stage.TheVariants.{Spared, LayerSpared, Filled, Made, Taken, Failed}
+use Rattle.mt_write.specs.declared.writing.Stage.TheVariants.{Spared, LayerSpared, Reserved, Made, Taken, Failed}
 use Rattle.mt_write.specs.declared.writing.Halves.{Halves}
+use Rattle.mt_write.specs.declared.writing.Insertion.{Insertion}
 use Rattle.mt_write.specs.declared.writing.Layer.{Layer}
 use Rattle.mt_steps.specs.Way.{rest_of}
 use Rattle.mt_steps.specs.Step.{MayFail, columns_after}
-use Rattle.mt_write.specs.Writing.{IsCutAt, empty_half, IsLayerAt, moved_entry, new_entry, IsMade, IsFound}
+use Rattle.mt_write.specs.Writing.{IsCutAt, empty_half, IsLayerAt, moved_entry, IsNewRow, IsMade, IsFound}
 
 -- the room for one delta more
 abbrev pub with_room : LogView → LogView
 with_room log = record log { reserved = log.reserved + 1 }
 
--- what a put makes ready at the border that it has locked: a new row in the first unused slot
-pub record Fills (C : ℕ) (key : List ℕ) (sets : List (ℕ × List ℕ)) (way : Way) (a : ArenaView) (log : LogView)
-    (place : ℕ) (stored : List ℕ) (logged : List (List ℕ)) (after : ArenaView) (left : LogView) : Type 0 where
+-- the key of a put in its slot, and its row, are made, and its border is marked if the first unused slot held a key
+pub record Reserves (C : ℕ) (key : List ℕ) (sets : List (ℕ × List ℕ)) (way : Way) (a : ArenaView) (log : LogView)
+    (new : Insertion) (slot_key : SlotKey) (row : Row) (after : ArenaView) (left : LogView) : Type 0 where
   pub b : BorderView
   pub named : border_at a.nodes way.node.0 ≡ Some b
-  pub bytes : AreBytes key
-  pub fits : length key ≤ MAX_KEY_BYTES
-  pub sound : IsBorder b
+  pub made : IsNewRow C key sets way b new row
   pub room : length b.live < SLOTS
-  pub absent : found_for (rest_of key way) b.live ≡ Absent place
-  pub stored_is : stored ≡ key
-  pub columns : logged ≡ columns_after C sets None
-  pub filled : after ≡ with_border_changed a way.node.0 (λ b. with_filled b (new_entry key way logged))
-  pub whole : IsBorder (with_filled b (new_entry key way logged))
+  pub key_is : slot_key ≡ key_of_rest (rest_of key way)
+  pub whole : IsKey (key_seen slot_key)
+  pub marked : after ≡ with_border_changed a way.node.0 with_inserting
+  pub sound : IsSomeAnd (border_at after.nodes way.node.0) IsBorder
   pub keeps : KeepsTree a after
   pub reserved : left ≡ with_room log
 
--- the first unused slot of a border holds the new row of a key, whose columns are made for the log too
-pub record FillsNew (C : ℕ) (key : List ℕ) (sets : List (ℕ × List ℕ)) (way : Way) (a : ArenaView) (stored : List ℕ)
-    (logged : List (List ℕ)) (after : ArenaView) : Type 0 where
+-- a key and its row are written into the first unused slot of the border under a number: the key, and then the value
+pub record WritesSlot (a after : ArenaView) (number : ℕ) (slot_key : SlotKey) (row : Row) : Type 0 where
+  pub keyed : ArenaView
+  pub key : keyed ≡ with_border_changed a number (λ b. with_key b slot_key)
+  pub key_sound : IsSomeAnd (border_at keyed.nodes number) IsBorder
+  pub key_keeps : KeepsTree a keyed
+  pub arena : IsArena keyed
+  pub value : after ≡ with_border_changed keyed number (λ b. with_filled b (entry_with slot_key row))
+  pub value_sound : IsSomeAnd (border_at after.nodes number) IsBorder
+  pub value_keeps : KeepsTree keyed after
+
+-- a new row of a key is written there, for which the border was marked if the slot held a key
+pub record Inserts (C : ℕ) (key : List ℕ) (sets : List (ℕ × List ℕ)) (way : Way) (a after : ArenaView) : Type 0 where
   pub b : BorderView
   pub named : border_at a.nodes way.node.0 ≡ Some b
   pub bytes : AreBytes key
   pub fits : length key ≤ MAX_KEY_BYTES
   pub sound : IsBorder b
-  pub stored_is : stored ≡ key
-  pub columns : logged ≡ columns_after C sets None
-  pub filled : after ≡ with_border_changed a way.node.0 (λ b. with_filled b (new_entry key way logged))
-  pub whole : IsBorder (with_filled b (new_entry key way logged))
-  pub keeps : KeepsTree a after
+  pub whole : IsKey (key_seen (key_of_rest (rest_of key way)))
+  pub marked : ArenaView
+  pub marks : marked ≡ with_border_changed a way.node.0 with_inserting
+  pub marked_sound : IsSomeAnd (border_at marked.nodes way.node.0) IsBorder
+  pub marked_keeps : KeepsTree a marked
+  pub arena : IsArena marked
+  pub writes : WritesSlot marked after way.node.0 (key_of_rest (rest_of key way))
+      (record { version = 0; columns = columns_after C sets None })
 
 -- a number that named nothing names this node, a spare
 pub record Occupies (a after : ArenaView) (number : ℕ) (node : Node) : Type 0 where
@@ -129,8 +143,8 @@ Prepares C key sets way a log split (Spared half cut entries) after left = (spli
     × Spares key way a half.0 cut entries after × (left ≡ log)
 Prepares C key sets way a log split (LayerSpared layer entries) after left = (split ≡ None)
     × LayerSpares key way a layer entries after × (left ≡ log)
-Prepares C key sets way a log split (Filled place stored logged halves) after left = (halves ≡ split)
-    × Fills C key sets way a log place stored logged after left
+Prepares C key sets way a log split (Reserved new slot_key row) after left = (new.split ≡ split)
+    × Reserves C key sets way a log new slot_key row after left
 Prepares C key sets way a log split (Made place stored columns logged) after left = (split ≡ None)
     × Makes C key sets way a log place stored columns logged after left
 Prepares C key sets way a log split (Failed refusal halves) after left = (halves ≡ split)

@@ -1,5 +1,5 @@
 -- Runs of a put or remove: its steps one after the other, after each of which the log is trimmed.
-use Rattle.std.specs.Prelude.{ℕ, ◌≡◌, ◌≤◌, ◌+◌, ◌-◌, min, List, [], ◌∷◌, length, sum_by, All, Option, Some, None, Result, Ok, Err}
+use Rattle.std.specs.Prelude.{ℕ, ◌≡◌, ◌≤◌, ◌+◌, ◌-◌, ◌⊎◌, min, List, [], ◌∷◌, length, sum_by, All, Option, Some, None, Result, Ok, Err}
 use Rattle.mt_types.specs.declared.refusal.Refusal.{Refusal}
 use Rattle.mt_border.specs.declared.found.Found.{Found}
 use Rattle.mt_commit.specs.Log.{LogView, IsLog, newest, slowest, trimmed}
@@ -11,13 +11,14 @@ use Rattle.mt_steps.specs.World.{World, IsWorld}
 use Rattle.mt_steps.specs.Step.{bounds}
 use Rattle.mt_steps.specs.Way.{Finds}
 use Rattle.mt_write.specs.declared.running.WriteRun.{WriteRun}
+use Rattle.mt_write.specs.declared.finishing.Committed.{Committed as AtCommit}
 use Rattle.mt_write.specs.declared.finishing.AtBorder.{AtBorder}
 use Rattle.mt_write.specs.declared.finishing.AtBorder.TheVariants.{Absent, Commits, Ready}
 use Rattle.mt_write.specs.declared.writing.Write.{Write}
 use Rattle.mt_write.specs.declared.writing.Stage.{Stage}
 use Rattle.mt_write.specs.declared.writing.Stage.TheVariants.{Locked, Stored, Failed}
 use Rattle.mt_write.specs.Writing.{WriteIsTrue, write_held}
-use Rattle.mt_write.specs.Follows.{FindsNone, WriteStep}
+use Rattle.mt_write.specs.Follows.{FindsNone, TreeStep, WriteStep}
 
 -- the log holds no delta that is to be trimmed
 abbrev pub IsTrimmed : LogView → Type 0
@@ -89,31 +90,38 @@ pub record MayAct (C : ℕ) (a : ArenaView) (log : LogView) (write : Write) (fou
   pub sound : IsLog log
   pub finds : Finds a write.key write.way found
 
--- AT ITS BORDER, which it has locked, a write makes a stage ready and commits: two steps, and the log is trimmed
-pub record CommitsAt (C : ℕ) (a after : ArenaView) (log left : LogView) (write : Write) (commit : ℕ) : Type 0 where
-  pub between : ArenaView
-  pub reserved : LogView
-  pub appended : LogView
-  pub stage : Stage
-  pub ready : WriteStep C a between log reserved write Locked Moved (record write { stage = stage })
-  pub commits : WriteStep C between after reserved appended write stage (Committed commit)
-      (record write { stage = Stored commit None })
-  pub arena : IsArena between
-  pub sound_reserved : IsLog reserved
-  pub sound : IsLog appended
-  pub trims : left ≡ trimmed appended
-  pub newest_stays : newest left ≡ newest appended
+-- AT ITS BORDER, which it has locked, a write makes ready and commits, in this many steps
+pub record CommitsAt (C : ℕ) (a after : ArenaView) (log left : LogView) (write : Write) (committed : AtCommit) : Type 0 where
+  pub run : HasRun C (state a log (record write { stage = Locked }))
+      (record { steps = committed.steps; commits = 1; last = Committed committed.commit })
+      (state after left (record write { stage = Stored committed.commit None }))
+  pub may : MayRun C (state after left (record write { stage = Stored committed.commit None }))
+  pub trimmed : IsTrimmed left
+  pub few : committed.steps ≤ 4
 
 -- without a delta it has made the commit of a number there, or none, or has failed
-abbrev pub CommitsUnread : ℕ → ArenaView → ArenaView → LogView → LogView → Write → Result (Option ℕ) Refusal → Type 0
+abbrev pub CommitsUnread : ℕ → ArenaView → ArenaView → LogView → LogView → Write → Result (Option AtCommit) Refusal → Type 0
 CommitsUnread C a after log left write (Ok None) = (after ≡ a) × (left ≡ log)
-CommitsUnread C a after log left write (Ok (Some commit)) = CommitsAt C a after log left write commit
+CommitsUnread C a after log left write (Ok (Some committed)) = CommitsAt C a after log left write committed
 CommitsUnread C a after log left write (Err refusal) = WriteStep C a after log left write Locked Moved
     (record write { stage = Failed refusal None })
+
+-- the key and the row of a new key are written, after each other
+pub record InsertsAt (a after : ArenaView) (write : Write) (stage then : Stage) : Type 0 where
+  pub between : Stage
+  pub keyed : ArenaView
+  pub key : TreeStep a keyed write stage Moved (record write { stage = between })
+  pub value : TreeStep keyed after write between Moved (record write { stage = then })
+  pub arena : IsArena keyed
+
+-- from what it has made ready it has written a new key and its row, in two steps; or it has done nothing
+abbrev pub ThenInserts : ArenaView → ArenaView → Write → Stage → Stage → ℕ → Type 0
+ThenInserts a after write stage then steps = ((after ≡ a) × (then ≡ stage) × (steps ≡ 0))
+    ⊎ ((steps ≡ 2) × InsertsAt a after write stage then)
 
 -- so much it has done there: it has found no row to remove, or committed, or made another stage ready
 abbrev pub ComesTo : ℕ → ArenaView → ArenaView → LogView → LogView → Write → AtBorder → Type 0
 ComesTo C a after log left write Absent = FindsNone C a after log left write
-ComesTo C a after log left write (Commits commit) = CommitsAt C a after log left write commit
+ComesTo C a after log left write (Commits committed) = CommitsAt C a after log left write committed
 ComesTo C a after log left write (Ready stage) = WriteStep C a after log left write Locked Moved
     (record write { stage = stage })

@@ -14,15 +14,18 @@ use Rattle.mt_types.specs.declared.numbers.NodeNo.{NodeNo}
 use Rattle.mt_word.specs.declared.permutation_word.TheConstants.{SLOTS}
 use Rattle.mt_word.specs.declared.version_word.TheConstants.{MAX_SPLITS}
 use Rattle.mt_commit.specs.Log.{LogView}
-use Rattle.mt_border.specs.Border.{BorderView, row_at, with_entries, new_border}
+use Rattle.mt_border.specs.Border.{BorderView, first_held, row_at, with_entries, new_border}
 use Rattle.mt_border.specs.Cut.{IsBestCut}
 use Rattle.mt_border.specs.declared.found.Found.{Found}
 use Rattle.mt_chart.specs.Tree.{Among}
-use Rattle.mt_border.specs.Entry.{IsEntry, entry_of_row}
+use Rattle.mt_border.specs.Entry.{IsEntry, entry_of_row, key_of_rest}
+use Rattle.mt_border.specs.Keys.{key_seen, IsKey}
 use Rattle.mt_border.specs.Order.{IsBorder}
 use Rattle.mt_border.specs.declared.entry.Entry.{Entry}
 use Rattle.mt_border.specs.declared.entry.Content.TheVariants.{Long, Link}
 use Rattle.mt_border.specs.declared.slot_table.Slot.{Slot}
+use Rattle.mt_border.specs.declared.unwritten.SlotKey.{SlotKey}
+use Rattle.mt_border.specs.declared.unwritten.Unwritten.TheVariants.{Nothing, Value}
 use Rattle.mt_border.specs.declared.found.Found.TheVariants.{Absent, Row as RowFound}
 use Rattle.mt_arena.specs.Node.{head_at, border_at}
 use Rattle.mt_interior.specs.Head.{new_head}
@@ -39,12 +42,13 @@ use Rattle.mt_write.specs.Causes.{version_fault}
 use Rattle.mt_write.specs.declared.writing.Edit.{Edit}
 use Rattle.mt_write.specs.declared.writing.Edit.TheVariants.{Put as PutEdit, Remove as RemoveEdit}
 use Rattle.mt_write.specs.declared.writing.Stage.{Stage}
-use Rattle.mt_write.specs.declared.writing.Stage.TheVariants.{Seeks, Locked, Spared, HalfFilled, Halved, Posts, LayerSpared, LayerFilled, LayerReady, Layered, Filled, Made, Taken, Stored, Failed}
+use Rattle.mt_write.specs.declared.writing.Stage.TheVariants.{Seeks, Locked, Spared, HalfFilled, Halved, Posts, LayerSpared, LayerFilled, LayerReady, Layered, Reserved, KeyWritten, Filled, Made, Taken, Stored, Failed}
 use Rattle.mt_write.specs.declared.writing.Halves.{Halves}
 use Rattle.mt_write.specs.declared.writing.Ending.{Ending}
 use Rattle.mt_write.specs.declared.writing.Ending.TheVariants.{Stored as EndStored, Failed as EndFailed}
 use Rattle.mt_post.specs.Posting.{PostingIsTrue, owned as posting_owned}
 use Rattle.mt_chart.specs.Chart.{spot, at_level, on}
+use Rattle.mt_write.specs.declared.writing.Insertion.{Insertion}
 use Rattle.mt_write.specs.declared.writing.Layer.{Layer}
 use Rattle.mt_steps.specs.World.{World, IsLockedBorder, NotAmong}
 use Rattle.mt_steps.specs.Way.{prefix_of, rest_of, IsLayerOf, IsOnWay, IsHeadOf}
@@ -108,6 +112,10 @@ stage_held number (LayerFilled layer) =
 stage_held number (LayerReady layer) =
     record { owns = layer_owned number layer; reserves = 0; committed = None; blocked = None }
 stage_held number (Layered head) = record { owns = number ∷ []; reserves = 0; committed = None; blocked = None }
+stage_held number (Reserved new slot_key row) =
+    record { owns = owned number new.split; reserves = 1; committed = None; blocked = None }
+stage_held number (KeyWritten new row) =
+    record { owns = owned number new.split; reserves = 1; committed = None; blocked = None }
 stage_held number (Filled place stored logged split) =
     record { owns = owned number split; reserves = 1; committed = None; blocked = None }
 stage_held number (Made place stored columns logged) =
@@ -129,7 +137,18 @@ stage_held number (Failed refusal split) =
 abbrev pub write_held : Write → Held
 write_held write = stage_held write.way.node.0 write.stage
 
--- the call has locked the border of its key, and this is what is there
+-- the call has locked the border of its key, and this is what is there; something of it may be unwritten
+pub record IsOwnedAt (a : ArenaView) (key : List ℕ) (way : Way) (b : BorderView) (w : World) : Type 0 where
+  pub layer : IsLayerOf key way
+  pub named : border_at a.nodes way.node.0 ≡ Some b
+  pub stands : IsWhere (arena_seen a) w.chart way.node.0 (prefix_of key way) (border_seen b)
+      (place_of (rest_of key way))
+  pub alive : b.version.deleted ≡ false
+  pub last : IsLast (found_for (rest_of key way) b.live)
+  pub locked : b.version.locked ≡ true
+  pub free : NotAmong way.node.0 w.closing
+
+-- the same, and all of it is written
 pub record IsLockedAt (a : ArenaView) (key : List ℕ) (way : Way) (b : BorderView) (w : World) : Type 0 where
   pub layer : IsLayerOf key way
   pub named : border_at a.nodes way.node.0 ≡ Some b
@@ -138,6 +157,7 @@ pub record IsLockedAt (a : ArenaView) (key : List ℕ) (way : Way) (b : BorderVi
   pub alive : b.version.deleted ≡ false
   pub last : IsLast (found_for (rest_of key way) b.live)
   pub locked : b.version.locked ≡ true
+  pub written : b.unwritten ≡ Nothing
   pub free : NotAmong way.node.0 w.closing
 
 -- the halves of a border that is split: the right one is on in the layer of the prefix from its low on, and nothing may
@@ -155,6 +175,12 @@ AreHalves prefix a w (Some split) = IsSplit prefix a w split
 -- it has locked its border, or both halves of the border that it has split, in the layer of a prefix
 pub record HasLocked (prefix : List ℕ) (a : ArenaView) (w : World) (number : ℕ) (split : Option Halves) : Type 0 where
   pub locked : (other : ℕ) → Among other (owned number split) → IsLockedBorder a w other
+  pub own : Among number (owned number split)
+  pub halves : AreHalves prefix a w split
+
+-- the same of what it has locked besides its border
+pub record HasOthers (prefix : List ℕ) (a : ArenaView) (w : World) (number : ℕ) (split : Option Halves) : Type 0 where
+  pub locked : (other : ℕ) → Among other (owned number split) → other ≢ number → IsLockedBorder a w other
   pub own : Among number (owned number split)
   pub halves : AreHalves prefix a w split
 
@@ -265,6 +291,24 @@ way_below way head = record { node = head; layer = way.layer + 1 }
 abbrev pub new_entry : List ℕ → Way → List (List ℕ) → Entry
 new_entry key way columns = entry_of_row (rest_of key way) (record { version = 0; columns = columns })
 
+-- the key has no row, and the one that it is to have is made
+pub record IsNewRow (C : ℕ) (key : List ℕ) (sets : List (ℕ × List ℕ)) (way : Way) (b : BorderView) (new : Insertion)
+    (row : Row) : Type 0 where
+  pub bytes : AreBytes key
+  pub fits : length key ≤ MAX_KEY_BYTES
+  pub sound : IsBorder b
+  pub stored_is : new.key ≡ key
+  pub absent : found_for (rest_of key way) b.live ≡ Absent new.place
+  pub columns : new.logged ≡ columns_after C sets None
+  pub row_is : row ≡ record { version = 0; columns = new.logged }
+
+-- a slot is unused, for which the key is made, and the border is marked if that slot held a key
+pub record AwaitsKey (key : List ℕ) (way : Way) (b : BorderView) (slot_key : SlotKey) : Type 0 where
+  pub room : length b.live < SLOTS
+  pub marked : first_held b.unused ≡ true → b.version.inserting ≡ true
+  pub key_is : slot_key ≡ key_of_rest (rest_of key way)
+  pub whole : IsKey (key_seen slot_key)
+
 -- the key has no row, and the first unused slot, which was filled since it was live, holds the new one
 pub record IsFilled (C : ℕ) (key : List ℕ) (sets : List (ℕ × List ℕ)) (way : Way) (b : BorderView) (place : ℕ) (stored : List ℕ)
     (logged : List (List ℕ)) : Type 0 where
@@ -348,6 +392,12 @@ StageIsTrue C key edit way (LayerReady layer) begun a w = (b : BorderView) × Is
     × IsToLink a w key way b layer false
 StageIsTrue C key edit way (Layered head) begun a w = HasLink (prefix_of key way) a w way.node.0 head
     × IsOnWay begun key (way_below way head) w × IsHeadOf w begun head.0 (prefix_of key (way_below way head))
+StageIsTrue C key edit way (Reserved new slot_key row) begun a w = (b : BorderView) × IsLockedAt a key way b w
+    × (p : PutsNew edit) × IsNewRow C key p.sets way b new row × AwaitsKey key way b slot_key
+    × HasLocked (prefix_of key way) a w way.node.0 new.split
+StageIsTrue C key edit way (KeyWritten new row) begun a w = (b : BorderView) × IsOwnedAt a key way b w
+    × (p : PutsNew edit) × IsNewRow C key p.sets way b new row × (b.unwritten ≡ Value (key_of_rest (rest_of key way)))
+    × HasOthers (prefix_of key way) a w way.node.0 new.split
 StageIsTrue C key edit way (Filled place stored logged split) begun a w = (b : BorderView) × IsLockedAt a key way b w
     × (p : PutsNew edit) × IsFilled C key p.sets way b place stored logged
     × HasLocked (prefix_of key way) a w way.node.0 split

@@ -5,6 +5,7 @@ mod columns;
 mod commit;
 mod ending;
 mod finishing;
+mod inserting;
 mod layering;
 mod ready;
 pub mod running;

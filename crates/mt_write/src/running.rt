@@ -21,9 +21,9 @@ pub struct WriteRun {
     pub last: Progress,
 }
 
-// How many steps a put or remove makes at the border of its key, if it need not split it or make a layer: it locks the
-// border, makes ready, commits and unlocks.
-const STEPS_AT_BORDER: u64 = 4;
+// How many steps a put or remove makes at most at the border of its key, if it need not split it or make a layer: it
+// locks the border, makes ready, writes the key and the row of a new key, commits and unlocks.
+const STEPS_AT_BORDER: u64 = 6;
 
 // Returns whether the call continues after a step, and has not waited.
 fn advances(progress: &Progress) -> bool
@@ -58,7 +58,7 @@ fn one_step(last: Progress) -> WriteRun
 }
 
 impl Write {
-    // Makes one step. At the border of its key, if four are left, it makes all from the lock to the unlock.
+    // Makes one step. At the border of its key, if six are left, it makes all from the lock to the unlock.
     fn advance(
         &mut self,
         alloc: Global,
@@ -98,7 +98,7 @@ impl Write {
     /// Makes steps, one after the other, until one of them ends the call or waits, or `most` are made. At least one is
     /// made, also if `most` is 0. After each the log is trimmed.
     ///
-    /// Costs what the steps cost. The border of the key is searched once, if four steps are left when it is reached.
+    /// Costs what the steps cost. The border of the key is searched once, if six steps are left when it is reached.
     pub fn run(
         &mut self,
         alloc: Global,

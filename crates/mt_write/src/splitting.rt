@@ -5,6 +5,7 @@ ghost use Rattle.mt_types.specs.declared.event.Request.TheVariants.{Put as PutRe
 ghost use Rattle.mt_commit.specs.Log.{LogView};
 ghost use Rattle.mt_border.specs.Border.{with_entries, with_split};
 ghost use Rattle.mt_word.specs.declared.permutation_word.TheConstants.{SLOTS};
+ghost use Rattle.mt_border.specs.declared.unwritten.Unwritten.TheVariants.{Nothing};
 ghost use Rattle.mt_arena.specs.Node.{border_at};
 ghost use Rattle.mt_arena.specs.Arena.{with_border_changed};
 ghost use Rattle.mt_tree.specs.Descent.{found_for};
@@ -18,7 +19,8 @@ ghost use Rattle.mt_write.specs.Writing.{IsAbsent, IsHalf, PutsNew, IsHalfOf, Ma
 ghost use Rattle.mt_write.specs.Ready.{Prepares, IsBack, SomeSets};
 ghost use Rattle.mt_write.specs.Follows.{WriteStep, TreeStep, MayBeAt};
 
-use crate::ready::{NewRow, fill};
+use crate::inserting::reserve;
+use crate::ready::NewRow;
 use crate::writing::{Edit, Halves, Stage, Write};
 use mt_arena::Node;
 use mt_border::{Border, Entry, Found};
@@ -95,8 +97,8 @@ fn link_halves(tree: &mut Tree, way: Way, key: &Key, half: NodeNo, cut: usize) -
     }
 }
 
-// Writes a new row into the first unused slot of a half.
-fn fill_half(
+// Makes a new row for the first unused slot of a half.
+fn reserve_half(
     alloc: Global,
     columns: u8,
     tree: &mut Tree,
@@ -108,6 +110,7 @@ fn fill_half(
     requires half { IsSomeAnd (border_at tree.old.nodes write.now.way.node.0)
         (IsHalf write.now.key write.now.way) }
     requires locked { IsSomeAnd (border_at tree.old.nodes write.now.way.node.0) (λ b. b.version.locked ≡ true) }
+    requires written { IsSomeAnd (border_at tree.old.nodes write.now.way.node.0) (λ b. b.unwritten ≡ Nothing) }
     requires put { PutsNew write.now.edit }
     ensures fault { IsSomeAnd (border_at tree.old.nodes write.now.way.node.0)
         (λ b. FailsBy (fill_fault log.old b) (Some split) result) }
@@ -126,7 +129,7 @@ fn fill_half(
     let Found::Absent(place) = tree.find(row.way.node, rest_of(row.key, row.way.layer)) else {
         unreachable!();
     };
-    match fill(alloc, tree, log, &row, place, Some(split)) {
+    match reserve(alloc, tree, log, &row, place, Some(split)) {
         Ok(stage) => stage,
         Err(refusal) => Stage::Failed(refusal, Some(split)),
     }
@@ -162,9 +165,9 @@ impl Write {
         Progress::Moved
     }
 
-    // The half to which its key belongs takes the new row, which isn't shown yet.
+    // A new row is made for the half to which its key belongs.
     #[inline(never)]
-    pub(crate) fn fill_in_half(
+    pub(crate) fn reserve_in_half(
         &mut self,
         alloc: Global,
         columns: u8,
@@ -175,7 +178,7 @@ impl Write {
         requires { MayStage columns tree.old log.old self.old (Stage.Halved split) }
         ensures { WriteStep columns tree.old tree.new log.old log.new self.old (Stage.Halved split) result self.new }
     {
-        let stage = fill_half(alloc, columns, tree, log, self, split);
+        let stage = reserve_half(alloc, columns, tree, log, self, split);
         self.turn_to(stage);
         Progress::Moved
     }

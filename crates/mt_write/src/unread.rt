@@ -5,7 +5,9 @@ ghost use Rattle.std.specs.Prelude.{ℕ};
 ghost use Rattle.mt_commit.specs.Log.{IsUnread};
 ghost use Rattle.mt_write.specs.Runs.{CommitsUnread, MayAct};
 
-use crate::ready::{NewRow, fill_unread, make_columns, other_version};
+use crate::finishing::Committed;
+use crate::inserting::insert_unread;
+use crate::ready::{NewRow, make_columns, other_version};
 use crate::writing::{Edit, Write};
 use mt_border::Found;
 use mt_commit::log::Log;
@@ -16,13 +18,13 @@ use mt_types::row::Row;
 use std::alloc::Global;
 
 impl Write {
-    // A remove hides the row that was found. Returns the number of the commit; `None` if it is for another function.
+    // A remove hides the row that was found. Returns its commit; `None` if it is for another function.
     fn remove_unread(
         &self,
         tree: &mut Tree,
         log: &mut Log,
         found: Found,
-    ) -> Result<Option<u64>, Refusal>
+    ) -> Result<Option<Committed>, Refusal>
         requires may { (C : ℕ) × MayAct C tree.old log.old self.now found }
         requires unread { IsUnread log.old }
         ensures { (C : ℕ) → CommitsUnread C tree.old tree.new log.old log.new self.now result }
@@ -35,12 +37,15 @@ impl Write {
         log.reserve()?;
         tree.hide_row(self.way.node, place);
         log.pass();
-        Ok(Some(log.number()))
+        Ok(Some(Committed {
+            commit: log.number(),
+            steps: 2,
+        }))
     }
 
     // At its border, which it has locked: makes ready and commits, and makes nothing for the log, if no delta would stay
     // there. A put writes over the row that was found, or shows a new one, if none was found and the border isn't full.
-    // Returns the number of the commit; `None` if it is for another function.
+    // Returns the commit; `None` if it is for another function.
     pub(crate) fn commit_unread(
         &self,
         alloc: Global,
@@ -48,7 +53,7 @@ impl Write {
         tree: &mut Tree,
         log: &mut Log,
         found: Found,
-    ) -> Result<Option<u64>, Refusal>
+    ) -> Result<Option<Committed>, Refusal>
         requires { MayAct columns tree.old log.old self.now found }
         ensures { CommitsUnread columns tree.old tree.new log.old log.new self.now result }
     {
@@ -75,15 +80,21 @@ impl Write {
                 log.pass();
                 let version = log.number();
                 drop(tree.set_value(self.way.node, place, Row { version, columns }));
-                Ok(Some(version))
+                Ok(Some(Committed {
+                    commit: version,
+                    steps: 2,
+                }))
             }
             Found::Absent(place) if !border.is_full() => {
-                fill_unread(alloc, tree, log, &row)?;
+                insert_unread(alloc, tree, log, &row)?;
                 let _filled = tree.free_numbers();
                 log.pass();
                 let version = log.number();
                 tree.show(self.way.node, place, version);
-                Ok(Some(version))
+                Ok(Some(Committed {
+                    commit: version,
+                    steps: 4,
+                }))
             }
             Found::Absent(_) | Found::OtherSuffix(_) | Found::Link(_, _) => Ok(None),
         }

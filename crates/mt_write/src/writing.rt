@@ -11,7 +11,7 @@ ghost use Rattle.mt_write.specs.Runs.{commits_in};
 ghost use Rattle.mt_write.specs.Follows.{WriteStep, TreeStep, MayBeAt, WriteFollows, HeadFollows, PostsFollow, FindsNone};
 
 use crate::ready::{NewRow, other_version, prepare, prepare_remove};
-use mt_border::{Entry, Found};
+use mt_border::{Entry, Found, SlotKey};
 use mt_commit::log::Log;
 use mt_post::Posting;
 use mt_steps::progress::Progress;
@@ -48,6 +48,16 @@ pub struct Layer {
     pub place: usize,
     pub head: NodeNo,
     pub root: NodeNo,
+}
+
+/// A new row that is to be shown at a place, and what its commit needs.
+#[derive(Drop)]
+pub struct Insertion {
+    pub place: usize,
+    pub key: Key,
+    /// The row's columns once more, for the log.
+    pub logged: Columns,
+    pub split: Option<Halves>,
 }
 
 /// What a write is to answer, once its border is unlocked.
@@ -93,6 +103,10 @@ pub enum Stage {
     LayerReady(Layer),
     /// The layer of this head is linked, and the call is to continue there.
     Layered(NodeNo),
+    /// The key and the row are made that the first unused slot is to have.
+    Reserved(Insertion, SlotKey, Row),
+    /// The first unused slot has its key, and the value that it had. The row is to be written there.
+    KeyWritten(Insertion, Row),
     /// Its row is in the first unused slot, to be shown at a place.
     Filled {
         place: usize,
@@ -273,12 +287,14 @@ impl Write {
             Stage::Locked => self.make_ready(alloc, columns, tree, log),
             Stage::Spared { half, cut, entries } => self.fill_spared(tree, half, cut, entries),
             Stage::HalfFilled { half, cut } => self.link(tree, half, cut),
-            Stage::Halved(split) => self.fill_in_half(alloc, columns, tree, log, split),
+            Stage::Halved(split) => self.reserve_in_half(alloc, columns, tree, log, split),
             Stage::Posts(posting, ending) => self.post(tree, posting, ending),
             Stage::LayerSpared { layer, entries } => self.fill_root(tree, layer, entries),
             Stage::LayerFilled(layer) => self.unlock_head(tree, layer),
             Stage::LayerReady(layer) => self.link_layer(tree, layer),
             Stage::Layered(head) => self.go_below(tree, head),
+            Stage::Reserved(new, slot_key, row) => self.write_key(tree, new, slot_key, row),
+            Stage::KeyWritten(new, row) => self.write_value(tree, new, row),
             Stage::Filled {
                 place,
                 key,

@@ -32,11 +32,11 @@ link-requires c = (c.args.columns, c.args.log.now, may_be c.args.columns c.args.
 pub returns-in-HalfFilled : goal.returns-in-HalfFilled
 returns-in-HalfFilled c = at_step c.args.columns c.args.tree.now c.link.new.tree c.args.log.now c.args.log.now c.args.self.now c.replace.new.dest _ c.link.result c.link.new.self (sym c.replace.ensures.value ∙ c.in-HalfFilled.is) (c.link.ensures c.args.columns c.args.log.now)
 
-pub fill_in_half-requires : goal.fill_in_half-requires
-fill_in_half-requires c = may_be c.args.columns c.args.tree.now c.args.log.now c.args.self.now c.replace.new.dest _ (sym c.replace.ensures.value ∙ c.in-Halved.is) c.requires
+pub reserve_in_half-requires : goal.reserve_in_half-requires
+reserve_in_half-requires c = may_be c.args.columns c.args.tree.now c.args.log.now c.args.self.now c.replace.new.dest _ (sym c.replace.ensures.value ∙ c.in-Halved.is) c.requires
 
 pub returns-in-Halved : goal.returns-in-Halved
-returns-in-Halved c = at_step c.args.columns c.args.tree.now c.fill_in_half.new.tree c.args.log.now c.fill_in_half.new.log c.args.self.now c.replace.new.dest _ c.fill_in_half.result c.fill_in_half.new.self (sym c.replace.ensures.value ∙ c.in-Halved.is) c.fill_in_half.ensures
+returns-in-Halved c = at_step c.args.columns c.args.tree.now c.reserve_in_half.new.tree c.args.log.now c.reserve_in_half.new.log c.args.self.now c.replace.new.dest _ c.reserve_in_half.result c.reserve_in_half.new.self (sym c.replace.ensures.value ∙ c.in-Halved.is) c.reserve_in_half.ensures
 
 pub post-requires : goal.post-requires
 post-requires c = (c.args.columns, c.args.log.now, may_be c.args.columns c.args.tree.now c.args.log.now c.args.self.now c.replace.new.dest _ (sym c.replace.ensures.value ∙ c.in-Posts.is) c.requires)
