@@ -118,6 +118,14 @@ nothing_deleted xs i h e = omega (arith, ap (λ (t : List _). length t) e)
 pub all_written : (b : BorderView) → b.unwritten ≡ Nothing → IsUnwritten b b.unwritten
 all_written b written = subst (λ (u : Unwritten). IsUnwritten b u) (sym written) tt
 
+-- all of a border that isn't locked is written
+pub unlocked_written : (b : BorderView) → IsBorder b → b.version.locked ≡ false → b.unwritten ≡ Nothing
+unlocked_written b h unlocked = go b.unwritten h.pending
+  where
+    go : (left : Unwritten) → IsUnwritten b left → left ≡ Nothing
+    go Nothing pending = refl
+    go (Value key) waits = absurd (let clash : true ≡ false = sym waits.locked ∙ unlocked in cc)
+
 -- a value
 pub awaits : (b : BorderView) (key : SlotKey) → b.unwritten ≡ Value key → IsBorder b → AwaitsValue b key
 awaits b key is h = subst (λ (u : Unwritten). IsUnwritten b u) is h.pending

@@ -21,7 +21,7 @@ use Rattle.mt_post.specs.Posting.{IsToPost, IsSpareInterior, IsSplitting, IsHalv
 module _ (a after : ArenaView) (w next : World) (prefix : List ℕ) where
   -- the border that is to be posted stays so where its number does
   pub to_post_stays : (number low : ℕ) → IsSame a after w next number → IsToPost a w prefix number low → IsToPost after next prefix number low
-  to_post_stays number low same t = record { b = t.b; named = ap (option_and_then border_of) same.node ∙ t.named; low_is = t.low_is; locked = t.locked; alive = t.alive; place = same.spot ∙ t.place; free = λ i. t.free (same.closing i) }
+  to_post_stays number low same t = record { b = t.b; named = ap (option_and_then border_of) same.node ∙ t.named; low_is = t.low_is; locked = t.locked; alive = t.alive; written = t.written; place = same.spot ∙ t.place; free = λ i. t.free (same.closing i) }
 
   -- a spare stays one
   pub spare_stays : (number : ℕ) (i : InteriorView) → IsSame a after w next number → IsSpareInterior a w number i → IsSpareInterior after next number i

@@ -288,6 +288,7 @@ module _ (a : ArenaView) (posting : Posting) (old : Root) (root : NodeNo) (is : 
           known = known_some (at_chart w chart) half half_place (root_charted.rest half differ ∙ half_charted.now);
           locked = border.locked;
           alive = border.alive;
+          written = border.written;
           free = border.free;
         })
       where

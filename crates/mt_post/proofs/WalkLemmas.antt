@@ -318,7 +318,7 @@ module _ (a : ArenaView) (posting : Posting) (node : NodeNo) (is : posting.stage
             (λ taken apart. not_both i.version.locked (w.chart n) unlocked is_known (interior_is_taken a n i w named taken))
             (λ other t out k. out k) (λ other k taken. k)
             (λ apart taken. absurd (not_both i.version.locked (chart n) unlocked (known_stays w.chart chart n (kept.evolves 0 (omega arith)) is_known) (interior_taken a n i change named (at_chart w chart) taken)))
-            (record { b = border.b; named = interior_border a n i change named posting.half.0 border.b border.named; known = known_some (at_chart w chart) posting.half.0 place charted.now; locked = border.locked; alive = border.alive; free = border.free })
+            (record { b = border.b; named = interior_border a n i change named posting.half.0 border.b border.named; known = known_some (at_chart w chart) posting.half.0 place charted.now; locked = border.locked; alive = border.alive; written = border.written; free = border.free })
 
     -- it has room, and its low is at most that of what is to be named
     pub room_for : (may : MayPost a posting) → length i.children < MAX_CHILDREN → IsSomeAnd (interior_at a.nodes node.0) (HasRoomFrom wanted.low)
