@@ -13,6 +13,8 @@ pub mod CollectingLemmas
 pub mod GetLemmas
 pub mod PartLemmas
 pub mod ReaderLemmas
+pub mod SoughtLemmas
+pub mod EnterLemmas
 pub mod RangeLemmas
 pub mod LoneLemmas
 pub mod LoneWay

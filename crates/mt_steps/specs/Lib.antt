@@ -6,6 +6,7 @@ pub mod Standing
 pub mod Reader
 pub mod Causes
 pub mod Finding
+pub mod Entering
 pub mod Getting
 pub mod Listing
 pub mod Ranging

@@ -3,6 +3,7 @@
 
 pub mod alone;
 pub mod collecting;
+pub mod entering;
 pub mod finding;
 pub mod getting;
 pub mod listing;
