@@ -8,6 +8,8 @@ use Rattle.mt_types.specs.declared.event.Answer.TheVariants.{Tidied}
 use Rattle.mt_types.specs.declared.event.TidyRule.TheVariants.{EmptyLayer as LayerRule}
 use Rattle.mt_slice.specs.Place.{slices_above}
 use Rattle.mt_border.specs.Border.{BorderView, with_locked, with_unlocked, with_deleted}
+use Rattle.mt_border.specs.Order.{IsBorder}
+use Rattle.mt_border.proofs.BorderLemmas.{unlocked_written}
 use Rattle.mt_border.specs.declared.entry.Content.TheVariants.{Link}
 use Rattle.mt_interior.specs.Head.{HeadView}
 use Rattle.mt_interior.specs.Head.{with_deleted as head_deleted}
@@ -93,12 +95,13 @@ module _ (epoch : ℕ) (a : ArenaView) (tidy : Tidy) (root head above : NodeNo) 
     abbrev layer : Layer
     layer = record { above = above; place = place; head = head; root = root }
 
-    pub locks_above : (slice : ℕ) (after : ArenaView) → IsSomeAnd (border_at a.nodes n) (λ x. slice_get x.live place ≡ Some (record { slice = slice; content = Link head })) → after ≡ new → KeepsTree a after → TidyStep epoch a after tidy Moved (record tidy { stage = AboveLocked layer })
+    pub locks_above : (slice : ℕ) (after : ArenaView) → IsSomeAnd (border_at a.nodes n) IsBorder → IsSomeAnd (border_at a.nodes n) (λ x. slice_get x.live place ≡ Some (record { slice = slice; content = Link head })) → after ≡ new → KeepsTree a after → TidyStep epoch a after tidy Moved (record tidy { stage = AboveLocked layer })
     unfolding root_beside
-    locks_above slice after linked value keeps = at_stage epoch a after tidy (RootLocked root head above) Moved (record tidy { stage = AboveLocked layer }) is refl (ap (λ (x : ArenaView). x.retired) value) (record {
+    locks_above slice after whole linked value keeps = at_stage epoch a after tidy (RootLocked root head above) Moved (record tidy { stage = AboveLocked layer }) is refl (ap (λ (x : ArenaView). x.retired) value) (record {
       steps = λ begun w world before t.
           let (upper, deeper, known) = t.known in
           let (on_border, low) = border_is_on (arena_seen a) w.chart world.index.tree begun n known.low (slices_above upper tidy.key) (border_seen b) (holds_known begun w n (slices_above upper tidy.key) known) (seen-border a n b b_named) seen.alive in
+          let sound : IsBorder b = subst (λ (o : Option BorderView). IsSomeAnd o IsBorder) b_named whole in
           let stands : IsOnIn w.chart n (slices_above upper tidy.key) = record { low = b.low; posted = on_border.posted; place = on_border.place } in
           let differ : root.0 ≢ n = λ e. clash_locked t.border.b t.border.locked (ap (λ (m : ℕ). border_at a.nodes m) (sym e) ∙ t.border.named) in
           let kept = (subst (λ (x : ArenaView). KeepsTree a x) value keeps).keeps epoch w.twins w.chart world.index in
@@ -113,7 +116,7 @@ module _ (epoch : ℕ) (a : ArenaView) (tidy : Tidy) (root head above : NodeNo) 
                   free = t.free;
                   headed = t.headed;
                   above = record {
-                    border = record { b = lock b; named = now_named a n b lock b_named; locked = refl; alive = seen.alive; prefix = slices_above upper tidy.key; stands = stands; free = unlocked_root a w.closing w.chart n b b_named seen.unlocked world.heads };
+                    border = record { b = lock b; named = now_named a n b lock b_named; locked = refl; alive = seen.alive; written = unlocked_written b sound seen.unlocked; prefix = slices_above upper tidy.key; stands = stands; free = unlocked_root a w.closing w.chart n b b_named seen.unlocked world.heads };
                     slice = slice;
                     linked = subst (λ (o : Option BorderView). IsSomeAnd o (λ x. slice_get x.live place ≡ Some (record { slice = slice; content = Link head }))) b_named linked;
                   };
@@ -159,13 +162,14 @@ module _ (epoch : ℕ) (a : ArenaView) (tidy : Tidy) (layer : Layer) (is : tidy.
           subst (λ (x : ArenaView). Goes epoch a x w owned owns (Then x) × SameContent (arena_seen a) (arena_seen x)) (sym value) (
           goes_marked a t h named epoch w prefix k.root.b owned owns (Then new) world stands root.0 (root_named k.root.b k.root.named) k.root.locked (subst (λ (m : NodeNo). Among m.0 owned) (sym root.1) (later first))
           (subst (λ (x : ArenaView). KeepsTree a x) value keeps) more (later (later first)) fewer (record {
-            root = record { b = k.root.b; named = border_same a t h named layer.root.0 k.root.b k.root.named; known = k.root.known; locked = k.root.locked; empty = k.root.empty; right = k.root.right };
+            root = record { b = k.root.b; named = border_same a t h named layer.root.0 k.root.b k.root.named; known = k.root.known; locked = k.root.locked; written = k.root.written; empty = k.root.empty; right = k.root.right };
             above = record {
               border = record {
                 b = k.above.border.b;
                 named = border_same a t h named layer.above.0 k.above.border.b k.above.border.named;
                 locked = k.above.border.locked;
                 alive = k.above.border.alive;
+                written = k.above.border.written;
                 prefix = k.above.border.prefix;
                 stands = k.above.border.stands;
                 free = λ i. elim (among_cases layer.above.0 h.root.0 w.closing i) [
@@ -218,7 +222,7 @@ module _ (epoch : ℕ) (a : ArenaView) (tidy : Tidy) (layer : Layer) (is : tidy.
           goes_border a n b with_deleted named epoch w owned owned (Then new) world (λ known. (ages_deleted b, inr refl)) kept.index (keys_same a new kept.content world.keys) (mine_free a n w owned (later first)) (λ other i. inl i) (λ other ne i. i) (λ locked. later first)
               (locked_kept a epoch w.chart n (subst (λ (x : Option Node). IsLocked x) (sym (node-from_border a.nodes n b named)) k.root.locked) world.retired, λ i. k.root.locked, alive_changed a n b with_deleted named w.chart (inl k.root.locked)) (
                 record {
-                  root = record { b = with_deleted b; named = now_named a n b with_deleted named; known = k.root.known; locked = k.root.locked; empty = k.root.empty; right = k.root.right };
+                  root = record { b = with_deleted b; named = now_named a n b with_deleted named; known = k.root.known; locked = k.root.locked; written = k.root.written; empty = k.root.empty; right = k.root.right };
                   above = above_beside a w n b with_deleted layer named (layer_apart a w layer k.root k.above) k.above;
                   head = head_beside a n layer.head.0 b with_deleted named k.head;
                   names = k.names;
@@ -314,6 +318,7 @@ module _ (epoch : ℕ) (a : ArenaView) (tidy : Tidy) (layer : Layer) (is : tidy.
           known = r.known;
           locked = r.locked;
           alive = r.alive;
+          written = r.written;
           free = r.free;
         });
   }) tt tt (refl, refl)

@@ -39,7 +39,7 @@ use Rattle.mt_remove.proofs.StageLemmas.{at_stage, true_at, law_same, holds_know
 
 -- an empty border that the call has locked, and that is not marked deleted, is a locked border
 pub empty_locked : (a : ArenaView) (w : World) (number : ℕ) (prefix : List ℕ) (posted : Bool) (e : IsEmptyBorder a w number prefix posted) → e.b.version.deleted ≡ false → IsLockedBorder a w number
-empty_locked a w number prefix posted e alive = record { b = e.b; named = e.named; known = known_some w number _ e.place; locked = e.locked; alive = alive; free = e.free }
+empty_locked a w number prefix posted e alive = record { b = e.b; named = e.named; known = known_some w number _ e.place; locked = e.locked; alive = alive; written = e.written; free = e.free }
 
 -- ---- it is dropped
 module _ (epoch : ℕ) (a : ArenaView) (tidy : Tidy) (border head parent : NodeNo) (is : tidy.stage ≡ Locked border head parent) where
@@ -121,7 +121,7 @@ module _ (epoch : ℕ) (a : ArenaView) (tidy : Tidy) (border head parent : NodeN
             no_lock
             (λ taken. not_both i.version.locked (w.chart n) seen.unlocked is_known (interior_is_taken a n i w i_named taken))
             (λ taken. not_both i.version.locked (chart n) seen.unlocked (known_stays w.chart chart n (kept.evolves 0 (omega arith)) is_known) (interior_taken a n i change i_named (at_chart w chart) taken)) (
-              record { b = e.b; named = interior_border a n i change i_named border.0 e.b e.named; locked = e.locked; empty = e.empty; later = e.later; place = charted.now; free = e.free },
+              record { b = e.b; named = interior_border a n i change i_named border.0 e.b e.named; locked = e.locked; written = e.written; empty = e.empty; later = e.later; place = charted.now; free = e.free },
               known_kept begun head.0 top prefix 0 w.chart chart (kept.evolves begun before) known,
             );
       }
@@ -150,7 +150,7 @@ module _ (epoch : ℕ) (a : ArenaView) (tidy : Tidy) (border head : NodeNo) (is 
         subst (λ (x : ArenaView). Goes epoch a x w (border.0 ∷ []) (border.0 ∷ []) (Then x) × SameContent (arena_seen a) (arena_seen x)) (sym value) (
           goes_border a border.0 e.b with_deleted e.named epoch w (border.0 ∷ []) (border.0 ∷ []) (Then new) world (λ known. (ages_deleted e.b, inr refl)) kept.index (keys_same a new kept.content world.keys) (mine_free a border.0 w (border.0 ∷ []) first) (λ other i. inl i) (λ other ne i. i) (λ locked. first)
               (locked_may a border.0 e.b with_deleted e.named epoch w world e.locked e.free (inl e.locked)) (record {
-                border = record { b = with_deleted e.b; named = now_named a border.0 e.b with_deleted e.named; locked = e.locked; empty = e.empty; later = e.later; place = e.place; free = e.free };
+                border = record { b = with_deleted e.b; named = now_named a border.0 e.b with_deleted e.named; locked = e.locked; written = e.written; empty = e.empty; later = e.later; place = e.place; free = e.free };
                 marked = refl;
                 before = let above = e.later in omega (arith, low, above);
                 headed = known;

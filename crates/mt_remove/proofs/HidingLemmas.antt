@@ -155,6 +155,7 @@ module _ (now : ℕ) (a : ArenaView) (w : World) (layer : Layer) (k : IsClosing 
     named = now_named a n b hide named;
     locked = k.above.border.locked;
     alive = k.above.border.alive;
+    written = k.above.border.written;
     prefix = k.above.border.prefix;
     stands = record {
       low = k.above.border.stands.low;
@@ -169,6 +170,7 @@ module _ (now : ℕ) (a : ArenaView) (w : World) (layer : Layer) (k : IsClosing 
     b = k.root.b;
     named = ap (option_and_then border_of) (others r (λ e. layer_apart a w layer k.root k.above (sym e))) ∙ k.root.named;
     locked = k.root.locked;
+    written = k.root.written;
     prefix = below;
     low = 0;
     epoch = now;

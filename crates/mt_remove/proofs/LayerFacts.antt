@@ -16,10 +16,10 @@ use Rattle.mt_remove.specs.Tidy.{IsEmptyRoot, IsAbove, HasLayer, IsOwnHead, IsGo
 -- ---- they are locked
 -- an empty border that is not marked deleted, and is no closing one, is a locked border
 pub root_locked : (a : ArenaView) (w : World) (number : ℕ) (e : IsEmptyRoot a w number) → e.b.version.deleted ≡ false → NotAmong number w.closing → IsLockedBorder a w number
-root_locked a w number e alive free = record { b = e.b; named = e.named; known = e.known; locked = e.locked; alive = alive; free = free }
+root_locked a w number e alive free = record { b = e.b; named = e.named; known = e.known; locked = e.locked; alive = alive; written = e.written; free = free }
 
 pub above_locked : (a : ArenaView) (w : World) (number : ℕ) → IsAbove a w number → IsLockedBorder a w number
-above_locked a w number e = record { b = e.b; named = e.named; known = known_some w number _ e.stands.place; locked = e.locked; alive = e.alive; free = e.free }
+above_locked a w number e = record { b = e.b; named = e.named; known = known_some w number _ e.stands.place; locked = e.locked; alive = e.alive; written = e.written; free = e.free }
 
 -- ---- they are three
 pub same_border : (a : ArenaView) (number : ℕ) (b c : BorderView) → border_at a.nodes number ≡ Some b → border_at a.nodes number ≡ Some c → b ≡ c
@@ -42,6 +42,7 @@ root_beside a w next n number b change named differ same e = record {
   named = ap (option_and_then border_of) (others_named a n b change named number differ) ∙ e.named;
   known = subst (λ (x : Option Spot). IsSome x) (sym same) e.known;
   locked = e.locked;
+  written = e.written;
   empty = e.empty;
   right = e.right;
 }
@@ -54,6 +55,7 @@ above_beside a w n b change layer named differ x = record {
     named = ap (option_and_then border_of) (others_named a n b change named layer.above.0 differ) ∙ x.border.named;
     locked = x.border.locked;
     alive = x.border.alive;
+    written = x.border.written;
     prefix = x.border.prefix;
     stands = x.border.stands;
     free = x.border.free;
@@ -78,6 +80,7 @@ gone_beside a w n number b change named differ g = record {
   b = g.b;
   named = ap (option_and_then border_of) (others_named a n b change named number differ) ∙ g.named;
   locked = g.locked;
+  written = g.written;
   prefix = g.prefix;
   low = g.low;
   epoch = g.epoch;

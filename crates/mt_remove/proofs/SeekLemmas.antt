@@ -8,6 +8,8 @@ use Rattle.mt_types.specs.declared.event.Answer.TheVariants.{Tidied}
 use Rattle.mt_types.specs.declared.event.TidyRule.TheVariants.{Nothing as NoRule}
 use Rattle.mt_slice.specs.Place.{slices_above, place_of}
 use Rattle.mt_border.specs.Border.{BorderView, with_locked}
+use Rattle.mt_border.specs.Order.{IsBorder}
+use Rattle.mt_border.proofs.BorderLemmas.{unlocked_written}
 use Rattle.mt_border.specs.declared.entry.Entry.{Entry}
 use Rattle.mt_border.specs.declared.entry.RightLink.{RightLink}
 use Rattle.mt_arena.specs.Node.{node_at, border_at}
@@ -277,9 +279,9 @@ module _ (epoch : ℕ) (a : ArenaView) (tidy : Tidy) (noted : Noted) (is : tidy.
     abbrev lock : BorderView → BorderView
     lock x = with_locked x
 
-    pub locks : (parent : NodeNo) (after : ArenaView) → b.version.locked ≡ false → sign_of b noted ≡ EmptyBorder parent → after ≡ with_border_changed a n lock → KeepsTree a after
+    pub locks : (parent : NodeNo) (after : ArenaView) → IsBorder b → b.version.locked ≡ false → sign_of b noted ≡ EmptyBorder parent → after ≡ with_border_changed a n lock → KeepsTree a after
         → TidyStep epoch a after tidy Moved (record tidy { stage = Locked tidy.way.node noted.head parent })
-    locks parent after unlocked sign value keeps = at_stage epoch a after tidy (Seeks noted) Moved (record tidy { stage = Locked tidy.way.node noted.head parent }) is refl (ap (λ (x : ArenaView). x.retired) value) (record {
+    locks parent after sound unlocked sign value keeps = at_stage epoch a after tidy (Seeks noted) Moved (record tidy { stage = Locked tidy.way.node noted.head parent }) is refl (ap (λ (x : ArenaView). x.retired) value) (record {
       steps = λ begun w world before truth.
           let d = due parent sign in
           let new : ArenaView = with_border_changed a n lock in
@@ -292,7 +294,7 @@ module _ (epoch : ℕ) (a : ArenaView) (tidy : Tidy) (noted : Noted) (is : tidy.
             goes_border a n b lock named epoch w [] (n ∷ []) (Then new) world (λ known. (ages_locked b, inr refl)) kept.index (keys_same a new kept.content world.keys)
                 (unlocked_free a n b lock named w [] unlocked (known_some w n _ stands.stands.place))
                 (λ other i. inr (among_one other n i)) (λ other ne i. elim i [ ]) (λ locked. first) (on_kept a epoch w.chart n _ _ _ _ stands.stands.place world.retired, λ i. refl, alive_changed a n b lock named w.chart (inl refl)) (
-                  (stands.stands.posted, record { b = lock b; named = now_named a n b lock named; locked = refl; empty = d.empty; later = d.low; place = stands.stands.place; free = unlocked_root a w.closing w.chart n b named unlocked world.heads }, ap (λ (x : BorderView). x.version.deleted) (sym same) ∙ at.alive),
+                  (stands.stands.posted, record { b = lock b; named = now_named a n b lock named; locked = refl; written = unlocked_written b sound unlocked; empty = d.empty; later = d.low; place = stands.stands.place; free = unlocked_root a w.closing w.chart n b named unlocked world.heads }, ap (λ (x : BorderView). x.version.deleted) (sym same) ∙ at.alive),
                   truth.1.head,
                   subst (λ (c : Came). CameIsKnown begun (prefix_of tidy.key tidy.way) w c) d.came truth.1.came,
                 ),
@@ -301,9 +303,9 @@ module _ (epoch : ℕ) (a : ArenaView) (tidy : Tidy) (noted : Noted) (is : tidy.
     }) tt tt (follows_here Moved (record tidy { stage = Locked tidy.way.node noted.head parent }) (inr (unlocked, subst (λ (s : Sign). BeginsBy tidy noted s Moved (record tidy { stage = Locked tidy.way.node noted.head parent })) (sym sign) (refl, refl))))
 
     -- the only border of a layer is locked
-    pub locks_root : (upper : NodeNo) (after : ArenaView) → b.version.locked ≡ false → sign_of b noted ≡ EmptyLayer upper → after ≡ with_border_changed a n lock → KeepsTree a after
+    pub locks_root : (upper : NodeNo) (after : ArenaView) → IsBorder b → b.version.locked ≡ false → sign_of b noted ≡ EmptyLayer upper → after ≡ with_border_changed a n lock → KeepsTree a after
         → TidyStep epoch a after tidy Moved (record tidy { stage = RootLocked tidy.way.node noted.head upper })
-    locks_root upper after unlocked sign value keeps = at_stage epoch a after tidy (Seeks noted) Moved (record tidy { stage = RootLocked tidy.way.node noted.head upper }) is refl (ap (λ (x : ArenaView). x.retired) value) (record {
+    locks_root upper after sound unlocked sign value keeps = at_stage epoch a after tidy (Seeks noted) Moved (record tidy { stage = RootLocked tidy.way.node noted.head upper }) is refl (ap (λ (x : ArenaView). x.retired) value) (record {
       steps = λ begun w world before truth.
           let d = layer_due upper sign in
           let new : ArenaView = with_border_changed a n lock in
@@ -316,7 +318,7 @@ module _ (epoch : ℕ) (a : ArenaView) (tidy : Tidy) (noted : Noted) (is : tidy.
             goes_border a n b lock named epoch w [] (n ∷ []) (Then new) world (λ known. (ages_locked b, inr refl)) kept.index (keys_same a new kept.content world.keys)
                 (unlocked_free a n b lock named w [] unlocked (known_some w n _ stands.stands.place))
                 (λ other i. inr (among_one other n i)) (λ other ne i. elim i [ ]) (λ locked. first) (on_kept a epoch w.chart n _ _ _ _ stands.stands.place world.retired, λ i. refl, alive_changed a n b lock named w.chart (inl refl)) (record {
-                  border = record { b = lock b; named = now_named a n b lock named; known = known_some w n _ stands.stands.place; locked = refl; empty = d.empty; right = d.right };
+                  border = record { b = lock b; named = now_named a n b lock named; known = known_some w n _ stands.stands.place; locked = refl; written = unlocked_written b sound unlocked; empty = d.empty; right = d.right };
                   alive = ap (λ (x : BorderView). x.version.deleted) (sym same) ∙ at.alive;
                   free = unlocked_root a w.closing w.chart n b named unlocked world.heads;
                   headed = truth.1.head;

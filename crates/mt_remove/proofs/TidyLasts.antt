@@ -77,7 +77,7 @@ module _ (a after : ArenaView) (w next : World) (begun : ℕ) (evolves : Evolves
   twin_stays number same lone = ((λ other pair. lone.0 other ((same.twins other number (inr refl)).0 pair)), (λ other pair. lone.1 other ((same.twins number other (inl refl)).0 pair)))
 
   empty_stays : (number : ℕ) (prefix : List ℕ) (posted : Bool) → IsSame a after w next number → IsEmptyBorder a w number prefix posted → IsEmptyBorder after next number prefix posted
-  empty_stays number prefix posted same e = record { b = e.b; named = border_stays number e.b same e.named; locked = e.locked; empty = e.empty; later = e.later; place = same.spot ∙ e.place; free = λ i. e.free (same.closing i) }
+  empty_stays number prefix posted same e = record { b = e.b; named = border_stays number e.b same e.named; locked = e.locked; written = e.written; empty = e.empty; later = e.later; place = same.spot ∙ e.place; free = λ i. e.free (same.closing i) }
 
   single_stays : (number : ℕ) (prefix : List ℕ) → IsSame a after w next number → IsLoneInterior a w number prefix → IsLoneInterior after next number prefix
   single_stays number prefix same l = record {
@@ -95,6 +95,7 @@ module _ (a after : ArenaView) (w next : World) (begun : ℕ) (evolves : Evolves
     b = g.b;
     named = border_stays number g.b s g.named;
     locked = g.locked;
+    written = g.written;
     prefix = g.prefix;
     low = g.low;
     epoch = g.epoch;
@@ -104,10 +105,10 @@ module _ (a after : ArenaView) (w next : World) (begun : ℕ) (evolves : Evolves
   }
 
   locked_stays : (number : ℕ) → IsSame a after w next number → IsLockedBorder a w number → IsLockedBorder after next number
-  locked_stays number s k = record { b = k.b; named = border_stays number k.b s k.named; known = subst (λ (x : Option Spot). IsSome x) (sym s.spot) k.known; locked = k.locked; alive = k.alive; free = λ i. k.free (s.closing i) }
+  locked_stays number s k = record { b = k.b; named = border_stays number k.b s k.named; known = subst (λ (x : Option Spot). IsSome x) (sym s.spot) k.known; locked = k.locked; alive = k.alive; written = k.written; free = λ i. k.free (s.closing i) }
 
   root_stays : (number : ℕ) → IsSame a after w next number → IsEmptyRoot a w number → IsEmptyRoot after next number
-  root_stays number s e = record { b = e.b; named = border_stays number e.b s e.named; known = subst (λ (x : Option Spot). IsSome x) (sym s.spot) e.known; locked = e.locked; empty = e.empty; right = e.right }
+  root_stays number s e = record { b = e.b; named = border_stays number e.b s e.named; known = subst (λ (x : Option Spot). IsSome x) (sym s.spot) e.known; locked = e.locked; written = e.written; empty = e.empty; right = e.right }
 
   over_stays : (number : ℕ) → IsSame a after w next number → IsAbove a w number → IsAbove after next number
   over_stays number s u = record {
@@ -115,6 +116,7 @@ module _ (a after : ArenaView) (w next : World) (begun : ℕ) (evolves : Evolves
     named = border_stays number u.b s u.named;
     locked = u.locked;
     alive = u.alive;
+    written = u.written;
     prefix = u.prefix;
     stands = record { low = u.stands.low; posted = u.stands.posted; place = s.spot ∙ u.stands.place };
     free = λ i. u.free (s.closing i);

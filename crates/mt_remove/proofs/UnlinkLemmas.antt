@@ -149,6 +149,7 @@ module _ (epoch : ℕ) (a : ArenaView) (tidy : Tidy) (border head node : NodeNo)
               b = e.b;
               named = ap (option_and_then border_of) (others_named a n c change at.named border.0 apart) ∙ e.named;
               locked = e.locked;
+              written = e.written;
               prefix = prefix;
               low = e.b.low;
               epoch = epoch;

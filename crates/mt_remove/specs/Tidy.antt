@@ -6,6 +6,7 @@ use Rattle.mt_types.specs.declared.event.Request.{Request}
 use Rattle.mt_types.specs.declared.event.Request.TheVariants.{Tidy as TidyRequest}
 use Rattle.mt_slice.specs.Place.{slices_above}
 use Rattle.mt_border.specs.Border.{BorderView}
+use Rattle.mt_border.specs.declared.unwritten.Unwritten.TheVariants.{Nothing}
 use Rattle.mt_border.specs.declared.entry.Content.TheVariants.{Link}
 use Rattle.mt_interior.specs.Head.{HeadView}
 use Rattle.mt_interior.specs.Interior.{InteriorView}
@@ -103,21 +104,24 @@ pub record NotedIsTrue (begun : ℕ) (key : List ℕ) (way : Way) (noted : Noted
   pub came : CameIsKnown begun (prefix_of key way) w noted.came
   pub lone : IfLone begun (prefix_of key way) w noted.lone
 
--- the call has locked an empty border, which is on in the layer from a low above 0, and may be named or not
+-- the call has locked an empty border, which is on in the layer from a low above 0, and may be named or not; all of it
+-- is written
 pub record IsEmptyBorder (a : ArenaView) (w : World) (number : ℕ) (prefix : List ℕ) (posted : Bool) : Type 0 where
   pub b : BorderView
   pub named : border_at a.nodes number ≡ Some b
   pub locked : b.version.locked ≡ true
+  pub written : b.unwritten ≡ Nothing
   pub empty : b.live ≡ []
   pub later : 0 < b.low
   pub place : w.chart number ≡ Some (spot (at_level 0) prefix b.low (on posted))
   pub free : NotAmong number w.closing
 
--- the call has locked a border, which is gone and not retired
+-- the call has locked a border, which is gone and not retired, and all of which is written
 pub record IsGoneBorder (a : ArenaView) (w : World) (number : ℕ) : Type 0 where
   pub b : BorderView
   pub named : border_at a.nodes number ≡ Some b
   pub locked : b.version.locked ≡ true
+  pub written : b.unwritten ≡ Nothing
   pub prefix : List ℕ
   pub low : ℕ
   pub epoch : ℕ
@@ -160,22 +164,24 @@ pub record IsUnlinking (begun : ℕ) (a : ArenaView) (w : World) (number : ℕ) 
   pub held : Holds w.chart begun node prefix slice
 
 -- ---- of an empty layer
--- the call has locked a border, which is empty and has nothing to its right
+-- the call has locked a border, which is empty and has nothing to its right, and all of which is written
 pub record IsEmptyRoot (a : ArenaView) (w : World) (number : ℕ) : Type 0 where
   pub b : BorderView
   pub named : border_at a.nodes number ≡ Some b
   pub known : IsSome (w.chart number)
   pub locked : b.version.locked ≡ true
+  pub written : b.unwritten ≡ Nothing
   pub empty : b.live ≡ []
   pub right : b.right ≡ None
 
 -- the call has locked a border that is on and not marked deleted, and that is not the root of a layer that is being
--- taken out
+-- taken out; all of it is written
 pub record IsAbove (a : ArenaView) (w : World) (number : ℕ) : Type 0 where
   pub b : BorderView
   pub named : border_at a.nodes number ≡ Some b
   pub locked : b.version.locked ≡ true
   pub alive : b.version.deleted ≡ false
+  pub written : b.unwritten ≡ Nothing
   pub prefix : List ℕ
   pub stands : IsOnIn w.chart number prefix
   pub free : NotAmong number w.closing

@@ -2,6 +2,7 @@
 
 ghost use Rattle.std.specs.Prelude.{◌≡◌, ◌<◌, slice_get, Some, None, IsSome, IsSomeAnd, IfSome, IfNone};
 ghost use Rattle.mt_slice.specs.Place.{slice_number};
+ghost use Rattle.mt_border.specs.Order.{IsBorder};
 ghost use Rattle.mt_border.specs.declared.entry.Content.TheVariants.{Link};
 ghost use Rattle.mt_arena.specs.Node.{node_at, border_at};
 ghost use Rattle.mt_tree.specs.InteriorSteps.{child_at};
@@ -77,6 +78,7 @@ pub fn link_place(tree: &Tree, number: NodeNo, rest: &[u8], head: NodeNo) -> Opt
     ensures value { IsSomeAnd (node_at tree.now.nodes number.0) (λ node. result ≡ link_place rest.now node head) }
     ensures stands { IfSome result (λ place. IsSomeAnd (border_at tree.now.nodes number.0) (λ b.
         slice_get b.live place ≡ Some (record { slice = slice_number rest.now; content = Link head }))) }
+    ensures sound { IfSome result (λ place. IsSomeAnd (border_at tree.now.nodes number.0) IsBorder) }
 {
     free_border(tree.node(number))?;
     match tree.find(number, rest) {

@@ -16,4 +16,4 @@ returns-in_default c = lost_link c.args.epoch c.args.tree.now c.args.self.now c.
 pub returns : goal.returns
 returns c = locks_above c.args.epoch c.args.tree.now c.args.self.now c.args.root c.args.head c.args.above c.requires.at c.in-Some.place
     (subst (λ (rest : List _). IsSomeAnd (node_at c.args.tree.now.nodes c.args.above.0) (λ node. Some c.in-Some.place ≡ link_place rest node c.args.head)) c.rest_of-rest.ensures.value c.in-Some.ensures.value)
-    (slice_number c.rest_of-rest.result.now) c.lock_border.new.self c.in-Some.ensures.stands c.lock_border.ensures.value c.lock_border.ensures.keeps
+    (slice_number c.rest_of-rest.result.now) c.lock_border.new.self c.in-Some.ensures.sound c.in-Some.ensures.stands c.lock_border.ensures.value c.lock_border.ensures.keeps
