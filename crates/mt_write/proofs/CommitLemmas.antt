@@ -149,7 +149,7 @@ module _ (C : ℕ) (a : ArenaView) (log : LogView) (key : List ℕ) (edit : Edit
               (λ known. (ages_shown b f.sound (f.shows commit).room place commit (ap first_held f.unused ∙ f.fresh), inr refl))
               (subst (λ (x : ArenaView). IsIndexAt x now w.twins w.chart) is adds.0)
               (subst (λ (x : ArenaView). RowsAreOfKeys x) is (keys_changed a after log left key None (Some (put_row C number p.sets None)) number done world.keys)) (mine_free a way.node.0 w (owned way.node.0 split) has.own) (λ other i. inl i) (λ other ne i. i) (λ locked. has.own) (locked_may a way.node.0 b show at.named now w world at.locked at.free (inr at.alive))
-              (subst (λ (x : ArenaView). HasLocked (prefix_of key way) x w way.node.0 split) (sym is) (has_changed (prefix_of key way) a way.node.0 b show at.named w split at.locked at.alive refl has)));
+              (subst (λ (x : ArenaView). HasLocked (prefix_of key way) x w way.node.0 split) (sym is) (has_changed (prefix_of key way) a way.node.0 b show at.named w split at.locked at.alive at.written refl has)));
           does = (
             subst (λ (e : Edit). Commits C a after log left (edit_request key e) number) (sym p.is_put) (commits_put C a after log left key p.sets p.only None number p.agrees done),
             refl,
@@ -192,7 +192,7 @@ module _ (C : ℕ) (a : ArenaView) (log : LogView) (key : List ℕ) (edit : Edit
               (λ known. (ages_value b f.sound place (slice_get_within b.live place e.entry e.stands) row, inr refl))
               (subst (λ (x : ArenaView). IsIndexAt x now w.twins w.chart) is replaces.0)
               (subst (λ (x : ArenaView). RowsAreOfKeys x) is (keys_changed a after log left key (row_at place b.live) (Some (put_row C number p.sets (row_at place b.live))) number done world.keys)) (own_free a way.node.0 w) (λ other i. inl i) (λ other ne i. i) (λ locked. first) (locked_may a way.node.0 b write at.named now w world at.locked at.free (inr at.alive))
-              (subst (λ (x : ArenaView). HasLocked (prefix_of key way) x w way.node.0 None) (sym is) (has_changed (prefix_of key way) a way.node.0 b write at.named w None at.locked at.alive refl (alone a key way b w at))));
+              (subst (λ (x : ArenaView). HasLocked (prefix_of key way) x w way.node.0 None) (sym is) (has_changed (prefix_of key way) a way.node.0 b write at.named w None at.locked at.alive at.written refl (alone a key way b w at))));
           does = (
             subst (λ (e : Edit). Commits C a after log left (edit_request key e) number) (sym p.is_put) (commits_put C a after log left key p.sets p.only (row_at place b.live) number p.agrees done),
             refl,
@@ -224,7 +224,7 @@ module _ (C : ℕ) (a : ArenaView) (log : LogView) (key : List ℕ) (edit : Edit
           goes = subst (λ (x : ArenaView). Goes now a x w (way.node.0 ∷ []) (way.node.0 ∷ []) (λ next. StageIsTrue C key edit way (Stored number None) begun after next)) (sym is)
               (goes_border a way.node.0 b hide at.named now w (way.node.0 ∷ []) (way.node.0 ∷ []) _ world (λ known. (ages_hidden b place, inr refl)) (subst (λ (x : ArenaView). IsIndexAt x now w.twins w.chart) is removes.0)
               (subst (λ (x : ArenaView). RowsAreOfKeys x) is (keys_changed a after log left key (Some before) None number done world.keys)) (own_free a way.node.0 w) (λ other i. inl i) (λ other ne i. i) (λ locked. first) (locked_may a way.node.0 b hide at.named now w world at.locked at.free (inr at.alive))
-              (subst (λ (x : ArenaView). HasLocked (prefix_of key way) x w way.node.0 None) (sym is) (has_changed (prefix_of key way) a way.node.0 b hide at.named w None at.locked at.alive refl (alone a key way b w at))));
+              (subst (λ (x : ArenaView). HasLocked (prefix_of key way) x w way.node.0 None) (sym is) (has_changed (prefix_of key way) a way.node.0 b hide at.named w None at.locked at.alive at.written refl (alone a key way b w at))));
           does = (
             subst (λ (x : Edit). Commits C a after log left (edit_request key x) number) (sym f.is_remove) (
               before,
@@ -303,7 +303,7 @@ module _ (C : ℕ) (a : ArenaView) (log : LogView) (key : List ℕ) (edit : Edit
     steps = λ now begun moves past w world before truth.
         let (b, at) = truth in
         let same : lacking.b ≡ b = (let both : ◌≡◌ {A = Option BorderView} (Some lacking.b) (Some b) = sym lacking.named ∙ at.named in cc) in
-        let (goes, quiet) = ends (λ next. Unit {0}) now w after is keeps world (record { b = b; named = at.named; known = known_on (arena_seen a) w.chart way.node.0 (prefix_of key way) (border_seen b) at.stands.stands; locked = at.locked; alive = at.alive; free = at.free }) tt in
+        let (goes, quiet) = ends (λ next. Unit {0}) now w after is keeps world (record { b = b; named = at.named; known = known_on (arena_seen a) w.chart way.node.0 (prefix_of key way) (border_seen b) at.stands.stands; locked = at.locked; alive = at.alive; written = at.written; free = at.free }) tt in
         let stood = stood_is b w now lacking.bytes (subst IsBorder same lacking.sound) world at in
         let none : row_found b.live (found_for rest b.live) ≡ None = subst (λ (x : BorderView). row_found x.live (found_for rest x.live) ≡ None) same lacking.none in
         record {

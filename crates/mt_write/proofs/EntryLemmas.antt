@@ -8,7 +8,7 @@ use Rattle.mt_slice.specs.declared.slice_class.Class.{Class}
 use Rattle.mt_slice.specs.declared.slice_class.Class.TheVariants.{Len, Long as LongClass}
 use Rattle.mt_slice.proofs.PlaceOn.{place_of-place_at}
 use Rattle.mt_word.specs.Version.{VersionView}
-use Rattle.mt_border.specs.Border.{filled_version}
+use Rattle.mt_border.specs.Border.{inserting_version}
 use Rattle.mt_border.specs.Entry.{entry_of_row, content_class, content_of, content_row}
 use Rattle.mt_border.specs.Table.{first_changed, filled}
 use Rattle.mt_border.specs.declared.entry.Entry.{Entry}
@@ -50,7 +50,11 @@ pub next_slot : (slots : List Slot) (entry : Entry) → 0 < length slots → Nex
 next_slot [] entry some = absurd (omega arith)
 next_slot (s ∷ slots) entry some = record { slot = filled entry s; more = slots; is = refl; holds = refl; fresh = refl }
 
--- the border is locked then as it was
-pub filled_locked : (held : Bool) (v : VersionView) → (filled_version held v).locked ≡ v.locked
-filled_locked true v = refl
-filled_locked false v = refl
+-- a border that is marked for a new key is locked as it was, and is marked if the slot held a key
+pub marked_locked : (held : Bool) (v : VersionView) → (inserting_version held v).locked ≡ v.locked
+marked_locked true v = refl
+marked_locked false v = refl
+
+pub is_marked : (held : Bool) (v : VersionView) → held ≡ true → (inserting_version held v).inserting ≡ true
+is_marked true v held = refl
+is_marked false v held = cc

@@ -1,7 +1,6 @@
 -- What a run does at the border of its key, step by step: the lock, what is made ready, the commit, and the unlock.
-use Rattle.std.proofs.Common.{ℕ, ◌≡◌, ◌+◌, [], ◌∷◌, Some, None, true, false, refl, sym, subst}
+use Rattle.std.proofs.Common.{ℕ, ◌≡◌, ◌≤◌, ◌+◌, inl, inr, arith, Option, ◌∷◌, Some, None, true, false, refl, sym, subst}
 use Rattle.std.specs.Prelude.{IsSomeAnd}
-use Rattle.std.proofs.lemmas.List.Elements.{All-nil, All-push}
 use Rattle.mt_types.specs.declared.event.Answer.{Answer}
 use Rattle.mt_types.specs.declared.event.Answer.TheVariants.{Absent as AbsentAnswer}
 use Rattle.mt_commit.specs.Log.{LogView, IsLog, newest}
@@ -16,14 +15,30 @@ use Rattle.mt_steps.specs.Way.{Visits}
 use Rattle.mt_write.specs.declared.running.WriteRun.{WriteRun}
 use Rattle.mt_write.specs.declared.writing.Write.{Write}
 use Rattle.mt_write.specs.declared.writing.Stage.{Stage}
-use Rattle.mt_write.specs.declared.writing.Stage.TheVariants.{Seeks, Locked, Stored}
-use Rattle.mt_write.specs.Writing.{MayStage, written_answer}
+use Rattle.mt_write.specs.declared.writing.Stage.TheVariants.{Seeks, Locked, Reserved, KeyWritten, Filled, Stored}
+use Rattle.mt_write.specs.Writing.{MayStage, StageIsTrue, written_answer}
 use Rattle.mt_write.specs.Follows.{FindsNone, TreeStep, WriteStep}
-use Rattle.mt_write.specs.Runs.{Advances, CommitsAt, HasRun, IsTrimmed, MayRun, RunStep, WriteState, commits_in, state}
-use Rattle.mt_write.proofs.PostLemmas.{is_locked_border}
-use Rattle.mt_write.proofs.RunLemmas.{ends_run, left_trimmed, may_again, may_step, one_step, run_step, runs_further, runs_none, stays_trimmed, twice_trimmed}
-use Rattle.mt_write.proofs.StageSteps.{at_step, may_be, seek_ends}
-use Rattle.mt_write.proofs.LaterSteps.{ends_stored}
+use Rattle.mt_write.specs.Runs.{Advances, CommitsAt, CommitsStage, InsertsAt, HasRun, IsTrimmed, MayRun, RunStep, WriteState, commits_in, state}
+use Rattle.mt_write.proofs.PostLemmas.{is_locked_border, is_written_border}
+use Rattle.mt_border.specs.Order.{IsBorder}
+use Rattle.mt_border.specs.declared.unwritten.Unwritten.TheVariants.{Nothing}
+use Rattle.mt_commit.specs.Log.{trimmed}
+use Rattle.mt_steps.specs.World.{IsLockedBorder}
+use Rattle.mt_tree.specs.Seen.{arena_seen}
+use Rattle.mt_write.specs.declared.finishing.Committed.{Committed as AtCommit}
+use Rattle.mt_write.proofs.RunLemmas.{Running, ends_run, left_trimmed, may_again, may_step, one_step, run_step, runs_further, runs_none, stays_trimmed, twice_trimmed}
+use Rattle.mt_write.proofs.InsertLemmas.{key_there}
+use Rattle.mt_write.proofs.StageSteps.{at_step, may_be, may_show, seek_ends, shows_row}
+use Rattle.mt_border.specs.Border.{with_filled, with_shown}
+use Rattle.mt_border.specs.Entry.{entry_with}
+use Rattle.mt_border.specs.declared.unwritten.SlotKey.{SlotKey}
+use Rattle.mt_commit.specs.Log.{with_delta}
+use Rattle.mt_tree.specs.BorderSteps.{MayShowAt, ShowsNext}
+use Rattle.mt_types.specs.declared.row.Row.{Row}
+use Rattle.mt_write.specs.Ready.{WritesSlot, put_delta}
+use Rattle.mt_write.specs.declared.writing.Halves.{Halves}
+use Rattle.mt_write.specs.declared.writing.Insertion.{Insertion}
+use Rattle.mt_write.proofs.LaterSteps.{ends_stored, writes_key, writes_value}
 
 -- a step from what is still the same
 pub as_it_was : (C : ℕ) (a same after : ArenaView) (log kept left : LogView) (write : Write) (stage : Stage) (p : Progress) (then : Write) → (same ≡ a) × (kept ≡ log) → WriteStep C same after kept left write stage p then → WriteStep C a after log left write stage p then
@@ -39,6 +54,13 @@ module _ (C : ℕ) (a : ArenaView) (log : LogView) (write : Write) (may : MayRun
 
   pub may_seek_on : Advances p → MayRun C (state a log then)
   may_seek_on on = may_again C (state a log write) may a log p then seeking on log (stays_trimmed log is_trimmed)
+
+-- at the border that it has locked it has come to this stage, in so many steps
+pub record ReadiedAt (C : ℕ) (a : ArenaView) (log : LogView) (write : Write) (between : ArenaView) (reserved : LogView) (stage : Stage) (steps : ℕ) : Type 0 where
+  pub running : Running C (state a log (record write { stage = Locked })) steps 0 (state between reserved (record write { stage = stage }))
+  pub may : MayRun C (state between reserved (record write { stage = stage }))
+  pub trimmed : IsTrimmed reserved
+  pub arena : IsArena between
 
 -- ---- at the border that it has locked
 module _ (C : ℕ) (a : ArenaView) (log : LogView) (write : Write) (may : MayRun C (state a log (record write { stage = Locked }))) where
@@ -82,57 +104,161 @@ module _ (C : ℕ) (a : ArenaView) (log : LogView) (write : Write) (may : MayRun
         pub stops_ready : HasRun C (state a log at_lock) (record { steps = 1; commits = 0; last = Moved }) (state mid left is_ready)
         stops_ready = one_step C (state a log at_lock) (state mid left is_ready) 0 Moved readies_step refl
 
-    -- ---- it has committed
-    module _ (after : ArenaView) (left : LogView) (number : ℕ) (at : CommitsAt C a after log left write number) (arena_after : IsArena after) where
-      abbrev is_stored : Write
-      is_stored = record write { stage = Stored number None }
-
-      may_store : MayRun C (state at.between at.reserved (record write { stage = at.stage }))
-      may_store = may_go_on at.between at.reserved at.stage at.ready
-
-      stores : WriteStep C at.between after at.reserved at.appended (record write { stage = at.stage }) at.stage (Committed number) is_stored
-      stores = at_step C at.between after at.reserved at.appended (record write { stage = at.stage }) write.stage at.stage (Committed number) is_stored refl at.commits
-
-      may_end : MayRun C (state after left is_stored)
-      may_end = may_again C (state at.between at.reserved (record write { stage = at.stage })) may_store after at.appended (Committed number) is_stored stores tt left at.trims
-
-      pub trimmed_stored : IsTrimmed left
-      trimmed_stored = subst IsTrimmed (sym at.trims) (twice_trimmed at.appended (subst (λ (l : LogView). newest l ≡ newest at.appended) at.trims at.newest_stays))
-
-      pub stored_locked : IsSomeAnd (border_at after.nodes write.way.node.0) (λ x. x.version.locked ≡ true)
-      stored_locked =
-          let holds = may_end.true.0 in
-          is_locked_border after may_end.w write.way.node.0 (holds.locked write.way.node.0 holds.own)
-
-      -- ---- and ends
-      module _ (idle : write.stage ≡ Seeks) (done : ArenaView) (answer : Answer) (answer_is : answer ≡ written_answer write.edit number) (end : done ≡ with_border_changed after write.way.node.0 with_unlocked) (kept : KeepsTree after done) (arena_done : IsArena done) (sound_left : IsLog left) where
-        stops : WriteStep C after done left left is_stored (Stored number None) (Answered answer) write
-        stops = at_step C after done left left is_stored write.stage (Stored number None) (Answered answer) write refl (ends_stored after done write kept number None answer refl idle answer_is end C left)
-
-        pub ends_run_stored : HasRun C (state a log at_lock) (record { steps = 3; commits = 1; last = Answered answer }) (state done left write)
-        ends_run_stored = record {
-          steps = Moved ∷ Committed number ∷ [];
-          advance = All-push Advances (Moved ∷ []) (Committed number) (All-push Advances [] Moved (All-nil Advances) tt) tt;
-          before = state after left is_stored;
-          are = (
-            state at.between at.reserved (record write { stage = at.stage }),
-            readies_step at.between at.reserved at.stage at.ready at.arena at.sound_reserved,
-            (
-              state after left is_stored,
-              run_step C (state at.between at.reserved (record write { stage = at.stage })) may_store after at.appended (Committed number) is_stored stores left at.trims at.sound at.arena arena_after,
-              refl,
-            ),
-          );
-          last = run_step C (state after left is_stored) may_end done left (Answered answer) write stops left (stays_trimmed left trimmed_stored) sound_left arena_after arena_done;
-          many = refl;
-          commits = refl;
+      module _ (arena_mid : IsArena mid) (sound_left : IsLog left) where
+        pub readied_one : ReadiedAt C a log write mid left stage 1
+        readied_one = record {
+          running = runs_further C (state a log at_lock) (state a log at_lock) (state mid left is_ready) 0 0 (record { steps = 1; commits = 0; last = Moved }) (runs_none C (state a log at_lock)) (stops_ready arena_mid sound_left) tt;
+          may = may_go_on;
+          trimmed = trimmed_ready;
+          arena = arena_mid;
         }
 
+    -- ---- it has committed
+    module _ (after : ArenaView) (left : LogView) (committed : AtCommit) (at : CommitsAt C a after log left write committed) (arena_after : IsArena after) where
+      abbrev is_stored : Write
+      is_stored = record write { stage = Stored committed.commit None }
+
+      stored_border : IsLockedBorder after at.may.w write.way.node.0
+      stored_border = let holds = at.may.true.0 in holds.locked write.way.node.0 holds.own
+
+      pub stored_locked : IsSomeAnd (border_at after.nodes write.way.node.0) (λ x. x.version.locked ≡ true)
+      stored_locked = is_locked_border after at.may.w write.way.node.0 stored_border
+
+      pub stored_written : IsSomeAnd (border_at after.nodes write.way.node.0) (λ x. x.unwritten ≡ Nothing)
+      stored_written = is_written_border after at.may.w write.way.node.0 stored_border
+
+      -- ---- and ends
+      module _ (idle : write.stage ≡ Seeks) (done : ArenaView) (answer : Answer) (answer_is : answer ≡ written_answer write.edit committed.commit) (end : done ≡ with_border_changed after write.way.node.0 with_unlocked) (kept : KeepsTree after done) (arena_done : IsArena done) (sound_left : IsLog left) where
+        stops : WriteStep C after done left left is_stored (Stored committed.commit None) (Answered answer) write
+        stops = at_step C after done left left is_stored write.stage (Stored committed.commit None) (Answered answer) write refl (ends_stored after done write kept committed.commit None answer refl idle answer_is end C left)
+
+        pub ends_run_stored : HasRun C (state a log at_lock) (record { steps = committed.steps + 1; commits = 1; last = Answered answer }) (state done left write)
+        ends_run_stored =
+            let count : 0 + committed.steps ≡ committed.steps = omega arith in
+            ends_run C (state a log at_lock) (state after left is_stored) (state done left write) committed.steps 1 (record { steps = 1; commits = 0; last = Answered answer })
+            (subst (λ (n : ℕ). Running C (state a log at_lock) n 1 (state after left is_stored)) count (runs_further C (state a log at_lock) (state a log at_lock) (state after left is_stored) 0 0 (record { steps = committed.steps; commits = 1; last = Committed committed.commit }) (runs_none C (state a log at_lock)) at.run tt))
+            (one_step C (state after left is_stored) (state done left write) 0 (Answered answer) (run_step C (state after left is_stored) at.may done left (Answered answer) write stops left (stays_trimmed left at.trimmed) sound_left arena_after arena_done) refl)
+
+-- ---- what it has made ready at the border that it has locked, step by step
+module _ (C : ℕ) (a : ArenaView) (log : LogView) (write : Write) (between : ArenaView) (reserved : LogView) (stage : Stage) (steps : ℕ) (ready : ReadiedAt C a log write between reserved stage steps) where
+  abbrev here : Write
+  here = record write { stage = stage }
+
+  pub may_next : MayStage C between reserved write stage
+  may_next = may_be C between reserved here write.stage stage refl (may_step C (state between reserved here) ready.may)
+
+  -- one more step
+  module _ (next : ArenaView) (then : Stage) (step : WriteStep C between next reserved reserved write stage Moved (record write { stage = then })) (sound : IsLog reserved) (arena_next : IsArena next) where
+    moves : WriteStep C between next reserved reserved here stage Moved (record write { stage = then })
+    moves = at_step C between next reserved reserved here write.stage stage Moved (record write { stage = then }) refl step
+
+    pub readied_more : ReadiedAt C a log write next reserved then (steps + 1)
+    readied_more = record {
+      running = runs_further C (state a log (record write { stage = Locked })) (state between reserved here) (state next reserved (record write { stage = then })) steps 0 (record { steps = 1; commits = 0; last = Moved }) ready.running
+          (one_step C (state between reserved here) (state next reserved (record write { stage = then })) 0 Moved (run_step C (state between reserved here) ready.may next reserved Moved (record write { stage = then }) moves reserved (stays_trimmed reserved ready.trimmed) sound ready.arena arena_next) refl) tt;
+      may = may_again C (state between reserved here) ready.may next reserved Moved (record write { stage = then }) moves tt reserved (stays_trimmed reserved ready.trimmed);
+      trimmed = ready.trimmed;
+      arena = arena_next;
+    }
+
+  -- the commit
+  pub commits_ready : (after : ArenaView) (appended left : LogView) (number : ℕ) → WriteStep C between after reserved appended write stage (Committed number) (record write { stage = Stored number None }) → IsLog appended → IsArena after → left ≡ trimmed appended → newest left ≡ newest appended → steps + 1 ≤ 4
+      → CommitsAt C a after log left write (record { commit = number; steps = steps + 1 })
+  commits_ready after appended left number step sound arena_after trims same few =
+      let stores = at_step C between after reserved appended here write.stage stage (Committed number) (record write { stage = Stored number None }) refl step in
+      record {
+        run = ends_run C (state a log (record write { stage = Locked })) (state between reserved here) (state after left (record write { stage = Stored number None })) steps 0 (record { steps = 1; commits = 1; last = Committed number }) ready.running
+            (one_step C (state between reserved here) (state after left (record write { stage = Stored number None })) 1 (Committed number) (run_step C (state between reserved here) ready.may after appended (Committed number) (record write { stage = Stored number None }) stores left trims sound ready.arena arena_after) refl);
+        may = may_again C (state between reserved here) ready.may after appended (Committed number) (record write { stage = Stored number None }) stores tt left trims;
+        trimmed = subst IsTrimmed (sym trims) (twice_trimmed appended (subst (λ (l : LogView). newest l ≡ newest appended) trims same));
+        few = few;
+      }
+
+-- what it commits from a stage that is ready, it commits since the lock
+pub commits_since : (C : ℕ) (a : ArenaView) (log : LogView) (write : Write) (between : ArenaView) (reserved : LogView) (stage : Stage) → ReadiedAt C a log write between reserved stage 1 → (after : ArenaView) (appended left : LogView) (committed : AtCommit) → CommitsStage between after reserved appended write stage committed
+    → IsLog reserved → IsLog appended → IsArena after → left ≡ trimmed appended → newest left ≡ newest appended → CommitsAt C a after log left write committed
+commits_since C a log write between reserved stage ready after appended left committed c sound_reserved sound arena_after trims same = elim c.writes [
+  | inl (tree_is, stage_is, two) ↦ subst (λ (n : ℕ). CommitsAt C a after log left write (record { commit = committed.commit; steps = n })) (sym two)
+      (commits_ready C a log write between reserved stage 1 ready after appended left committed.commit
+      (subst (λ (x : ArenaView). WriteStep C x after reserved appended write stage (Committed committed.commit) (record write { stage = Stored committed.commit None })) tree_is (subst (λ (st : Stage). WriteStep C c.between after reserved appended write st (Committed committed.commit) (record write { stage = Stored committed.commit None })) stage_is (c.commits C)))
+      sound arena_after trims same (omega arith))
+  | inr (i, four) ↦ (let keyed = readied_more C a log write between reserved stage 1 ready i.keyed i.between (i.key C reserved) sound_reserved i.arena in
+      let valued = readied_more C a log write i.keyed reserved i.between 2 keyed c.between c.then (i.value C reserved) sound_reserved c.arena in
+      subst (λ (n : ℕ). CommitsAt C a after log left write (record { commit = committed.commit; steps = n })) (sym four)
+      (commits_ready C a log write c.between reserved c.then 3 valued after appended left committed.commit (c.commits C) sound arena_after trims same (omega arith)))
+]
+
+-- what a run may do, it may do at the stage
+pub at_may : (C : ℕ) (a : ArenaView) (log : LogView) (write : Write) (stage : Stage) → MayRun C (state a log (record write { stage = stage })) → MayStage C a log write stage
+at_may C a log write stage may = may_be C a log (record write { stage = stage }) write.stage stage refl (may_step C (state a log (record write { stage = stage })) may)
+
+pub stage_may : (a : ArenaView) (log : LogView) (write : Write) (stage : Stage) → (C : ℕ) × MayRun C (state a log (record write { stage = stage })) → (C : ℕ) × MayStage C a log write stage
+stage_may a log write stage (C, may) = (C, at_may C a log write stage may)
+
+-- after a step that leaves the log as it is
+one_more : (C : ℕ) (a after : ArenaView) (log : LogView) (write : Write) (stage then : Stage) → MayRun C (state a log (record write { stage = stage })) → WriteStep C a after log log write stage Moved (record write { stage = then }) → MayRun C (state after log (record write { stage = then }))
+one_more C a after log write stage then may step =
+    let stepped = step.law.steps may.now may.begun may.moves may.past may.w may.world may.since may.true in
+    record {
+      now = may.now;
+      begun = may.begun;
+      moves = may.moves + 1;
+      past = arena_seen a ∷ may.past;
+      w = stepped.goes.next;
+      world = stepped.goes.world;
+      since = may.since;
+      true = stepped.goes.true;
+      room = let all = stepped.reserved in let room = may.room in omega (arith, all, room);
+    }
+
+-- once a new key and its row are written, the row may be shown
+pub may_after : (C : ℕ) (a between : ArenaView) (log : LogView) (write : Write) (stage then : Stage) → MayRun C (state a log (record write { stage = stage })) → InsertsAt a between write stage then → MayRun C (state between log (record write { stage = then }))
+may_after C a between log write stage then may i =
+    one_more C i.keyed between log write i.between then (one_more C a i.keyed log write stage i.between may (i.key C log)) (i.value C log)
+
+-- what is ready is committed at once
+pub commits_once : (a after : ArenaView) (log left : LogView) (write : Write) (stage : Stage) (number : ℕ) → IsArena a → ((C : ℕ) → WriteStep C a after log left write stage (Committed number) (record write { stage = Stored number None }))
+    → CommitsStage a after log left write stage (record { commit = number; steps = 2 })
+commits_once a after log left write stage number arena commits = record { between = a; then = stage; writes = inl (refl, refl, refl); arena = arena; commits = commits }
+
+-- ---- a new key and its row are written and shown
+module _ (a between : ArenaView) (log : LogView) (write : Write) (stage : Stage) (new : Insertion) (slot_key : SlotKey) (row : Row) (is : stage ≡ Reserved new slot_key row) (writes : WritesSlot a between write.way.node.0 slot_key row) (may : (C : ℕ) × MayRun C (state a log (record write { stage = stage }))) where
+  inserts : InsertsAt a between write stage (Filled new.place new.key new.logged new.split)
+  inserts =
+      let truth = subst (λ (st : Stage). StageIsTrue may.0 write.key write.edit write.way st may.1.begun a may.1.w) is may.1.true.0 in
+      let (b, at, p, f, k, has) = truth in
+      record {
+        between = KeyWritten new row;
+        keyed = writes.keyed;
+        key = subst (λ (st : Stage). TreeStep a writes.keyed write st Moved (record write { stage = KeyWritten new row })) (sym is) (writes_key a writes.keyed write new slot_key row writes.key writes.key_keeps writes.key_sound);
+        value = writes_value writes.keyed between write new row
+            (λ own there. subst (λ (k : SlotKey). between ≡ with_border_changed writes.keyed write.way.node.0 (λ x. with_filled x (entry_with k row))) (key_there a writes.keyed write.way.node.0 b slot_key at.named writes.key own there) writes.value)
+            writes.value_keeps writes.value_sound;
+        arena = writes.arena;
+      }
+
+  may_filled : MayStage may.0 between log write (Filled new.place new.key new.logged new.split)
+  may_filled = at_may may.0 between log write (Filled new.place new.key new.logged new.split) (may_after may.0 a between log write stage (Filled new.place new.key new.logged new.split) may.1 inserts)
+
+  pub may_show_written : IsSomeAnd (border_at between.nodes write.way.node.0) (λ b. (version : ℕ) → MayShowAt b new.place version)
+  may_show_written = may_show between write log new.place new.key new.logged new.split (may.0, may_filled)
+
+  pub commits_new : new.split ≡ None → IsArena between → (after : ArenaView) (left : LogView) (number : ℕ) → number ≡ newest log + 1 → after ≡ with_border_changed between write.way.node.0 (λ b. with_shown b new.place (newest log + 1)) → ShowsNext between after write.way.node.0 (newest log + 1)
+      → left ≡ with_delta log (put_delta (newest log + 1) new.key None new.logged) → CommitsStage a after log left write stage (record { commit = number; steps = 4 })
+  commits_new none arena after left number next shown shows appended = record {
+    between = between;
+    then = Filled new.place new.key new.logged new.split;
+    writes = inr (inserts, refl);
+    arena = arena;
+    commits = λ C. subst (λ (s : Option Halves). WriteStep C between after log left write (Filled new.place new.key new.logged new.split) (Committed number) (record write { stage = Stored number s })) none
+        (shows_row C between after log left write new.place new.key new.logged new.split number next shown shows appended may_filled.room);
+  }
+
 -- ---- the lock
-module _ (C : ℕ) (a locked : ArenaView) (log : LogView) (write : Write) (may : MayRun C (state a log write)) (is_trimmed : IsTrimmed log) (idle : write.stage ≡ Seeks) (visits : Visits a write.key write.way Here) (b : BorderView) (named : border_at a.nodes write.way.node.0 ≡ Some b) (unlocked : b.version.locked ≡ false)
+module _ (C : ℕ) (a locked : ArenaView) (log : LogView) (write : Write) (may : MayRun C (state a log write)) (is_trimmed : IsTrimmed log) (idle : write.stage ≡ Seeks) (visits : Visits a write.key write.way Here) (b : BorderView) (named : border_at a.nodes write.way.node.0 ≡ Some b) (sound_b : IsBorder b) (unlocked : b.version.locked ≡ false)
     (value : locked ≡ with_border_changed a write.way.node.0 with_locked) (keeps : KeepsTree a locked) where
   locks : WriteStep C a locked log log write write.stage Moved (record write { stage = Locked })
-  locks = subst (λ (st : Stage). WriteStep C a locked log log write st Moved (record write { stage = Locked })) (sym idle) (seek_ends a write Here visits idle locked b named unlocked refl value keeps C log)
+  locks = subst (λ (st : Stage). WriteStep C a locked log log write st Moved (record write { stage = Locked })) (sym idle) (seek_ends a write Here visits idle locked b named sound_b unlocked refl value keeps C log)
 
   pub may_act : MayRun C (state locked log (record write { stage = Locked }))
   may_act = may_again C (state a log write) may locked log Moved (record write { stage = Locked }) locks tt log (stays_trimmed log is_trimmed)

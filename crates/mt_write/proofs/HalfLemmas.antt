@@ -8,6 +8,7 @@ use Rattle.mt_slice.specs.Place.{slice_number}
 use Rattle.mt_slice.specs.Classes.{class_of}
 use Rattle.mt_commit.specs.Log.{LogView}
 use Rattle.mt_types.specs.declared.numbers.NodeNo.{NodeNo}
+use Rattle.mt_border.specs.declared.unwritten.Unwritten.TheVariants.{Nothing}
 use Rattle.mt_border.specs.Border.{BorderView, with_entries, with_split}
 use Rattle.mt_border.specs.Entry.{entry_rank, rank_at}
 use Rattle.mt_border.specs.declared.entry.Entry.{Entry}
@@ -44,9 +45,10 @@ use Rattle.mt_write.proofs.WriteLemmas.{quiet_step}
 pub half_may_fill : (key : List ℕ) (edit : Edit) (way : Way) (b : BorderView) (cut : ℕ) (c : IsCutAt key way b cut) → MayFill (empty_half b c.middle) (drop cut b.live) b.right
 half_may_fill key edit way b cut c = record { empty = refl; fresh = refl; sound = cut_upper b cut c.middle true c.sound c.full c.place.lawful c.is_middle }
 
-pub half_is_upper : (key : List ℕ) (edit : Edit) (way : Way) (b : BorderView) (cut : ℕ) (c : IsCutAt key way b cut) → b.version.locked ≡ true → IsUpperHalf b (upper_half b cut c.middle) cut
-half_is_upper key edit way b cut c locked = record {
+pub half_is_upper : (key : List ℕ) (edit : Edit) (way : Way) (b : BorderView) (cut : ℕ) (c : IsCutAt key way b cut) → b.version.locked ≡ true → b.unwritten ≡ Nothing → IsUpperHalf b (upper_half b cut c.middle) cut
+half_is_upper key edit way b cut c locked written = record {
   locked = locked;
+  written = written;
   within = let full = c.full in let last = c.place.lawful.last in omega (arith, full, last);
   upper = refl;
   right = refl;
@@ -119,10 +121,10 @@ module _ (C : ℕ) (a : ArenaView) (log : LogView) (key : List ℕ) (edit : Edit
     half_named = ap (option_and_then border_of) (others_named a n b (link low) at.named half.0 (λ e. apart (sym e))) ∙ s.named
 
     left_locked : IsLockedBorder new next n
-    left_locked = record { b = link low b; named = now_named a n b (link low) at.named; known = subst (λ (x : Option Spot). IsSome x) (sym left_spot) refl; locked = at.locked; alive = at.alive; free = at.free }
+    left_locked = record { b = link low b; named = now_named a n b (link low) at.named; known = subst (λ (x : Option Spot). IsSome x) (sym left_spot) refl; locked = at.locked; alive = at.alive; written = at.written; free = at.free }
 
     half_locked : IsLockedBorder new next half.0
-    half_locked = record { b = upper_half b cut c.middle; named = half_named; known = subst (λ (x : Option Spot). IsSome x) (sym (spot_changes w.chart half.0 place).now) refl; locked = refl; alive = refl; free = s.free }
+    half_locked = record { b = upper_half b cut c.middle; named = half_named; known = subst (λ (x : Option Spot). IsSome x) (sym (spot_changes w.chart half.0 place).now) refl; locked = refl; alive = refl; written = refl; free = s.free }
 
     both_locked : (other : ℕ) → Among other (half.0 ∷ n ∷ []) → IsLockedBorder new next other
     both_locked other first = half_locked
@@ -156,6 +158,7 @@ module _ (C : ℕ) (a : ArenaView) (log : LogView) (key : List ℕ) (edit : Edit
         alive = at.alive;
         last = absent_last _ left_absent;
         locked = at.locked;
+        written = at.written;
         free = at.free;
       },
       record {
@@ -179,6 +182,7 @@ module _ (C : ℕ) (a : ArenaView) (log : LogView) (key : List ℕ) (edit : Edit
         alive = refl;
         last = absent_last _ half_absent;
         locked = refl;
+        written = refl;
         free = s.free;
       },
       record {
@@ -247,4 +251,4 @@ module _ (C begun : ℕ) (a : ArenaView) (w : World) (key : List ℕ) (edit : Ed
   filled_link truth =
       let (b, at, c, s, p) = truth in
       subst (λ (o : Option BorderView). IsSomeAnd o (λ x. IsSomeAnd (border_at a.nodes half.0) (λ upper. IsUpperHalf x upper cut))) (sym at.named)
-      (subst (λ (o : Option BorderView). IsSomeAnd o (λ upper. IsUpperHalf b upper cut)) (sym s.named) (half_is_upper key edit way b cut c at.locked))
+      (subst (λ (o : Option BorderView). IsSomeAnd o (λ upper. IsUpperHalf b upper cut)) (sym s.named) (half_is_upper key edit way b cut c at.locked at.written))

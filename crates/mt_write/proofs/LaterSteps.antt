@@ -30,7 +30,7 @@ use Rattle.mt_write.specs.declared.writing.Layer.{Layer}
 use Rattle.mt_write.specs.declared.writing.Ending.{Ending}
 use Rattle.mt_write.specs.declared.writing.Ending.TheVariants.{Stored as EndStored, Failed as EndFailed}
 use Rattle.mt_write.specs.declared.writing.Stage.{Stage}
-use Rattle.mt_write.specs.declared.writing.Stage.TheVariants.{Seeks, Spared, HalfFilled, Halved, Posts, LayerSpared, LayerFilled, LayerReady, Layered, Filled, Made, Stored, Failed}
+use Rattle.mt_write.specs.declared.writing.Stage.TheVariants.{Seeks, Spared, HalfFilled, Halved, Posts, LayerSpared, LayerFilled, LayerReady, Layered, Reserved, KeyWritten, Filled, Made, Stored, Failed}
 use Rattle.mt_write.specs.Writing.{write_held, written_answer, ending_stage, WriteIsTrue, IsHalfOf, way_below}
 use Rattle.mt_write.specs.Ready.{SomeSets, Prepares}
 use Rattle.mt_write.specs.Causes.{IsNotFailed, EndsWith, FailsBy, fill_fault}
@@ -40,12 +40,20 @@ use Rattle.mt_write.proofs.CommitLemmas.{answers, refuses}
 use Rattle.mt_write.proofs.HalfLemmas.{fills_half, links, half_prefix}
 use Rattle.mt_write.proofs.NewLayerLemmas.{fills_root, unlocks_head, links_layer, goes_below}
 use Rattle.mt_write.proofs.PostLemmas.{unlocks_left, posts_on, posts_again, posts_end}
+use Rattle.mt_write.proofs.InsertLemmas.{keys, values}
 use Rattle.mt_write.proofs.StageSteps.{closes, leads}
+use Rattle.mt_border.specs.Border.{with_filled, with_key}
+use Rattle.mt_border.specs.Entry.{entry_with}
+use Rattle.mt_border.specs.Order.{IsBorder}
+use Rattle.mt_border.specs.declared.unwritten.SlotKey.{SlotKey}
+use Rattle.mt_border.specs.declared.unwritten.Unwritten.TheVariants.{Value}
+use Rattle.mt_types.specs.declared.row.Row.{Row}
+use Rattle.mt_write.specs.declared.writing.Insertion.{Insertion}
 
 -- ---- a split
 -- what is made ready in a half
 half_ready : (C : ℕ) (a after : ArenaView) (log left : LogView) (key : List ℕ) (sets : List (ℕ × List ℕ)) (way : Way) (split : Halves) (stage : Stage) → Prepares C key sets way a log (Some split) stage after left → IsReadyIn split stage
-half_ready C a after log left key sets way split (Filled place stored logged halves) f = f.0
+half_ready C a after log left key sets way split (Reserved new slot_key row) f = f.0
 half_ready C a after log left key sets way split (Failed refusal halves) f = f.0
 half_ready C a after log left key sets way split (Spared half cut entries) f = absurd (one_or_none f.0)
 half_ready C a after log left key sets way split (LayerSpared layer entries) f = absurd (one_or_none f.0)
@@ -95,6 +103,16 @@ module _ (a after : ArenaView) (write : Write) where
   pub links_below : (layer : Layer) → after ≡ with_border_changed a write.way.node.0 (λ b. with_link_at b layer.place layer.head) → MakesLayerAt a after write.way.node.0 layer.place layer.head.0 → TreeStep a after write (LayerReady layer) Moved (record write { stage = Layered layer.head })
   links_below layer linked makes = λ C log.
       leads C a after log log write (LayerReady layer) Moved (Layered layer.head) write.way refl (links_layer C a log write.key write.edit write.way layer after linked makes) tt (tt, tt) (refl, refl) refl tt
+
+  -- ---- a new key
+  pub writes_key : (new : Insertion) (slot_key : SlotKey) (row : Row) → after ≡ with_border_changed a write.way.node.0 (λ b. with_key b slot_key) → KeepsTree a after → IsSomeAnd (border_at after.nodes write.way.node.0) IsBorder → TreeStep a after write (Reserved new slot_key row) Moved (record write { stage = KeyWritten new row })
+  writes_key new slot_key row is keeps sound = λ C log.
+      leads C a after log log write (Reserved new slot_key row) Moved (KeyWritten new row) write.way refl (keys C a log write.key write.edit write.way new row after keeps sound slot_key is) tt (tt, tt) (refl, refl) refl tt
+
+  pub writes_value : (new : Insertion) (row : Row) → ((slot_key : SlotKey) → IsSomeAnd (border_at a.nodes write.way.node.0) (λ b. b.unwritten ≡ Value slot_key) → after ≡ with_border_changed a write.way.node.0 (λ b. with_filled b (entry_with slot_key row))) → KeepsTree a after → IsSomeAnd (border_at after.nodes write.way.node.0) IsBorder
+      → TreeStep a after write (KeyWritten new row) Moved (record write { stage = Filled new.place new.key new.logged new.split })
+  writes_value new row is keeps sound = λ C log.
+      leads C a after log log write (KeyWritten new row) Moved (Filled new.place new.key new.logged new.split) write.way refl (values C a log write.key write.edit write.way new row after keeps sound is) tt (tt, tt) (refl, refl) refl tt
 
   module _ (keeps : KeepsTree a after) where
     pub enters_layer : (head : NodeNo) → after ≡ with_border_changed a write.way.node.0 with_unlocked → TreeStep a after write (Layered head) Moved (record write { way = way_below write.way head; head = head; stage = Seeks })

@@ -6,6 +6,7 @@ pub mod WriteLemmas
 pub mod ReadyLemmas
 pub mod CommitLemmas
 pub mod HalfLemmas
+mod InsertLemmas
 pub mod PostLemmas
 pub mod LinkLemmas
 pub mod NewLayerLemmas

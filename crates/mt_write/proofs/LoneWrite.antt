@@ -34,7 +34,7 @@ use Rattle.mt_write.specs.declared.writing.Halves.{Halves}
 use Rattle.mt_write.specs.declared.writing.Ending.{Ending}
 use Rattle.mt_write.specs.declared.writing.Ending.TheVariants.{Stored as EndStored, Failed as EndFailed}
 use Rattle.mt_write.specs.declared.writing.Stage.{Stage}
-use Rattle.mt_write.specs.declared.writing.Stage.TheVariants.{Seeks, Locked, Spared, HalfFilled, Halved, Posts, LayerSpared, LayerFilled, LayerReady, Layered, Filled, Made, Taken, Stored, Failed}
+use Rattle.mt_write.specs.declared.writing.Stage.TheVariants.{Seeks, Locked, Spared, HalfFilled, Halved, Posts, LayerSpared, LayerFilled, LayerReady, Layered, Reserved, KeyWritten, Filled, Made, Taken, Stored, Failed}
 use Rattle.mt_write.specs.Writing.{edit_request, StageIsTrue, stage_held, write_held, way_below, ending_stage}
 use Rattle.mt_write.specs.Causes.{StageWaits, WriteWaits, IsPosting}
 use Rattle.mt_write.specs.Runs.{Advances}
@@ -62,7 +62,9 @@ stage_left posting_left most a way (Layered head) = times most (layer_left way.l
 stage_left posting_left most a way (Spared half cut entries) = most + 20
 stage_left posting_left most a way (HalfFilled half cut) = most + 19
 stage_left posting_left most a way (Halved split) = most + 18
-stage_left posting_left most a way (Filled place stored logged split) = most + 16
+stage_left posting_left most a way (Reserved new slot_key row) = most + 17
+stage_left posting_left most a way (KeyWritten new row) = most + 16
+stage_left posting_left most a way (Filled place stored logged split) = most + 15
 stage_left posting_left most a way (Made place stored columns logged) = most + 16
 stage_left posting_left most a way (Taken place stored before) = most + 16
 stage_left posting_left most a way (Stored commit (Some split)) = most + 4
@@ -229,7 +231,7 @@ module _ (post_stands : ArenaView → World → Posting → Type 0) (posting_lef
   readied : (a after : ArenaView) (next : World) (key : List ℕ) (way : Way) (new : Stage) → IsMadeReady a way new → Nearer a after next key way Locked way new
   readied a after next key way (Spared half cut entries) ready = (tt, above _ _ _ (omega arith))
   readied a after next key way (LayerSpared layer entries) ready = (tt, more _ _ _ (omega arith))
-  readied a after next key way (Filled place stored logged split) ready = (tt, above _ _ _ (omega arith))
+  readied a after next key way (Reserved new slot_key row) ready = (tt, above _ _ _ (omega arith))
   readied a after next key way (Made place stored columns logged) ready = (tt, above _ _ _ (omega arith))
   readied a after next key way (Taken place stored before) ready = (tt, above _ _ _ (omega arith))
   readied a after next key way (Failed refusal None) ready = (tt, above _ _ _ (omega arith))
@@ -237,7 +239,7 @@ module _ (post_stands : ArenaView → World → Posting → Type 0) (posting_lef
   readied a after next key way _ ready = absurd ready
 
   half_readied : (a after : ArenaView) (next : World) (key : List ℕ) (way : Way) (split : Halves) (new : Stage) → IsReadyIn split new → Nearer a after next key way (Halved split) way new
-  half_readied a after next key way split (Filled place stored logged halves) ready = (tt, omega arith)
+  half_readied a after next key way split (Reserved insertion slot_key row) ready = (tt, omega arith)
   half_readied a after next key way split (Failed refusal None) ready = (tt, omega arith)
   half_readied a after next key way split (Failed refusal (Some halves)) ready = (tt, omega arith)
   half_readied a after next key way split _ ready = absurd ready
@@ -320,6 +322,8 @@ module _ (post_stands : ArenaView → World → Posting → Type 0) (posting_lef
     moved (Failed refusal None) new truth stands spots goes (is, split) = absurd (split refl)
     moved (Failed refusal (Some split)) new truth stands spots goes (is, some) = ended a after next key way goal (Failed refusal (Some split)) new (EndFailed refusal) is refl
         (λ posting other at. subst (λ (s : Stage). PostingGoesOn post_stands posting_left most a after next (Failed refusal (Some split)) s) at goes)
+    moved (Reserved insertion slot_key row) new truth stands spots goes follows = stays_at a after next key way goal (Reserved insertion slot_key row) new (KeyWritten insertion row) follows (tt, omega arith)
+    moved (KeyWritten insertion row) new truth stands spots goes follows = stays_at a after next key way goal (KeyWritten insertion row) new (Filled insertion.place insertion.key insertion.logged insertion.split) follows (tt, omega arith)
     moved (Filled place stored logged split) new truth stands spots goes follows = absurd follows
     moved (Made place stored columns logged) new truth stands spots goes follows = absurd follows
     moved (Taken place stored before) new truth stands spots goes follows = absurd follows

@@ -42,9 +42,10 @@ use Rattle.mt_write.specs.declared.writing.Write.{Write}
 use Rattle.mt_write.specs.declared.writing.Edit.{Edit}
 use Rattle.mt_write.specs.declared.writing.Halves.{Halves}
 use Rattle.mt_write.specs.declared.writing.Ending.{Ending}
+use Rattle.mt_chart.proofs.Basics.{same_number}
 use Rattle.mt_write.specs.declared.writing.Stage.{Stage}
-use Rattle.mt_write.specs.declared.writing.Stage.TheVariants.{Seeks, Locked, Spared, HalfFilled, Halved, Posts, LayerSpared, LayerFilled, LayerReady, Layered, Filled, Made, Taken, Stored, Failed}
-use Rattle.mt_write.specs.Writing.{StageIsTrue, HasLocked, stage_held, write_held, owned}
+use Rattle.mt_write.specs.declared.writing.Stage.TheVariants.{Seeks, Locked, Spared, HalfFilled, Halved, Posts, LayerSpared, LayerFilled, LayerReady, Layered, Reserved, KeyWritten, Filled, Made, Taken, Stored, Failed}
+use Rattle.mt_write.specs.Writing.{StageIsTrue, HasLocked, HasOthers, stage_held, write_held, owned}
 use Rattle.mt_write.specs.Causes.{WriteWaits}
 use Rattle.mt_write.specs.Follows.{Follows, WriteFollows, HeadGoes, HeadFollows, IsNewPosting, PostingSteps, PostsGo, PostsFollow}
 use Rattle.mt_write.proofs.LinkLemmas.{linked_head_stands}
@@ -115,6 +116,12 @@ module _ (a : ArenaView) (w : World) where
   halves_no_head : (prefix : List ℕ) (place : ℕ) (split : Option Halves) → HasLocked prefix a w place split → (number : ℕ) → Among number (owned place split) → NoHead a w number
   halves_no_head prefix place split has number i = let l = has.locked number i in of_border number l.b l.named
 
+  others_no_head : (prefix : List ℕ) (way : Way) (split : Option Halves) (b : BorderView) → border_at a.nodes way.node.0 ≡ Some b → HasOthers prefix a w way.node.0 split → (number : ℕ) → Among number (owned way.node.0 split) → NoHead a w number
+  others_no_head prefix way split b named has number i = elim (same_number number way.node.0) [
+    | inl e ↦ subst (λ (m : ℕ). NoHead a w m) (sym e) (of_border way.node.0 b named)
+    | inr differ ↦ (let l = has.locked number i differ in of_border number l.b l.named)
+  ]
+
   stage_no_head : (C begun : ℕ) (key : List ℕ) (edit : Edit) (way : Way) (stage : Stage) → StageIsTrue C key edit way stage begun a w → (number : ℕ) → Among number (stage_held way.node.0 stage).owns → NoHead a w number
   stage_no_head C begun key edit way Seeks truth = no_others
   stage_no_head C begun key edit way Locked (b, at) = one_more way.node.0 [] (of_border way.node.0 b at.named) no_others
@@ -125,6 +132,8 @@ module _ (a : ArenaView) (w : World) where
   stage_no_head C begun key edit way (LayerFilled layer) (b, at, link) = one_more layer.head.0 _ (inr link.has.head_unknown) (one_more layer.root.0 _ (of_border layer.root.0 _ link.has.is_root) (one_more way.node.0 [] (of_border way.node.0 b at.named) no_others))
   stage_no_head C begun key edit way (LayerReady layer) (b, at, link) = one_more layer.head.0 _ (inr link.has.head_unknown) (one_more layer.root.0 _ (of_border layer.root.0 _ link.has.is_root) (one_more way.node.0 [] (of_border way.node.0 b at.named) no_others))
   stage_no_head C begun key edit way (Layered below) (has, onward, head) = one_more way.node.0 [] (of_border way.node.0 has.border.b has.border.named) no_others
+  stage_no_head C begun key edit way (Reserved new slot_key row) (b, at, p, made, awaits, has) = halves_no_head (prefix_of key way) way.node.0 new.split has
+  stage_no_head C begun key edit way (KeyWritten new row) (b, at, p, made, awaits, has) = others_no_head (prefix_of key way) way new.split b at.named has
   stage_no_head C begun key edit way (Filled place stored logged split) (b, at, p, filled, has) = halves_no_head (prefix_of key way) way.node.0 split has
   stage_no_head C begun key edit way (Made place stored columns logged) (b, at, p, made) = one_more way.node.0 [] (of_border way.node.0 b at.named) no_others
   stage_no_head C begun key edit way (Taken place stored before) (b, at, found) = one_more way.node.0 [] (of_border way.node.0 b at.named) no_others

@@ -74,6 +74,7 @@ lone_sound number entry whole = record {
   flags = λ set. cc;
   unspent = record { inserts = λ set. cc; splits = λ set. cc };
   counters = record { vinsert_fits = omega arith; vsplit_fits = omega arith };
+  pending = tt;
 }
 
 -- ---- before the steps
@@ -176,7 +177,7 @@ module _ (C : ℕ) (a : ArenaView) (log : LogView) (key : List ℕ) (edit : Edit
         let (goes, content) = goes_layered now a w n layer.head.0 layer.root b root (prefix_of key way) layer.place entry link at.named f.at.other.stands f.has.head f.has.is_root refl refl no_head no_root f.has.head_unknown f.has.root_unknown aged world may
         (subst (λ (x : ArenaView). MakesLayerAt a x n layer.place layer.head.0) is makes) (record { low = b.low; posted = at.stands.stands.posted; place = at.stands.stands.place }) (λ next. StageIsTrue C key edit way (Layered layer.head) begun new next) (
           record {
-            border = record { b = link b; named = now_named a n b link at.named; known = subst (λ (x : Option Spot). IsSome x) (sym (kept ∙ at.stands.stands.place)) refl; locked = at.locked; alive = at.alive; free = at.free };
+            border = record { b = link b; named = now_named a n b link at.named; known = subst (λ (x : Option Spot). IsSome x) (sym (kept ∙ at.stands.stands.place)) refl; locked = at.locked; alive = at.alive; written = at.written; free = at.free };
             stands = record { low = b.low; posted = at.stands.stands.posted; place = kept ∙ at.stands.stands.place };
             slice = slice_number (rest_of key way);
             linked = linked_among b.live layer.place entry layer.head f.at.other.stands;
@@ -235,7 +236,3 @@ module _ (C begun : ℕ) (a : ArenaView) (w : World) (key : List ℕ) (edit : Ed
         same_row = row_of_content (class_of (length suffix)) (drop 8 suffix) row;
         same_place = entry_place_is suffix row;
       })
-
--- the border that the call has locked
-pub layered_locked : (C begun : ℕ) (a : ArenaView) (w : World) (key : List ℕ) (edit : Edit) (way : Way) (head : NodeNo) → StageIsTrue C key edit way (Layered head) begun a w → IsSomeAnd (border_at a.nodes way.node.0) (λ b. b.version.locked ≡ true)
-layered_locked C begun a w key edit way head truth = subst (λ (o : Option BorderView). IsSomeAnd o (λ b. b.version.locked ≡ true)) (sym truth.0.border.named) truth.0.border.locked

@@ -6,6 +6,7 @@ use Rattle.mt_slice.specs.Place.{slices_above}
 use Rattle.mt_types.specs.declared.numbers.NodeNo.{NodeNo}
 use Rattle.mt_types.specs.declared.event.Request.{Request}
 use Rattle.mt_commit.specs.Log.{LogView}
+use Rattle.mt_border.specs.declared.unwritten.Unwritten.TheVariants.{Nothing}
 use Rattle.mt_border.specs.Border.{BorderView, with_unlocked}
 use Rattle.mt_arena.specs.Node.{border_at, border_of}
 use Rattle.mt_arena.specs.Arena.{ArenaView, with_border_changed}
@@ -155,6 +156,7 @@ module _ (C : ℕ) (a : ArenaView) (log : LogView) (key : List ℕ) (edit : Edit
           low_is = has.halves.low_is k.b k.named ∙ sym low;
           locked = k.locked;
           alive = k.alive;
+          written = k.written;
           place = ap (λ (h : NodeNo). w.chart h.0) half_is ∙ (has.halves.place ∙ ap (λ (l : ℕ). Some (spot (at_level 0) (prefix_of key way) l (on false))) (sym low));
           free = subst (λ (h : NodeNo). NotAmong h.0 w.closing) (sym half_is) k.free;
         }) (subst (λ (h : NodeNo). IsHeadOf w begun h.0 (prefix_of key way)) (sym head_is) known)
@@ -189,6 +191,9 @@ halves_locked C begun a w key edit way split (EndFailed refusal) truth = (truth.
 
 pub is_locked_border : (a : ArenaView) (w : World) (number : ℕ) → IsLockedBorder a w number → IsSomeAnd (border_at a.nodes number) (λ b. b.version.locked ≡ true)
 is_locked_border a w number k = subst (λ (o : Option BorderView). IsSomeAnd o (λ b. b.version.locked ≡ true)) (sym k.named) k.locked
+
+pub is_written_border : (a : ArenaView) (w : World) (number : ℕ) → IsLockedBorder a w number → IsSomeAnd (border_at a.nodes number) (λ b. b.unwritten ≡ Nothing)
+is_written_border a w number k = subst (λ (o : Option BorderView). IsSomeAnd o (λ b. b.unwritten ≡ Nothing)) (sym k.named) k.written
 
 -- ---- a step of the posting
 module _ (C : ℕ) (a after : ArenaView) (log : LogView) (key : List ℕ) (edit : Edit) (way : Way) (head : NodeNo) (posting then : Posting) (ending : Ending) (same : then ≡ record posting { waiting = then.waiting; stage = then.stage }) where

@@ -1,22 +1,14 @@
 -- What a put makes ready at its border, or at the half to which its key belongs.
-use Rattle.std.proofs.Common.{ℕ, ◌≡◌, ◌≢◌, ◌≤◌, ◌<◌, inl, inr, List, [], ◌∷◌, length, drop, Option, Some, None, false, refl, sym, ap, subst, ◌∙◌, arith}
-use Rattle.std.specs.Option.{option_map}
+use Rattle.std.proofs.Common.{ℕ, ◌≡◌, ◌≢◌, ◌<◌, inl, inr, List, [], ◌∷◌, length, Option, Some, None, true, false, refl, sym, ap, subst, ◌∙◌, arith}
 use Rattle.mt_types.specs.declared.row.Row.{Row}
 use Rattle.mt_types.specs.declared.event.Request.TheVariants.{Put as PutRequest}
 use Rattle.mt_types.specs.declared.refusal.Refusal.{Refusal}
-use Rattle.mt_slice.specs.Place.{slice_number}
-use Rattle.mt_slice.specs.Classes.{class_of}
-use Rattle.mt_slice.specs.declared.slice_class.Class.{Class}
 use Rattle.mt_commit.specs.Log.{LogView}
 use Rattle.mt_word.specs.declared.permutation_word.TheConstants.{SLOTS}
-use Rattle.mt_border.specs.Border.{BorderView, with_filled, first_held, row_at}
-use Rattle.mt_border.specs.Entry.{entry_class}
-use Rattle.mt_border.specs.Find.{found_in}
+use Rattle.mt_border.specs.Border.{BorderView, with_inserting, first_held, row_at}
 use Rattle.mt_border.specs.Order.{IsBorder}
 use Rattle.mt_border.specs.declared.found.Found.{Found}
-use Rattle.mt_border.specs.declared.found.Found.TheVariants.{Absent}
-use Rattle.mt_border.proofs.BorderLemmas.{filled_deleted}
-use Rattle.mt_border.proofs.ShowLemmas.{IsBeforeRight, IsBetween, between_from_absent, filled_shown, filled_row, row_of_row}
+use Rattle.mt_border.proofs.BorderLemmas.{inserting_deleted}
 use Rattle.std.specs.Option.{option_and_then}
 use Rattle.mt_arena.specs.Node.{border_at, border_of}
 use Rattle.mt_arena.specs.declared.node.Node.TheVariants.{Border}
@@ -24,101 +16,65 @@ use Rattle.mt_steps.proofs.SplitLemmas.{goes_occupied, vacant_root}
 use Rattle.mt_steps.proofs.LayerLemmas.{goes_given_back}
 use Rattle.mt_write.proofs.SpareLemmas.{vacant_border, has_locked_back, spares_go}
 use Rattle.mt_write.proofs.WorkLemmas.{locked_at_stays}
-use Rattle.mt_arena.specs.Arena.{ArenaView}
-use Rattle.mt_chart.specs.Tree.{Arena, Below}
-use Rattle.mt_chart.specs.Steps.{SameContent}
-use Rattle.mt_tree.specs.Seen.{arena_seen, right_seen}
-use Rattle.mt_tree.specs.Keeping.{IsIndexAt}
+use Rattle.mt_arena.specs.Arena.{ArenaView, with_border_changed}
+use Rattle.mt_chart.specs.Tree.{Arena}
 use Rattle.mt_tree.specs.Descent.{found_for, row_found}
-use Rattle.mt_tree.proofs.DescentLemmas.{slice_of_place}
 use Rattle.mt_steps.specs.declared.way.Way.{Way}
 use Rattle.mt_write.specs.declared.writing.Edit.{Edit}
 use Rattle.mt_write.specs.declared.writing.Edit.TheVariants.{Put as PutEdit, Remove as RemoveEdit}
 use Rattle.mt_write.specs.declared.writing.Stage.{Stage}
-use Rattle.mt_write.specs.declared.writing.Stage.TheVariants.{Locked, Spared, Halved, LayerSpared, Filled, Made, Failed}
+use Rattle.mt_write.specs.declared.writing.Stage.TheVariants.{Locked, Spared, Halved, LayerSpared, Reserved, Made, Failed}
 use Rattle.mt_write.specs.declared.writing.Halves.{Halves}
+use Rattle.mt_write.specs.declared.writing.Insertion.{Insertion}
+use Rattle.mt_border.specs.declared.unwritten.SlotKey.{SlotKey}
 use Rattle.mt_steps.specs.declared.progress.Progress.TheVariants.{Moved}
-use Rattle.mt_steps.specs.World.{World, IsWorld, RowsAreOfKeys}
+use Rattle.mt_steps.specs.World.{World, IsWorld, Goes}
 use Rattle.mt_steps.specs.Way.{rest_of, prefix_of}
 use Rattle.mt_steps.specs.Step.{Stepped, StepLaw, bounds, MayFail}
 use Rattle.mt_write.specs.Causes.{version_fault}
-use Rattle.mt_write.specs.Writing.{put_request, edit_request, stage_held, IsLockedAt, HasLocked, empty_half, owned, IsFilled, IsMade, StageIsTrue, new_entry}
-use Rattle.mt_write.specs.Ready.{SomeSets, IsBack, Fills, Prepares}
+use Rattle.mt_write.specs.Writing.{put_request, edit_request, stage_held, IsLockedAt, HasLocked, empty_half, owned, IsNewRow, IsMade, StageIsTrue}
+use Rattle.mt_write.specs.Ready.{SomeSets, IsBack, Reserves, Prepares}
 use Rattle.mt_steps.proofs.FrameLemmas.{goes_same, quiet_same, retired_same}
-use Rattle.mt_write.proofs.EntryLemmas.{filled_locked, class_of_content, left_of_right, next_slot}
-use Rattle.mt_tree.proofs.AgeLemmas.{ages_filled}
-use Rattle.mt_steps.proofs.BorderLemmas.{keys_same, goes_border, locked_may, mine_free}
-use Rattle.mt_write.proofs.WriteLemmas.{alone, as_put, fails_at, has_changed, locked_at-changed, no_get, none_agrees, otherwise_tells, own_agrees, put_otherwise, quiet_step}
+use Rattle.mt_write.proofs.EntryLemmas.{is_marked, marked_locked}
+use Rattle.mt_write.proofs.InsertLemmas.{goes_marked}
+use Rattle.mt_tree.proofs.AgeLemmas.{ages_inserting}
+use Rattle.mt_steps.proofs.BorderLemmas.{now_named}
+use Rattle.mt_steps.proofs.FoundLemmas.{some_at}
+use Rattle.mt_write.proofs.WriteLemmas.{alone, as_put, fails_at, has_changed, owned_at-changed, written_at, no_get, none_agrees, otherwise_tells, own_agrees, put_otherwise, quiet_step}
 
 -- ---- ready
 module _ (C : ℕ) (a : ArenaView) (log : LogView) (key : List ℕ) (sets : List (ℕ × List ℕ)) (only : Option ℕ) (way : Way) where
   abbrev ReadyLaw : ArenaView → LogView → Stage → Type 0
   ReadyLaw after left stage = StepLaw C a after log left (put_request key sets only) (stage_held way.node.0 Locked) Moved (stage_held way.node.0 stage) (λ begun moves past x w. StageIsTrue C key (PutEdit sets only) way Locked begun x w) (λ begun moves past x w. StageIsTrue C key (PutEdit sets only) way stage begun x w)
 
-  filled_is : (b : BorderView) (place : ℕ) (stored : List ℕ) (logged : List (List ℕ)) (after : ArenaView) (left : LogView) → (f : Fills C key sets way a log place stored logged after left) → f.b ≡ b
-      → b.version.deleted ≡ false → b.low ≤ slice_number (rest_of key way) → IsBeforeRight (slice_number (rest_of key way)) b.right
-      → IsFilled C key sets way (with_filled b (new_entry key way logged)) place stored logged
-  filled_is b place stored logged after left f same alive low right =
-      let entry = new_entry key way logged in
-      let rest = rest_of key way in
-      let row : Row = record { version = 0; columns = logged } in
-      let sound : IsBorder b = subst IsBorder same f.sound in
-      let whole : IsBorder (with_filled b entry) = subst (λ (x : BorderView). IsBorder (with_filled x entry)) same f.whole in
-      let room : length b.live < SLOTS = subst (λ (x : BorderView). length x.live < SLOTS) same f.room in
-      let absent : found_for rest b.live ≡ Absent place = subst (λ (x : BorderView). found_for rest x.live ≡ Absent place) same f.absent in
-      let class : entry_class entry ≡ class_of (length rest) = class_of_content (class_of (length rest)) (drop 8 rest) row in
-      let between : IsBetween _ place b.live = between_from_absent (slice_number rest) (class_of (length rest)) (drop 8 rest) b.live place sound.ordered absent in
-      let slots = sound.slots in
-      let next = next_slot b.unused entry (omega (arith, slots, room)) in
-      record {
-        bytes = f.bytes;
-        fits = f.fits;
-        sound = whole;
-        stored_is = f.stored_is;
-        absent = absent;
-        columns = f.columns;
-        shows = λ version. record {
-          room = room;
-          within = between.within;
-          row = filled_row b entry room (row_of_row (class_of (length rest)) (drop 8 rest) row) sound;
-          sound = filled_shown b entry (drop 8 rest) place version room alive (subst (λ (c : Class). found_in (slice_number rest) c (drop 8 rest) b.live ≡ Absent place) (sym class) absent) low right sound whole;
-        };
-        slot = next.slot;
-        slots = next.more;
-        unused = next.is;
-        entry = next.holds;
-        fresh = next.fresh;
-      }
-
-  ready_fill : version_fault only None ≡ None → (split : Option Halves) (place : ℕ) (stored : List ℕ) (logged : List (List ℕ)) (after : ArenaView) (left : LogView) → Fills C key sets way a log place stored logged after left → (now begun moves : ℕ) (past : List Arena) (w : World) → IsWorld a now w → (b : BorderView) → IsLockedAt a key way b w → HasLocked (prefix_of key way) a w way.node.0 split
-      → Stepped C now moves past a after log left w (put_request key sets only) (record { owns = owned way.node.0 split; reserves = 0; committed = None; blocked = None }) Moved (stage_held way.node.0 (Filled place stored logged split)) (λ m next. StageIsTrue C key (PutEdit sets only) way (Filled place stored logged split) begun after next)
-  ready_fill agrees split place stored logged after left f now begun moves past w world b at has =
+  -- a new row is made, and the border is marked for it
+  ready_reserve : version_fault only None ≡ None → (split : Option Halves) (new : Insertion) (slot_key : SlotKey) (row : Row) (after : ArenaView) (left : LogView) → new.split ≡ split → Reserves C key sets way a log new slot_key row after left → (now begun moves : ℕ) (past : List Arena) (w : World) → IsWorld a now w → (b : BorderView) → IsLockedAt a key way b w → HasLocked (prefix_of key way) a w way.node.0 split
+      → Stepped C now moves past a after log left w (put_request key sets only) (record { owns = owned way.node.0 split; reserves = 0; committed = None; blocked = None }) Moved (stage_held way.node.0 (Reserved new slot_key row)) (λ m next. StageIsTrue C key (PutEdit sets only) way (Reserved new slot_key row) begun after next)
+  ready_reserve agrees split new slot_key row after left split_is f now begun moves past w world b at has =
       let same : f.b ≡ b = (let both : ◌≡◌ {A = Option BorderView} (Some f.b) (Some b) = sym f.named ∙ at.named in cc) in
-      let entry = new_entry key way logged in
-      let fill : BorderView → BorderView = λ (x : BorderView). with_filled x entry in
-      let slices = slice_of_place (rest_of key way) in
-      let low : b.low ≤ slice_number (rest_of key way) = subst (λ (s : ℕ). b.low ≤ s) slices at.stands.from_low in
-      let right = left_of_right (slice_number (rest_of key way)) b.right (subst (λ (s : ℕ). Below s (option_map right_seen b.right)) slices at.stands.to_right) in
-      let kept = f.keeps.keeps now w.twins w.chart world.index in
-      subst (λ (x : ArenaView). Stepped C now moves past a x log left w (put_request key sets only) (record { owns = owned way.node.0 split; reserves = 0; committed = None; blocked = None }) Moved (stage_held way.node.0 (Filled place stored logged split)) (λ m next. StageIsTrue C key (PutEdit sets only) way (Filled place stored logged split) begun x next)) (sym f.filled)
-      (record {
-        goes = goes_border a way.node.0 b fill at.named now w (owned way.node.0 split) (owned way.node.0 split) _ world
-            (λ known. (ages_filled b (subst IsBorder same f.sound) (subst (λ (x : BorderView). length x.live < SLOTS) same f.room) entry, inr refl))
-            (subst (λ (x : ArenaView). IsIndexAt x now w.twins w.chart) f.filled kept.index)
-            (subst (λ (x : ArenaView). RowsAreOfKeys x) f.filled (keys_same a after kept.content world.keys))
-            (mine_free a way.node.0 w (owned way.node.0 split) has.own) (λ other i. inl i) (λ other ne i. i) (λ locked. has.own) (locked_may a way.node.0 b fill at.named now w world at.locked at.free (inr (filled_deleted (first_held b.unused) b.version ∙ at.alive))) (
-              fill b,
-              locked_at-changed a key way b w fill at.named at.layer at.stands at.last refl refl refl (filled_deleted (first_held b.unused) b.version ∙ at.alive) (filled_locked (first_held b.unused) b.version ∙ at.locked) at.free,
-              record { sets = sets; only = only; is_put = refl; agrees = agrees },
-              filled_is b place stored logged after left f same at.alive low right,
-              has_changed (prefix_of key way) a way.node.0 b fill at.named w split (filled_locked (first_held b.unused) b.version ∙ at.locked) (filled_deleted (first_held b.unused) b.version ∙ at.alive) refl has,
-            );
-        does = (record { content = subst (λ (x : ArenaView). SameContent (arena_seen a) (arena_seen x)) f.filled kept.content; trimmed = ap (λ (l : LogView). l.held_after) f.reserved; deltas = ap (λ (l : LogView). l.deltas) f.reserved }, refl);
+      let held = first_held b.unused in
+      let alive : (with_inserting b).version.deleted ≡ false = inserting_deleted held b.version ∙ at.alive in
+      let locked : (with_inserting b).version.locked ≡ true = marked_locked held b.version ∙ at.locked in
+      let here = now_named a way.node.0 b with_inserting at.named in
+      let sound : IsBorder (with_inserting b) = some_at IsBorder (border_at after.nodes way.node.0) (with_inserting b) f.sound (subst (λ (x : ArenaView). border_at x.nodes way.node.0 ≡ Some (with_inserting b)) (sym f.marked) here) in
+      let made : IsNewRow C key sets way b new row = subst (λ (x : BorderView). IsNewRow C key sets way x new row) same f.made in
+      let owned_is : owned way.node.0 split ≡ owned way.node.0 new.split = ap (owned way.node.0) (sym split_is) in
+      let (goes, content) = goes_marked a way.node.0 with_inserting after f.marked f.keeps split (λ next. StageIsTrue C key (PutEdit sets only) way (Reserved new slot_key row) begun after next) now w b at.named world (ages_inserting b) refl at.locked alive at.free has.own (subst (λ (x : ArenaView). StageIsTrue C key (PutEdit sets only) way (Reserved new slot_key row) begun x w) (sym f.marked) (
+        with_inserting b,
+        written_at _ key way (with_inserting b) w at.written (owned_at-changed a key way b w with_inserting at.named at.layer at.stands at.last refl refl refl alive locked at.free),
+        record { sets = sets; only = only; is_put = refl; agrees = agrees },
+        record { bytes = made.bytes; fits = made.fits; sound = sound; stored_is = made.stored_is; absent = made.absent; columns = made.columns; row_is = made.row_is },
+        record { room = subst (λ (x : BorderView). length x.live < SLOTS) same f.room; marked = λ was. is_marked held b.version was; key_is = f.key_is; whole = f.whole },
+        subst (λ (s : Option Halves). HasLocked (prefix_of key way) (with_border_changed a way.node.0 with_inserting) w way.node.0 s) (sym split_is) (has_changed (prefix_of key way) a way.node.0 b with_inserting at.named w split locked alive at.written refl has),
+      )) in
+      record {
+        goes = subst (λ (owns : List ℕ). Goes now a after w (owned way.node.0 split) owns (λ next. StageIsTrue C key (PutEdit sets only) way (Reserved new slot_key row) begun after next)) owned_is goes;
+        does = (record { content = content; trimmed = ap (λ (l : LogView). l.held_after) f.reserved; deltas = ap (λ (l : LogView). l.deltas) f.reserved }, refl);
         reserved = let more = ap (λ (l : LogView). l.reserved) f.reserved in omega (arith, more);
         bounds = ap bounds f.reserved;
         blocked = inl refl;
         may = λ get. absurd (no_get key (PutEdit sets only) get);
-      })
+      }
 
   abbrev FailStep : ArenaView → LogView → Option Halves → Refusal → ℕ → ℕ → ℕ → List Arena → World → Type 0
   FailStep after left split refusal now begun moves past w =
@@ -141,9 +97,9 @@ module _ (C : ℕ) (a : ArenaView) (log : LogView) (key : List ℕ) (sets : List
   Agrees = (b : BorderView) → border_at a.nodes way.node.0 ≡ Some b → version_fault only (row_found b.live (found_for (rest_of key way) b.live)) ≡ None
 
   ready : Agrees → (stage : Stage) (after : ArenaView) (left : LogView) → Prepares C key sets way a log None stage after left → ReadyLaw after left stage
-  ready agrees (Filled place stored logged split) after left (none, f) = subst (λ (s : Option Halves). ReadyLaw after left (Filled place stored logged s)) (sym none) (record {
-    steps = λ now begun moves past w world before truth. let (b, at) = truth in ready_fill (subst (λ (o : Found). version_fault only (row_found f.b.live o) ≡ None) f.absent (agrees f.b f.named)) None place stored logged after left f now begun moves past w world b at (alone a key way b w at);
-  })
+  ready agrees (Reserved new slot_key row) after left (none, f) = record {
+    steps = λ now begun moves past w world before truth. let (b, at) = truth in ready_reserve (subst (λ (o : Found). version_fault only (row_found f.b.live o) ≡ None) f.made.absent (agrees f.b f.named)) None new slot_key row after left none f now begun moves past w world b at (alone a key way b w at);
+  }
   ready agrees (Spared half cut entries) after left (none, f, same_log) = record {
     steps = λ now begun moves past w world before truth.
         let (b, was) = truth in
@@ -204,9 +160,9 @@ one_or_none e = cc
 
 half_ready : (C : ℕ) (a : ArenaView) (log : LogView) (key : List ℕ) (sets : List (ℕ × List ℕ)) (only : Option ℕ) (way : Way) (split : Halves) (stage : Stage) (after : ArenaView) (left : LogView) → Prepares C key sets way a log (Some split) stage after left
     → StepLaw C a after log left (put_request key sets only) (stage_held way.node.0 (Halved split)) Moved (stage_held way.node.0 stage) (λ begun moves past x w. StageIsTrue C key (PutEdit sets only) way (Halved split) begun x w) (λ begun moves past x w. StageIsTrue C key (PutEdit sets only) way stage begun x w)
-half_ready C a log key sets only way split (Filled place stored logged halves) after left (is, f) = subst (λ (s : Option Halves). StepLaw C a after log left (put_request key sets only) (stage_held way.node.0 (Halved split)) Moved (stage_held way.node.0 (Filled place stored logged s)) (λ begun moves past x w. StageIsTrue C key (PutEdit sets only) way (Halved split) begun x w) (λ begun moves past x w. StageIsTrue C key (PutEdit sets only) way (Filled place stored logged s) begun x w)) (sym is) (record {
-  steps = λ now begun moves past w world before truth. let (b, at, h, has, p) = truth in ready_fill C a log key sets only way (own_agrees sets only p) (Some split) place stored logged after left f now begun moves past w world b at has;
-})
+half_ready C a log key sets only way split (Reserved new slot_key row) after left (is, f) = record {
+  steps = λ now begun moves past w world before truth. let (b, at, h, has, p) = truth in ready_reserve C a log key sets only way (own_agrees sets only p) (Some split) new slot_key row after left is f now begun moves past w world b at has;
+}
 half_ready C a log key sets only way split (Failed refusal halves) after left (is, may, same, same_log) = subst (λ (s : Option Halves). StepLaw C a after log left (put_request key sets only) (stage_held way.node.0 (Halved split)) Moved (stage_held way.node.0 (Failed refusal s)) (λ begun moves past x w. StageIsTrue C key (PutEdit sets only) way (Halved split) begun x w) (λ begun moves past x w. StageIsTrue C key (PutEdit sets only) way (Failed refusal s) begun x w)) (sym is) (record {
   steps = λ now begun moves past w world before truth. let (b, at, h, has, p) = truth in ready_fail C a log key sets only way (Some split) refusal after left (may, same, same_log) now begun moves past w world has;
 })

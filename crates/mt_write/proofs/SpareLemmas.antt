@@ -32,7 +32,7 @@ has_locked_back prefix a between after w n split number node vacant updates back
   locked = λ other i.
       let k = has.locked other i in
       let differ : other ≢ number = λ e. vacant_border a number k.b vacant (ap (λ (m : ℕ). border_at a.nodes m) (sym e) ∙ k.named) in
-      record { b = k.b; named = ap (option_and_then border_of) (back.others other differ ∙ updates.others other differ) ∙ k.named; known = k.known; locked = k.locked; alive = k.alive; free = k.free };
+      record { b = k.b; named = ap (option_and_then border_of) (back.others other differ ∙ updates.others other differ) ∙ k.named; known = k.known; locked = k.locked; alive = k.alive; written = k.written; free = k.free };
   own = has.own;
   halves = halves_back split has.halves;
 }

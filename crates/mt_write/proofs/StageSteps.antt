@@ -19,7 +19,7 @@ use Rattle.mt_tree.specs.Descent.{found_for, row_found}
 use Rattle.mt_slice.specs.Place.{AreBytes}
 use Rattle.mt_border.specs.Order.{IsBorder}
 use Rattle.std.specs.Option.{IfSome, option_or}
-use Rattle.mt_tree.specs.BorderSteps.{HasLayerFor, HasRowAt, HidesRowAt, IsUpperHalf, MayShowAt, SetsRowAt, ShowsNext}
+use Rattle.mt_tree.specs.BorderSteps.{AwaitsSome, MayWriteKey, HasLayerFor, HasRowAt, HidesRowAt, IsUpperHalf, MayShowAt, SetsRowAt, ShowsNext}
 use Rattle.mt_tree.proofs.RowLemmas.{stands_at}
 use Rattle.mt_steps.specs.declared.way.Way.{Way}
 use Rattle.mt_steps.specs.declared.way.Went.{Went}
@@ -40,8 +40,8 @@ use Rattle.mt_write.specs.declared.writing.Halves.{Halves}
 use Rattle.mt_write.specs.declared.writing.Layer.{Layer}
 use Rattle.mt_write.specs.declared.writing.Ending.{Ending}
 use Rattle.mt_write.specs.declared.writing.Stage.{Stage}
-use Rattle.mt_write.specs.declared.writing.Stage.TheVariants.{Seeks, Locked, Spared, HalfFilled, Posts, LayerSpared, LayerFilled, LayerReady, Layered, Filled, Made, Taken, Stored, Failed}
-use Rattle.mt_write.specs.Writing.{edit_request, write_held, stage_held, ending_stage, StageIsTrue, WriteIsTrue, MayStage}
+use Rattle.mt_write.specs.declared.writing.Stage.TheVariants.{Seeks, Locked, Spared, HalfFilled, Posts, LayerSpared, LayerFilled, LayerReady, Layered, Reserved, KeyWritten, Filled, Made, Taken, Stored, Failed}
+use Rattle.mt_write.specs.Writing.{edit_request, write_held, stage_held, ending_stage, HasLocked, StageIsTrue, WriteIsTrue, MayStage}
 use Rattle.mt_write.specs.Ready.{Prepares, PreparesRemove, put_delta, remove_delta}
 use Rattle.mt_write.specs.Causes.{StageWaits, StageFails, FailsBy, RemoveFailsBy, edit_fault, version_fault, put_fault, remove_fault}
 use Rattle.mt_write.specs.Follows.{WriteStep, TreeStep, MayBeAt, FindsNone, Follows, HeadGoes, PostsGo, IsMadeReady}
@@ -49,8 +49,13 @@ use Rattle.mt_write.proofs.WriteLemmas.{seek_waits, seek_locks, may_at}
 use Rattle.mt_write.proofs.ReadyLemmas.{readies}
 use Rattle.mt_write.proofs.CommitLemmas.{differs, takes, lacks, shows, writes, hides}
 use Rattle.mt_write.proofs.HalfLemmas.{spared_fill, filled_link}
-use Rattle.mt_write.proofs.NewLayerLemmas.{spared_root, filled_head, ready_link, layered_locked}
-use Rattle.mt_write.proofs.PostLemmas.{headed, headed_end, restarts, moves_on, halves_locked, is_locked_border}
+use Rattle.mt_chart.specs.Tree.{first}
+use Rattle.mt_border.specs.Entry.{key_of_rest}
+use Rattle.mt_border.specs.declared.unwritten.SlotKey.{SlotKey}
+use Rattle.mt_steps.specs.World.{World, IsLockedBorder}
+use Rattle.mt_write.specs.declared.writing.Insertion.{Insertion}
+use Rattle.mt_write.proofs.NewLayerLemmas.{spared_root, filled_head, ready_link}
+use Rattle.mt_write.proofs.PostLemmas.{headed, headed_end, restarts, moves_on, halves_locked}
 
 -- ---- at the stage of a write, what was proved of a stage that was taken out of it
 pub at_step : (C : ℕ) (a after : ArenaView) (log left : LogView) (write : Write) (idle stage : Stage) (p : Progress) (then : Write) → write.stage ≡ stage → WriteStep C a after log left (record write { stage = idle }) stage p then → WriteStep C a after log left write write.stage p then
@@ -123,13 +128,28 @@ module _ (a : ArenaView) (write : Write) where
   pub may_link_layer : (layer : Layer) → MayBeAt a write (LayerReady layer) → IsSomeAnd (border_at a.nodes write.way.node.0) (λ b. HasLayerFor a.nodes b layer.place layer.head.0)
   may_link_layer layer (C, log, may) = ready_link C may.begun a may.w write.key write.edit write.way layer may.true.0
 
-  pub border_locked : (head : NodeNo) → MayBeAt a write (Layered head) → IsSomeAnd (border_at a.nodes write.way.node.0) (λ b. b.version.locked ≡ true)
-  border_locked head (C, log, may) = layered_locked C may.begun a may.w write.key write.edit write.way head may.true.0
+  -- the border that it has locked
+  pub border_owned : (head : NodeNo) → MayBeAt a write (Layered head) → (w : World) × IsLockedBorder a w write.way.node.0
+  border_owned head (C, log, may) = (may.w, may.true.0.0.border)
 
-  pub left_locked : (split : Halves) (ending : Ending) → MayBeAt a write (ending_stage ending (Some split)) → IsSomeAnd (border_at a.nodes split.left.0) (λ b. b.version.locked ≡ true)
-  left_locked split ending (C, log, may) =
-      let (left, half) = halves_locked C may.begun a may.w write.key write.edit write.way split ending may.true.0 in
-      is_locked_border a may.w split.left.0 left
+  pub left_owned : (split : Halves) (ending : Ending) → MayBeAt a write (ending_stage ending (Some split)) → (w : World) × IsLockedBorder a w split.left.0
+  left_owned split ending (C, log, may) = (may.w, (halves_locked C may.begun a may.w write.key write.edit write.way split ending may.true.0).0)
+
+  pub stage_owned : (split : Option Halves) (stage : Option Halves → Stage) → split ≡ None → ((C begun : ℕ) (w : World) → StageIsTrue C write.key write.edit write.way (stage None) begun a w → HasLocked (prefix_of write.key write.way) a w write.way.node.0 None) → MayBeAt a write (stage split) → (w : World) × IsLockedBorder a w write.way.node.0
+  stage_owned split stage none holds may =
+      let (C, log, m) = subst (λ (s : Option Halves). MayBeAt a write (stage s)) none may in
+      (m.w, (holds C m.begun m.w m.true.0).locked write.way.node.0 first)
+
+  -- what its first unused slot asks for
+  pub may_write_key : (new : Insertion) (slot_key : SlotKey) (row : Row) → MayBeAt a write (Reserved new slot_key row) → IsSomeAnd (border_at a.nodes write.way.node.0) (λ b. MayWriteKey b slot_key)
+  may_write_key new slot_key row (C, log, may) =
+      let (b, at, p, f, k, has) = may.true.0 in
+      subst (λ (o : Option BorderView). IsSomeAnd o (λ x. MayWriteKey x slot_key)) (sym at.named) (record { room = k.room; locked = at.locked; written = at.written; marked = k.marked; whole = k.whole })
+
+  pub may_write_value : (new : Insertion) (row : Row) → MayBeAt a write (KeyWritten new row) → IsSomeAnd (border_at a.nodes write.way.node.0) AwaitsSome
+  may_write_value new row (C, log, may) =
+      let (b, at, p, f, k, has) = may.true.0 in
+      subst (λ (o : Option BorderView). IsSomeAnd o AwaitsSome) (sym at.named) (key_of_rest (rest_of write.key write.way), k)
 
   pub may_post : (posting : Posting) (ending : Ending) → MayBeAt a write (Posts posting ending) → MayPost a posting
   may_post posting ending (C, log, may) = record { now = may.now; begun = may.begun; w = may.w; world = may.world; true = may.true.0.0 }
@@ -189,10 +209,10 @@ module _ (a : ArenaView) (write : Write) (went : Went) (visits : Visits a write.
       subst (λ (s : Stage). WriteStep C a a log log write Seeks Waits (record { key = write.key; edit = write.edit; way = write.way; head = write.head; stage = s })) (sym idle)
       (leads C a a log log write Seeks Waits Seeks write.way refl (seek_waits C a write.key write.edit write.way log) (inr locked) (tt, tt) (refl, inr (locked, refl)) tt tt)
 
-  pub seek_ends : (after : ArenaView) (b : BorderView) → border_at a.nodes write.way.node.0 ≡ Some b → b.version.locked ≡ false → went ≡ Here → after ≡ with_border_changed a write.way.node.0 with_locked → KeepsTree a after → TreeStep a after write Seeks Moved (record write { stage = Locked })
-  seek_ends after b named unlocked is value keeps = λ C log. subst (λ (x : ArenaView). WriteStep C a x log log write Seeks Moved (record write { stage = Locked })) (sym value)
+  pub seek_ends : (after : ArenaView) (b : BorderView) → border_at a.nodes write.way.node.0 ≡ Some b → IsBorder b → b.version.locked ≡ false → went ≡ Here → after ≡ with_border_changed a write.way.node.0 with_locked → KeepsTree a after → TreeStep a after write Seeks Moved (record write { stage = Locked })
+  seek_ends after b named sound unlocked is value keeps = λ C log. subst (λ (x : ArenaView). WriteStep C a x log log write Seeks Moved (record write { stage = Locked })) (sym value)
       (leads C a (with_border_changed a write.way.node.0 with_locked) log log write Seeks Moved Locked write.way refl
-      (seek_locks C a write.key write.edit write.way went visits b named unlocked is (subst (λ (x : ArenaView). KeepsTree a x) value keeps) log) tt (tt, tt) (inl (refl, refl)) (inl (refl, refl)) tt)
+      (seek_locks C a write.key write.edit write.way went visits b named sound unlocked is (subst (λ (x : ArenaView). KeepsTree a x) value keeps) log) tt (tt, tt) (inl (refl, refl)) (inl (refl, refl)) tt)
 
 -- where a visit leads that doesn't end at its border
 pub seeks_led : (a : ArenaView) (write : Write) (went : Went) (p : Progress) (then : Write) → Visits a write.key write.way went → write.stage ≡ Seeks → went ≢ Here → (went ≡ Again → IsMarkedAt a write.way.node.0)
@@ -215,7 +235,7 @@ put_ready : (C : ℕ) (a after : ArenaView) (log left : LogView) (key : List ℕ
 put_ready C a after log left key sets way (Spared half cut entries) f =
     subst (λ (o : Option BorderView). IsSomeAnd o (λ b. IsBestCut b.live cut)) (sym f.1.named) f.1.cut_at.place
 put_ready C a after log left key sets way (LayerSpared layer entries) f = tt
-put_ready C a after log left key sets way (Filled place stored logged split) f = f.0
+put_ready C a after log left key sets way (Reserved new slot_key row) f = f.0
 put_ready C a after log left key sets way (Made place stored columns logged) f = tt
 put_ready C a after log left key sets way (Failed refusal split) f = f.0
 put_ready C a after log left key sets way _ f = absurd f

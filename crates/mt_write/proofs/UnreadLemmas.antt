@@ -14,7 +14,7 @@ use Rattle.mt_slice.specs.Place.{AreBytes}
 use Rattle.mt_word.specs.declared.permutation_word.TheConstants.{SLOTS}
 use Rattle.mt_commit.specs.Log.{LogView, IsLog, newest, reserve_fault, slowest, trimmed, with_delta}
 use Rattle.mt_commit.proofs.LogLemmas.{appended_log}
-use Rattle.mt_border.specs.Border.{BorderView, row_at, with_filled, with_hidden, with_shown, with_value}
+use Rattle.mt_border.specs.Border.{BorderView, row_at, with_filled, with_hidden, with_inserting, with_shown, with_value}
 use Rattle.mt_border.specs.Order.{IsBorder}
 use Rattle.mt_border.specs.declared.found.Found.{Found}
 use Rattle.mt_border.specs.declared.found.Found.TheVariants.{Absent as AbsentFound, Row as RowFound}
@@ -28,15 +28,21 @@ use Rattle.mt_steps.specs.declared.progress.Progress.TheVariants.{Committed, Mov
 use Rattle.mt_write.specs.declared.writing.Write.{Write}
 use Rattle.mt_write.specs.declared.writing.Edit.TheVariants.{Put as PutEdit, Remove as RemoveEdit}
 use Rattle.mt_write.specs.declared.writing.Stage.{Stage}
-use Rattle.mt_write.specs.declared.writing.Stage.TheVariants.{Failed, Filled, Locked, Made, Stored, Taken}
-use Rattle.mt_write.specs.Writing.{new_entry}
-use Rattle.mt_write.specs.Ready.{Fills, FillsNew, Prepares, put_delta, remove_delta, with_room}
+use Rattle.mt_write.specs.declared.writing.Stage.TheVariants.{Failed, Filled, KeyWritten, Locked, Made, Reserved, Stored, Taken}
+use Rattle.mt_write.specs.Ready.{Inserts, Prepares, Reserves, put_delta, remove_delta, with_room}
 use Rattle.mt_write.specs.Causes.{FailsBy, IsNotFailed, ReadyFor, RemoveFailsBy, fill_fault, put_fault, remove_fault, version_fault}
 use Rattle.mt_write.specs.Follows.{WriteStep}
 use Rattle.mt_write.specs.Runs.{CommitsAt, MayAct}
 use Rattle.mt_write.proofs.CauseLemmas.{ready_err, ready_ok, room_ready}
 use Rattle.mt_write.proofs.FindLemmas.{faults_told, found_is, found_stands}
-use Rattle.mt_write.proofs.FinishLemmas.{may_commit}
+use Rattle.mt_write.proofs.FinishLemmas.{ReadiedAt, commits_ready, may_next, readied_more, readied_one}
+use Rattle.mt_write.proofs.InsertLemmas.{key_there}
+use Rattle.mt_write.proofs.LaterSteps.{writes_key, writes_value}
+use Rattle.mt_border.specs.Entry.{entry_with, key_of_rest}
+use Rattle.mt_border.specs.declared.unwritten.SlotKey.{SlotKey}
+use Rattle.mt_border.specs.declared.unwritten.Unwritten.TheVariants.{Value}
+use Rattle.mt_steps.proofs.BorderLemmas.{now_named}
+use Rattle.mt_write.specs.declared.writing.Insertion.{Insertion}
 use Rattle.mt_write.proofs.StageSteps.{hides_row, may_show, readies_put, readies_remove, row_there, shows_row, writes_row}
 
 -- ---- why what was to be made was not made
@@ -69,25 +75,13 @@ room_fails T log key false true refusal is =
     subst (λ (r : Refusal). MayFail log (RemoveRequest key) r) same (tt, refl)
 room_fails T log key false false refusal is = subst (λ (r : Refusal). MayFail log (RemoveRequest key) r) (sym is) (tt, tt)
 
--- ---- its two steps, of which the second appends a delta that doesn't stay
-module _ (C : ℕ) (a between after : ArenaView) (log left last : LogView) (write : Write) (stage : Stage) (number : ℕ) (delta : Delta) where
-  passes : WriteStep C a between log left write Locked Moved (record write { stage = stage }) → WriteStep C between after left (with_delta left delta) write stage (Committed number) (record write { stage = Stored number None })
-      → delta.number ≡ newest left + 1 → 1 ≤ left.reserved → last ≡ trimmed (with_delta left delta) → newest last ≡ newest left + 1 → IsLog left → IsArena between → CommitsAt C a after log last write number
-  passes ready commits next room passed newest_is sound arena =
+-- ---- its commit, which appends a delta that doesn't stay
+module _ (C : ℕ) (a between after : ArenaView) (log left last : LogView) (write : Write) (stage : Stage) (steps number : ℕ) (delta : Delta) where
+  passes : ReadiedAt C a log write between left stage steps → WriteStep C between after left (with_delta left delta) write stage (Committed number) (record write { stage = Stored number None })
+      → delta.number ≡ newest left + 1 → 1 ≤ left.reserved → last ≡ trimmed (with_delta left delta) → newest last ≡ newest left + 1 → IsLog left → IsArena after → steps + 1 ≤ 4 → CommitsAt C a after log last write (record { commit = number; steps = steps + 1 })
+  passes ready commits next room passed newest_is sound arena few =
       let long = length-append left.deltas (delta ∷ []) in
-      record {
-        between = between;
-        reserved = left;
-        appended = with_delta left delta;
-        stage = stage;
-        ready = ready;
-        commits = commits;
-        arena = arena;
-        sound_reserved = sound;
-        sound = appended_log left delta (left.deltas ++ delta ∷ []) sound room next refl;
-        trims = passed;
-        newest_stays = omega (arith, newest_is, long);
-      }
+      commits_ready C a log write between left stage steps ready after (with_delta left delta) last number commits (appended_log left delta (left.deltas ++ delta ∷ []) sound room next refl) arena passed (omega (arith, newest_is, long)) few
 
 -- there is room for the delta
 pub has_room : (log left : LogView) → left ≡ with_room log → 1 ≤ left.reserved
@@ -128,63 +122,77 @@ module _ (C : ℕ) (a : ArenaView) (log left : LogView) (write : Write) (sets : 
         (refl, record { b = b; named = named; made = record { bytes = bytes; fits = fits; sound = sound; stored_is = refl; there = there (RowFound place) row; made = ready.0; copied = refl }; same = refl; reserved = ready.1 })
         (made_ready (List (List ℕ)) (reserve_fault log) made (Made place write.key made made) tt fault)
 
-    pub passes_over : (after : ArenaView) (last : LogView) (number : ℕ) → number ≡ newest last → after ≡ with_border_changed a write.way.node.0 (λ x. with_value x place (record { version = number; columns = made }))
-        → SetsRowAt a after write.way.node.0 place (record { version = number; columns = made }) → ((delta : Delta) → last ≡ trimmed (with_delta left delta)) → newest last ≡ newest left + 1 → IsLog left → IsArena a → CommitsAt C a after log last write number
-    passes_over after last number is_last written sets_row passed newest_is sound_left arena =
+    pub passes_over : MayAct C a log write found → (after : ArenaView) (last : LogView) (number : ℕ) → number ≡ newest last → after ≡ with_border_changed a write.way.node.0 (λ x. with_value x place (record { version = number; columns = made }))
+        → SetsRowAt a after write.way.node.0 place (record { version = number; columns = made }) → ((delta : Delta) → last ≡ trimmed (with_delta left delta)) → newest last ≡ newest left + 1 → IsLog left → IsArena after → CommitsAt C a after log last write (record { commit = number; steps = 2 })
+    passes_over act after last number is_last written sets_row passed newest_is sound_left arena =
         let next : number ≡ newest left + 1 = is_last ∙ newest_is in
         let delta : Delta = put_delta (newest left + 1) write.key (row_at place b.live) made in
         let room = has_room log left ready.1 in
-        passes C a a after log left last write (Made place write.key made made) number delta readies_over
+        passes C a a after log left last write (Made place write.key made made) 1 number delta (readied_one C a log write act.may act.trimmed act.arena a left (Made place write.key made made) readies_over act.arena sound_left)
         (writes_row C a after left (with_delta left delta) write place write.key made made number next
         (subst (λ (n : ℕ). after ≡ with_border_changed a write.way.node.0 (λ x. with_value x place (record { version = n; columns = made }))) next written)
         (subst (λ (n : ℕ). SetsRowAt a after write.way.node.0 place (record { version = n; columns = made })) next sets_row)
         (subst (λ (o : Option BorderView). IsSomeAnd o (λ x. with_delta left delta ≡ with_delta left (put_delta (newest left + 1) write.key (row_at place x.live) made))) (sym named) refl) room)
-        refl room (passed delta) newest_is sound_left arena
+        refl room (passed delta) newest_is sound_left arena (omega arith)
 
   -- ---- of a new key
   pub new_fails : (T : Type 0) (place : ℕ) → found ≡ AbsentFound place → length b.live < SLOTS → (after : ArenaView) (refusal : Refusal) → MayFail log (PutRequest write.key sets) refusal × (after ≡ a) × (left ≡ log) → MadeFor T (fill_fault log b) (Err refusal)
       → WriteStep C a after log left write Locked Moved (record write { stage = Failed refusal None })
   new_fails T place none room after refusal (may, same, kept) fault = fails (AbsentFound place) none after same refusal may kept (room_ready a log b place (Err refusal) room (made_refused T (fill_fault log b) refusal fault))
 
-  module _ (T : Type 0) (done : T) (place : ℕ) (none : found ≡ AbsentFound place) (room : length b.live < SLOTS) (between : ArenaView) (fills : FillsNew C write.key sets write.way a write.key (columns_after C sets None) between) (reserved : left ≡ with_room log) (fault : MadeFor T (fill_fault log b) (Ok done)) where
+  module _ (T : Type 0) (done : T) (place : ℕ) (none : found ≡ AbsentFound place) (room : length b.live < SLOTS) (between : ArenaView) (i : Inserts C write.key sets write.way a between) (reserved : left ≡ with_room log) (fault : MadeFor T (fill_fault log b) (Ok done)) (act : MayAct C a log write found) (sound_left : IsLog left) (arena_between : IsArena between) where
+    abbrev new : Insertion
+    new = record { place = place; key = write.key; logged = columns_after C sets None; split = None }
+
+    abbrev slot_key : SlotKey
+    slot_key = key_of_rest (rest_of write.key write.way)
+
+    abbrev row : Row
+    row = record { version = 0; columns = columns_after C sets None }
+
     abbrev filled : Stage
     filled = Filled place write.key (columns_after C sets None) None
 
-    fills_there : Fills C write.key sets write.way a log place write.key (columns_after C sets None) between left
-    fills_there =
-        let same : fills.b ≡ b = (let both : ◌≡◌ {A = Option BorderView} (Some fills.b) (Some b) = sym fills.named ∙ named in cc) in
-        record {
-          b = b;
-          named = named;
-          bytes = fills.bytes;
-          fits = fills.fits;
-          sound = sound;
-          room = room;
-          absent = there (AbsentFound place) none;
-          stored_is = refl;
-          columns = refl;
-          filled = fills.filled;
-          whole = subst (λ (x : BorderView). IsBorder (with_filled x (new_entry write.key write.way (columns_after C sets None)))) same fills.whole;
-          keeps = fills.keeps;
-          reserved = reserved;
-        }
+    reserves : Reserves C write.key sets write.way a log new slot_key row i.marked left
+    reserves = record {
+      b = b;
+      named = named;
+      made = record { bytes = i.bytes; fits = i.fits; sound = sound; stored_is = refl; absent = there (AbsentFound place) none; columns = refl; row_is = refl };
+      room = room;
+      key_is = refl;
+      whole = i.whole;
+      marked = i.marks;
+      sound = i.marked_sound;
+      keeps = i.marked_keeps;
+      reserved = reserved;
+    }
 
-    readies_new : WriteStep C a between log left write Locked Moved (record write { stage = filled })
-    readies_new = readies (AbsentFound place) none between filled (refl, fills_there) (room_ready a log b place (Ok filled) room (made_ready T (fill_fault log b) done filled tt fault))
+    readies_new : WriteStep C a i.marked log left write Locked Moved (record write { stage = Reserved new slot_key row })
+    readies_new = readies (AbsentFound place) none i.marked (Reserved new slot_key row) (refl, reserves) (room_ready a log b place (Ok (Reserved new slot_key row)) room (made_ready T (fill_fault log b) done (Reserved new slot_key row) tt fault))
 
-    pub may_show_new : MayAct C a log write found → (version : ℕ) → IsSomeAnd (border_at between.nodes write.way.node.0) (λ x. MayShowAt x place version)
-    may_show_new may version = some_for place (border_at between.nodes write.way.node.0) (may_show between write left place write.key (columns_after C sets None) None (C, may_commit C a log write may.may may.trimmed may.arena between left filled readies_new)) version
+    readied_new : ReadiedAt C a log write between left filled 3
+    readied_new =
+        let w = i.writes in
+        let one = readied_one C a log write act.may act.trimmed act.arena i.marked left (Reserved new slot_key row) readies_new i.arena sound_left in
+        let two = readied_more C a log write i.marked left (Reserved new slot_key row) 1 one w.keyed (KeyWritten new row) (writes_key i.marked w.keyed write new slot_key row w.key w.key_keeps w.key_sound C left) sound_left w.arena in
+        readied_more C a log write w.keyed left (KeyWritten new row) 2 two between filled (writes_value w.keyed between write new row (λ own is. subst (λ (k : SlotKey). between ≡ with_border_changed w.keyed write.way.node.0 (λ x. with_filled x (entry_with k row))) (own_key own is) w.value) w.value_keeps w.value_sound C left) sound_left arena_between
+      where
+        own_key : (own : SlotKey) → IsSomeAnd (border_at i.writes.keyed.nodes write.way.node.0) (λ x. x.unwritten ≡ Value own) → slot_key ≡ own
+        own_key own is = key_there i.marked i.writes.keyed write.way.node.0 (with_inserting b) slot_key (subst (λ (x : ArenaView). border_at x.nodes write.way.node.0 ≡ Some (with_inserting b)) (sym i.marks) (now_named a write.way.node.0 b with_inserting named)) i.writes.key own is
+
+    pub may_show_new : (version : ℕ) → IsSomeAnd (border_at between.nodes write.way.node.0) (λ x. MayShowAt x place version)
+    may_show_new version = some_for place (border_at between.nodes write.way.node.0) (may_show between write left place write.key (columns_after C sets None) None (C, may_next C a log write between left filled 3 readied_new)) version
 
     pub passes_new : (after : ArenaView) (last : LogView) (number : ℕ) → number ≡ newest last → after ≡ with_border_changed between write.way.node.0 (λ x. with_shown x place number)
-        → ShowsNext between after write.way.node.0 number → ((delta : Delta) → last ≡ trimmed (with_delta left delta)) → newest last ≡ newest left + 1 → IsLog left → IsArena between → CommitsAt C a after log last write number
-    passes_new after last number is_last shown shows passed newest_is sound_left arena =
+        → ShowsNext between after write.way.node.0 number → ((delta : Delta) → last ≡ trimmed (with_delta left delta)) → newest last ≡ newest left + 1 → IsArena after → CommitsAt C a after log last write (record { commit = number; steps = 4 })
+    passes_new after last number is_last shown shows passed newest_is arena =
         let next : number ≡ newest left + 1 = is_last ∙ newest_is in
         let delta : Delta = put_delta (newest left + 1) write.key None (columns_after C sets None) in
         let room = has_room log left reserved in
-        passes C a between after log left last write filled number delta readies_new
+        passes C a between after log left last write filled 3 number delta readied_new
         (shows_row C between after left (with_delta left delta) write place write.key (columns_after C sets None) None number next
         (subst (λ (n : ℕ). after ≡ with_border_changed between write.way.node.0 (λ x. with_shown x place n)) next shown) (subst (λ (n : ℕ). ShowsNext between after write.way.node.0 n) next shows) refl room)
-        refl room (passed delta) newest_is sound_left arena
+        refl room (passed delta) newest_is sound_left arena (omega arith)
 
 -- ---- a remove
 row_is : (o : Option Row) → IsSome o → (row : Row) × (o ≡ Some row)
@@ -216,13 +224,13 @@ module _ (C : ℕ) (a : ArenaView) (log left : LogView) (write : Write) (is : wr
         (by_log (Taken place write.key before) (ready_ok (reserve_fault log) (Ok (Taken place write.key before)) (Taken place write.key before) None (made_ready T (reserve_fault log) done (Taken place write.key before) tt fault) refl))
         (Taken place write.key before) refl
 
-    pub passes_found : (after : ArenaView) (last : LogView) (number : ℕ) → number ≡ newest last → after ≡ with_border_changed a write.way.node.0 (λ x. with_hidden x place) → HidesRowAt a after write.way.node.0 place
-        → ((delta : Delta) → last ≡ trimmed (with_delta left delta)) → newest last ≡ newest left + 1 → IsLog left → IsArena a → CommitsAt C a after log last write number
-    passes_found after last number is_last hidden hides passed newest_is sound_left arena =
+    pub passes_found : MayAct C a log write found → (after : ArenaView) (last : LogView) (number : ℕ) → number ≡ newest last → after ≡ with_border_changed a write.way.node.0 (λ x. with_hidden x place) → HidesRowAt a after write.way.node.0 place
+        → ((delta : Delta) → last ≡ trimmed (with_delta left delta)) → newest last ≡ newest left + 1 → IsLog left → IsArena after → CommitsAt C a after log last write (record { commit = number; steps = 2 })
+    passes_found act after last number is_last hidden hides passed newest_is sound_left arena =
         let next : number ≡ newest left + 1 = is_last ∙ newest_is in
         let (before, copied) = row_is (row_at place b.live) has_row in
         let delta : Delta = remove_delta (newest left + 1) write.key before in
         let room = has_room log left reserved in
-        passes C a a after log left last write (Taken place write.key before) number delta (readies_found before copied)
+        passes C a a after log left last write (Taken place write.key before) 1 number delta (readied_one C a log write act.may act.trimmed act.arena a left (Taken place write.key before) (readies_found before copied) act.arena sound_left)
         (hides_row C a after left (with_delta left delta) write place write.key before number next hidden hides refl room)
-        refl room (passed delta) newest_is sound_left arena
+        refl room (passed delta) newest_is sound_left arena (omega arith)

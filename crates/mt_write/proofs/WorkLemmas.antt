@@ -15,15 +15,16 @@ use Rattle.mt_steps.specs.declared.way.Way.{Way}
 use Rattle.mt_write.specs.declared.writing.Write.{Write}
 use Rattle.mt_write.specs.declared.writing.Edit.{Edit}
 use Rattle.mt_write.specs.declared.writing.Stage.{Stage}
-use Rattle.mt_write.specs.declared.writing.Stage.TheVariants.{Seeks, Locked, Spared, HalfFilled, Halved, Posts, LayerSpared, LayerFilled, LayerReady, Layered, Filled, Made, Taken, Stored, Failed}
+use Rattle.mt_write.specs.declared.writing.Stage.TheVariants.{Seeks, Locked, Spared, HalfFilled, Halved, Posts, LayerSpared, LayerFilled, LayerReady, Layered, Reserved, KeyWritten, Filled, Made, Taken, Stored, Failed}
 use Rattle.mt_write.specs.declared.writing.Halves.{Halves}
 use Rattle.mt_write.specs.declared.writing.Layer.{Layer}
+use Rattle.mt_chart.proofs.Basics.{same_number}
 use Rattle.mt_steps.specs.World.{World, IsLocked, IsTaken, IsSame}
 use Rattle.mt_steps.specs.Way.{IsOnWay, prefix_of}
 use Rattle.mt_chart.specs.Chart.{top}
 use Rattle.mt_chart.proofs.Walk.{known_kept}
 use Rattle.mt_post.proofs.PostingLasts.{posting_stays, posting_taken}
-use Rattle.mt_write.specs.Writing.{StageIsTrue, stage_held, IsLockedAt, HasLocked, AreHalves, HasLayer, HasLink, IsSpare, owned, layer_owned, way_below, WriteIsTrue, write_held, Tells}
+use Rattle.mt_write.specs.Writing.{StageIsTrue, stage_held, IsLockedAt, IsOwnedAt, HasLocked, HasOthers, AreHalves, HasLayer, HasLink, IsSpare, owned, layer_owned, way_below, WriteIsTrue, write_held, Tells}
 use Rattle.mt_types.specs.declared.refusal.Refusal.{Refusal}
 use Rattle.mt_types.specs.declared.refusal.Refusal.TheVariants.{OtherVersion}
 use Rattle.mt_steps.specs.World.{IsLockedBorder}
@@ -53,11 +54,31 @@ module _ (a after : ArenaView) (w next : World) where
     alive = at.alive;
     last = at.last;
     locked = at.locked;
+    written = at.written;
+    free = λ i. at.free (same.closing i);
+  }
+
+  owned_at_stays : (key : List ℕ) (way : Way) (b : BorderView) → IsSame a after w next way.node.0 → IsOwnedAt a key way b w → IsOwnedAt after key way b next
+  owned_at_stays key way b same at = record {
+    layer = at.layer;
+    named = same_border way.node.0 b same at.named;
+    stands = record {
+      stands = record {
+        posted = at.stands.stands.posted;
+        place = same.spot ∙ at.stands.stands.place;
+        node = ap (option_map node_seen) same.node ∙ at.stands.stands.node;
+      };
+      from_low = at.stands.from_low;
+      to_right = at.stands.to_right;
+    };
+    alive = at.alive;
+    last = at.last;
+    locked = at.locked;
     free = λ i. at.free (same.closing i);
   }
 
   locked_stays : (number : ℕ) → IsSame a after w next number → IsLockedBorder a w number → IsLockedBorder after next number
-  locked_stays number same at = record { b = at.b; named = same_border number at.b same at.named; known = subst (λ (x : Option Spot). IsSome x) (sym same.spot) at.known; locked = at.locked; alive = at.alive; free = λ i. at.free (same.closing i) }
+  locked_stays number same at = record { b = at.b; named = same_border number at.b same at.named; known = subst (λ (x : Option Spot). IsSome x) (sym same.spot) at.known; locked = at.locked; alive = at.alive; written = at.written; free = λ i. at.free (same.closing i) }
 
   spare_stays : (number : ℕ) (b : BorderView) → IsSame a after w next number → IsSpare a w number b → IsSpare after next number b
   spare_stays number b same s = record { named = same_border number b same s.named; unknown = same.spot ∙ s.unknown; locked = s.locked; free = λ i. s.free (same.closing i) }
@@ -101,6 +122,13 @@ module _ (a after : ArenaView) (w next : World) where
     halves = halves_stay prefix split (λ half is. same half.half.0 (half_owned number split half is)) has.halves;
   }
 
+  has_others_stays : (prefix : List ℕ) (number : ℕ) (split : Option Halves) → ((other : ℕ) → Among other (owned number split) → IsSame a after w next other) → HasOthers prefix a w number split → HasOthers prefix after next number split
+  has_others_stays prefix number split same has = record {
+    locked = λ other i differ. locked_stays other (same other i) (has.locked other i differ);
+    own = has.own;
+    halves = halves_stay prefix split (λ half is. same half.half.0 (half_owned number split half is)) has.halves;
+  }
+
   module _ (C begun moves : ℕ) (past : List Arena) (evolves : Evolves begun w.chart next.chart) where
     tells_stays : (key : List ℕ) (way : Way) (refusal : Refusal) (split : Option Halves) → (split ≡ None → IsSame a after w next way.node.0) → Tells a w key way refusal split → Tells after next key way refusal split
     tells_stays key way (OtherVersion found) None same tells = record { b = tells.b; at = locked_at_stays key way tells.b (same refl) tells.at; bytes = tells.bytes; sound = tells.sound; is = tells.is }
@@ -117,6 +145,8 @@ module _ (a after : ArenaView) (w next : World) where
     stage_stays key edit way (LayerFilled layer) same truth = let (b, at, f) = truth in (b, locked_at_stays key way b (same way.node.0 (later (later first))) at, record { number = f.number; at = f.at; has = layer_stays layer true _ (same layer.head.0 first) (same layer.root.0 (later first)) f.has })
     stage_stays key edit way (LayerReady layer) same truth = let (b, at, f) = truth in (b, locked_at_stays key way b (same way.node.0 (later (later first))) at, record { number = f.number; at = f.at; has = layer_stays layer false _ (same layer.head.0 first) (same layer.root.0 (later first)) f.has })
     stage_stays key edit way (Layered head) same truth = (link_stays (prefix_of key way) way.node.0 head (same way.node.0 first) truth.0, way_stays begun key (way_below way head) evolves truth.1, known_kept begun head.0 top (prefix_of key (way_below way head)) 0 w.chart next.chart evolves truth.2)
+    stage_stays key edit way (Reserved new slot_key row) same truth = let (b, at, p, f, k, has) = truth in (b, locked_at_stays key way b (same way.node.0 has.own) at, p, f, k, has_locked_stays (prefix_of key way) way.node.0 new.split same has)
+    stage_stays key edit way (KeyWritten new row) same truth = let (b, at, p, f, k, has) = truth in (b, owned_at_stays key way b (same way.node.0 has.own) at, p, f, k, has_others_stays (prefix_of key way) way.node.0 new.split same has)
     stage_stays key edit way (Filled place stored logged split) same truth = let (b, at, p, f, has) = truth in (b, locked_at_stays key way b (same way.node.0 has.own) at, p, f, has_locked_stays (prefix_of key way) way.node.0 split same has)
     stage_stays key edit way (Made place stored columns logged) same truth = let (b, at, p, f) = truth in (b, locked_at_stays key way b (same way.node.0 first) at, p, f)
     stage_stays key edit way (Taken place stored before) same truth = let (b, at, f) = truth in (b, locked_at_stays key way b (same way.node.0 first) at, f)
@@ -137,6 +167,12 @@ module _ (C begun moves : ℕ) (past : List Arena) (a : ArenaView) (w : World) w
   all_taken : (prefix : List ℕ) (n : ℕ) (split : Option Halves) → HasLocked prefix a w n split → (number : ℕ) → Among number (owned n split) → IsTaken a w number
   all_taken prefix n split has number i = let k = has.locked number i in inl (subst (λ (x : Option Node). IsLocked x) (sym (node-from_border a.nodes number k.b k.named)) k.locked)
 
+  others_taken : (prefix : List ℕ) (way : Way) (split : Option Halves) (b : BorderView) → border_at a.nodes way.node.0 ≡ Some b → b.version.locked ≡ true → HasOthers prefix a w way.node.0 split → (number : ℕ) → Among number (owned way.node.0 split) → IsTaken a w number
+  others_taken prefix way split b named locked has number i = elim (same_number number way.node.0) [
+    | inl e ↦ subst (λ (m : ℕ). IsTaken a w m) (sym e) (border_taken a w way.node.0 way.node.0 b named locked first)
+    | inr differ ↦ (let k = has.locked number i differ in inl (subst (λ (x : Option Node). IsLocked x) (sym (node-from_border a.nodes number k.b k.named)) k.locked))
+  ]
+
   spare_taken : (half n number : ℕ) (u : BorderView) → IsSpare a w half u → (b : BorderView) → border_at a.nodes n ≡ Some b → b.version.locked ≡ true → Among number (half ∷ n ∷ []) → IsTaken a w number
   spare_taken half n number u s b named locked first = inr (inl (subst (λ (x : Option Node). IsSome x) (sym (node-from_border a.nodes half u s.named)) refl, s.unknown))
   spare_taken half n number u s b named locked (later i) = border_taken a w n number b named locked i
@@ -156,6 +192,8 @@ module _ (C begun moves : ℕ) (past : List Arena) (a : ArenaView) (w : World) w
   stage_taken key edit way (LayerFilled layer) truth number i = let (b, at, f) = truth in layer_taken way.node.0 number layer true _ f.has b at.named at.locked i
   stage_taken key edit way (LayerReady layer) truth number i = let (b, at, f) = truth in layer_taken way.node.0 number layer false _ f.has b at.named at.locked i
   stage_taken key edit way (Layered head) truth number i = border_taken a w way.node.0 number truth.0.border.b truth.0.border.named truth.0.border.locked i
+  stage_taken key edit way (Reserved new slot_key row) truth number i = let (b, at, p, f, k, has) = truth in all_taken (prefix_of key way) way.node.0 new.split has number i
+  stage_taken key edit way (KeyWritten new row) truth number i = let (b, at, p, f, k, has) = truth in others_taken (prefix_of key way) way new.split b at.named at.locked has number i
   stage_taken key edit way (Filled place stored logged split) truth number i = let (b, at, p, f, has) = truth in all_taken (prefix_of key way) way.node.0 split has number i
   stage_taken key edit way (Made place stored columns logged) truth number i = let (b, at, p, f) = truth in border_taken a w way.node.0 number b at.named at.locked i
   stage_taken key edit way (Taken place stored before) truth number i = let (b, at, f) = truth in border_taken a w way.node.0 number b at.named at.locked i

@@ -1,5 +1,5 @@
 -- Since when an interior is gone that a put or remove owns: none is.
-use Rattle.std.proofs.Common.{ℕ, ◌≡◌, List, [], ◌∷◌, Option, Some, Bool, true, false}
+use Rattle.std.proofs.Common.{ℕ, ◌≡◌, inl, inr, sym, subst, List, [], ◌∷◌, Option, Some, Bool, true, false}
 use Rattle.mt_border.specs.Border.{BorderView}
 use Rattle.mt_arena.specs.Node.{border_at}
 use Rattle.mt_arena.specs.Arena.{ArenaView}
@@ -11,10 +11,11 @@ use Rattle.mt_post.proofs.PostingLasts.{posting_since}
 use Rattle.mt_write.specs.declared.writing.Write.{Write}
 use Rattle.mt_write.specs.declared.writing.Edit.{Edit}
 use Rattle.mt_write.specs.declared.writing.Stage.{Stage}
-use Rattle.mt_write.specs.declared.writing.Stage.TheVariants.{Seeks, Locked, Spared, HalfFilled, Halved, Posts, LayerSpared, LayerFilled, LayerReady, Layered, Filled, Made, Taken, Stored, Failed}
+use Rattle.mt_write.specs.declared.writing.Stage.TheVariants.{Seeks, Locked, Spared, HalfFilled, Halved, Posts, LayerSpared, LayerFilled, LayerReady, Layered, Reserved, KeyWritten, Filled, Made, Taken, Stored, Failed}
 use Rattle.mt_write.specs.declared.writing.Halves.{Halves}
 use Rattle.mt_write.specs.declared.writing.Layer.{Layer}
-use Rattle.mt_write.specs.Writing.{StageIsTrue, stage_held, HasLocked, HasLayer, owned, layer_owned, WriteIsTrue, write_held}
+use Rattle.mt_chart.proofs.Basics.{same_number}
+use Rattle.mt_write.specs.Writing.{StageIsTrue, stage_held, HasLocked, HasOthers, HasLayer, owned, layer_owned, WriteIsTrue, write_held}
 
 module _ (C : ℕ) (a : ArenaView) (now begun : ℕ) (w : World) (world : IsWorld a now w) where
   border_since : (number : ℕ) (b : BorderView) → border_at a.nodes number ≡ Some b → GoneSince begun w (number ∷ [])
@@ -26,6 +27,12 @@ module _ (C : ℕ) (a : ArenaView) (now begun : ℕ) (w : World) (world : IsWorl
 
   locked_since : (prefix : List ℕ) (number : ℕ) (split : Option Halves) → HasLocked prefix a w number split → GoneSince begun w (owned number split)
   locked_since prefix number split has other i = let k = has.locked other i in border_since other k.b k.named other first
+
+  others_since : (prefix : List ℕ) (way : Way) (b : BorderView) (split : Option Halves) → border_at a.nodes way.node.0 ≡ Some b → HasOthers prefix a w way.node.0 split → GoneSince begun w (owned way.node.0 split)
+  others_since prefix way b split named has other i = elim (same_number other way.node.0) [
+    | inl e ↦ subst (λ (m : ℕ). GoneSince begun w (m ∷ [])) (sym e) (border_since way.node.0 b named) other first
+    | inr differ ↦ (let k = has.locked other i differ in border_since other k.b k.named other first)
+  ]
 
   layer_since : (number : ℕ) (b : BorderView) (layer : Layer) (locked : Bool) (root : BorderView) → border_at a.nodes number ≡ Some b → HasLayer a w layer locked root → GoneSince begun w (layer_owned number layer)
   layer_since number b layer locked root named has =
@@ -41,6 +48,8 @@ module _ (C : ℕ) (a : ArenaView) (now begun : ℕ) (w : World) (world : IsWorl
   stage_since key edit way (LayerFilled layer) truth = let (b, at, f) = truth in layer_since way.node.0 b layer true _ at.named f.has
   stage_since key edit way (LayerReady layer) truth = let (b, at, f) = truth in layer_since way.node.0 b layer false _ at.named f.has
   stage_since key edit way (Layered head) truth = border_since way.node.0 truth.0.border.b truth.0.border.named
+  stage_since key edit way (Reserved new slot_key row) truth = let (b, at, p, f, k, has) = truth in locked_since _ way.node.0 new.split has
+  stage_since key edit way (KeyWritten new row) truth = let (b, at, p, f, k, has) = truth in others_since _ way b new.split at.named has
   stage_since key edit way (Filled place stored logged split) truth = let (b, at, p, f, has) = truth in locked_since _ way.node.0 split has
   stage_since key edit way (Made place stored columns logged) truth = let (b, at, p, f) = truth in border_since way.node.0 b at.named
   stage_since key edit way (Taken place stored before) truth = let (b, at, f) = truth in border_since way.node.0 b at.named

@@ -17,6 +17,9 @@ use Rattle.mt_border.specs.declared.found.Found.TheVariants.{Absent, Row as RowF
 use Rattle.std.specs.Option.{option_and_then}
 use Rattle.mt_arena.specs.Node.{border_at, border_of}
 use Rattle.mt_chart.proofs.Basics.{same_number}
+use Rattle.mt_border.specs.Order.{IsBorder}
+use Rattle.mt_border.specs.declared.unwritten.Unwritten.TheVariants.{Nothing}
+use Rattle.mt_border.proofs.BorderLemmas.{unlocked_written}
 use Rattle.mt_arena.specs.Arena.{ArenaView, with_border_changed}
 use Rattle.mt_chart.specs.Tree.{first, Arena, BorderNode, Below}
 use Rattle.mt_chart.specs.Chart.{Chart, OnBorder, spot, Spot, at_level, on}
@@ -39,7 +42,7 @@ use Rattle.mt_steps.specs.World.{World, NotAmong, Goes}
 use Rattle.mt_steps.specs.Way.{rest_of, prefix_of, IsLayerOf, IsAtPlace, GoesTo, Visits}
 use Rattle.mt_steps.specs.Step.{Held, Stepped, StepLaw, MayStep, put_row, Blocks, Commits, Changes, blocked_by, IsOfLog, MayRefuse, IsRight}
 use Rattle.mt_write.specs.Causes.{version_fault}
-use Rattle.mt_write.specs.Writing.{put_request, edit_request, IsAbsent, PutsNew, IsOtherwise, Tells, written_answer, stage_held, IsLockedAt, HasLocked, AreHalves, StageIsTrue, HeadedStage}
+use Rattle.mt_write.specs.Writing.{put_request, edit_request, IsAbsent, PutsNew, IsOtherwise, Tells, written_answer, stage_held, IsLockedAt, IsOwnedAt, HasOthers, HasLocked, AreHalves, StageIsTrue, HeadedStage}
 use Rattle.mt_steps.specs.World.{IsLockedBorder}
 use Rattle.mt_steps.proofs.FrameLemmas.{goes_same, quiet_same}
 use Rattle.std.specs.Prelude.{IsTrue}
@@ -101,12 +104,19 @@ module _ (C : ℕ) (a : ArenaView) (key : List ℕ) (edit : Edit) (way : Way) (l
     };
   }
 
+-- ---- what is unwritten of the border of the key
+pub owned_at : (a : ArenaView) (key : List ℕ) (way : Way) (b : BorderView) (w : World) → IsLockedAt a key way b w → IsOwnedAt a key way b w
+owned_at a key way b w at = record { layer = at.layer; named = at.named; stands = at.stands; alive = at.alive; last = at.last; locked = at.locked; free = at.free }
+
+pub written_at : (a : ArenaView) (key : List ℕ) (way : Way) (b : BorderView) (w : World) → b.unwritten ≡ Nothing → IsOwnedAt a key way b w → IsLockedAt a key way b w
+written_at a key way b w written at = record { layer = at.layer; named = at.named; stands = at.stands; alive = at.alive; last = at.last; locked = at.locked; written = written; free = at.free }
+
 -- ---- the border of the key, once it is changed but for what stands in it
-pub locked_at-changed : (a : ArenaView) (key : List ℕ) (way : Way) (b : BorderView) (w : World) (change : BorderView → BorderView) → border_at a.nodes way.node.0 ≡ Some b → IsLayerOf key way
+pub owned_at-changed : (a : ArenaView) (key : List ℕ) (way : Way) (b : BorderView) (w : World) (change : BorderView → BorderView) → border_at a.nodes way.node.0 ≡ Some b → IsLayerOf key way
     → IsWhere (arena_seen a) w.chart way.node.0 (prefix_of key way) (border_seen b) (place_of (rest_of key way)) → IsLast (found_for (rest_of key way) b.live)
     → (change b).low ≡ b.low → (change b).right ≡ b.right → (change b).live ≡ b.live → (change b).version.deleted ≡ false → (change b).version.locked ≡ true → NotAmong way.node.0 w.closing
-    → IsLockedAt (with_border_changed a way.node.0 change) key way (change b) w
-locked_at-changed a key way b w change named layer stands ends low right live alive locked free =
+    → IsOwnedAt (with_border_changed a way.node.0 change) key way (change b) w
+owned_at-changed a key way b w change named layer stands ends low right live alive locked free =
     let now_is = now_named a way.node.0 b change named in
     record {
       layer = layer;
@@ -135,9 +145,9 @@ module _ (C : ℕ) (a : ArenaView) (key : List ℕ) (edit : Edit) (way : Way) (w
   abbrev lock : BorderView → BorderView
   lock b = with_locked b
 
-  pub seek_locks : (b : BorderView) → border_at a.nodes way.node.0 ≡ Some b → b.version.locked ≡ false → went ≡ Here → KeepsTree a (with_border_changed a way.node.0 lock) → (log : LogView)
+  pub seek_locks : (b : BorderView) → border_at a.nodes way.node.0 ≡ Some b → IsBorder b → b.version.locked ≡ false → went ≡ Here → KeepsTree a (with_border_changed a way.node.0 lock) → (log : LogView)
       → StepLaw C a (with_border_changed a way.node.0 lock) log log (edit_request key edit) (stage_held way.node.0 Seeks) Moved (stage_held way.node.0 Locked) (λ begun moves past x w. StageIsTrue C key edit way Seeks begun x w) (λ begun moves past x w. StageIsTrue C key edit way Locked begun x w)
-  seek_locks b named unlocked is keeps log = record {
+  seek_locks b named sound unlocked is keeps log = record {
     steps = λ now begun moves past w world before truth.
         let at : IsAtPlace a key way w = subst (λ (t : Went). GoesTo a begun key way w t) is (visits.goes now w begun world truth) in
         let same : at.here.border ≡ b = (let both : ◌≡◌ {A = Option BorderView} (Some at.here.border) (Some b) = sym at.here.named ∙ named in cc) in
@@ -148,8 +158,8 @@ module _ (C : ℕ) (a : ArenaView) (key : List ℕ) (edit : Edit) (way : Way) (w
         (unlocked_free a way.node.0 b lock named w [] unlocked (known_on (arena_seen a) w.chart way.node.0 (prefix_of key way) (border_seen b) stands.stands))
         (λ other i. inr (among_one other way.node.0 i)) (λ other ne i. elim i [ ]) (λ locked. first) (on_kept a now w.chart way.node.0 (at_level 0) (prefix_of key way) b.low stands.stands.posted stands.stands.place world.retired, λ i. refl, alive_changed a way.node.0 b lock named w.chart (inl refl)) (
           lock b,
-          locked_at-changed a key way b w lock named at.layer stands (subst (λ (x : BorderView). IsLast (found_for (rest_of key way) x.live)) same at.last) refl refl refl
-              (ap (λ (x : BorderView). x.version.deleted) (sym same) ∙ at.alive) refl (unlocked_root a w.closing w.chart way.node.0 b named unlocked world.heads),
+          written_at _ key way (lock b) w (unlocked_written b sound unlocked) (owned_at-changed a key way b w lock named at.layer stands (subst (λ (x : BorderView). IsLast (found_for (rest_of key way) x.live)) same at.last) refl refl refl
+              (ap (λ (x : BorderView). x.version.deleted) (sym same) ∙ at.alive) refl (unlocked_root a w.closing w.chart way.node.0 b named unlocked world.heads)),
         ))
         (kept.content) refl refl (inl refl);
   }
@@ -163,13 +173,13 @@ answer_right past a key RemoveEdit number = refl
 -- ---- what is locked
 pub alone : (a : ArenaView) (key : List ℕ) (way : Way) (b : BorderView) (w : World) → IsLockedAt a key way b w → HasLocked (prefix_of key way) a w way.node.0 None
 alone a key way b w at = record {
-  locked = λ other i. subst (λ (m : ℕ). IsLockedBorder a w m) (sym (among_one other way.node.0 i)) (record { b = b; named = at.named; known = known_on (arena_seen a) w.chart way.node.0 (prefix_of key way) (border_seen b) at.stands.stands; locked = at.locked; alive = at.alive; free = at.free });
+  locked = λ other i. subst (λ (m : ℕ). IsLockedBorder a w m) (sym (among_one other way.node.0 i)) (record { b = b; named = at.named; known = known_on (arena_seen a) w.chart way.node.0 (prefix_of key way) (border_seen b) at.stands.stands; locked = at.locked; alive = at.alive; written = at.written; free = at.free });
   own = first;
   halves = tt;
 }
 
 pub other_locked : (a : ArenaView) (n : ℕ) (b : BorderView) (change : BorderView → BorderView) (named : border_at a.nodes n ≡ Some b) (w : World) (other : ℕ) → other ≢ n → IsLockedBorder a w other → IsLockedBorder (with_border_changed a n change) w other
-other_locked a n b change named w other differ k = record { b = k.b; named = ap (option_and_then border_of) (others_named a n b change named other differ) ∙ k.named; known = k.known; locked = k.locked; alive = k.alive; free = k.free }
+other_locked a n b change named w other differ k = record { b = k.b; named = ap (option_and_then border_of) (others_named a n b change named other differ) ∙ k.named; known = k.known; locked = k.locked; alive = k.alive; written = k.written; free = k.free }
 
 halves_changed : (prefix : List ℕ) (a : ArenaView) (n : ℕ) (b : BorderView) (change : BorderView → BorderView) (named : border_at a.nodes n ≡ Some b) (w : World) (split : Option Halves) → (change b).low ≡ b.low → AreHalves prefix a w split → AreHalves prefix (with_border_changed a n change) w split
 halves_changed prefix a n b change named w None low halves = tt
@@ -184,14 +194,34 @@ halves_changed prefix a n b change named w (Some split) low halves = record {
   ];
 }
 
-pub has_changed : (prefix : List ℕ) (a : ArenaView) (n : ℕ) (b : BorderView) (change : BorderView → BorderView) (named : border_at a.nodes n ≡ Some b) (w : World) (split : Option Halves) → (change b).version.locked ≡ true → (change b).version.deleted ≡ false → (change b).low ≡ b.low → HasLocked prefix a w n split → HasLocked prefix (with_border_changed a n change) w n split
-has_changed prefix a n b change named w split locked alive low has = record {
+pub has_changed : (prefix : List ℕ) (a : ArenaView) (n : ℕ) (b : BorderView) (change : BorderView → BorderView) (named : border_at a.nodes n ≡ Some b) (w : World) (split : Option Halves) → (change b).version.locked ≡ true → (change b).version.deleted ≡ false → (change b).unwritten ≡ Nothing → (change b).low ≡ b.low → HasLocked prefix a w n split → HasLocked prefix (with_border_changed a n change) w n split
+has_changed prefix a n b change named w split locked alive written low has = record {
   locked = λ other i. elim (same_number other n) [
-    | inl e ↦ subst (λ (m : ℕ). IsLockedBorder (with_border_changed a n change) w m) (sym e) (record { b = change b; named = now_named a n b change named; known = (has.locked n has.own).known; locked = locked; alive = alive; free = (has.locked n has.own).free })
+    | inl e ↦ subst (λ (m : ℕ). IsLockedBorder (with_border_changed a n change) w m) (sym e) (record { b = change b; named = now_named a n b change named; known = (has.locked n has.own).known; locked = locked; alive = alive; written = written; free = (has.locked n has.own).free })
     | inr differ ↦ other_locked a n b change named w other differ (has.locked other i)
   ];
   own = has.own;
   halves = halves_changed prefix a n b change named w split low has.halves;
+}
+
+-- its border is changed, and something of it is unwritten
+pub others_changed : (prefix : List ℕ) (a : ArenaView) (n : ℕ) (b : BorderView) (change : BorderView → BorderView) (named : border_at a.nodes n ≡ Some b) (w : World) (split : Option Halves) → (change b).low ≡ b.low → HasLocked prefix a w n split → HasOthers prefix (with_border_changed a n change) w n split
+others_changed prefix a n b change named w split low has = record {
+  locked = λ other i differ. other_locked a n b change named w other differ (has.locked other i);
+  own = has.own;
+  halves = halves_changed prefix a n b change named w split low has.halves;
+}
+
+-- and is written
+pub others_written : (key : List ℕ) (a : ArenaView) (way : Way) (b : BorderView) (change : BorderView → BorderView) (named : border_at a.nodes way.node.0 ≡ Some b) (w : World) (split : Option Halves) → (change b).low ≡ b.low
+    → IsLockedAt (with_border_changed a way.node.0 change) key way (change b) w → HasOthers (prefix_of key way) a w way.node.0 split → HasLocked (prefix_of key way) (with_border_changed a way.node.0 change) w way.node.0 split
+others_written key a way b change named w split low at has = record {
+  locked = λ other i. elim (same_number other way.node.0) [
+    | inl e ↦ subst (λ (m : ℕ). IsLockedBorder (with_border_changed a way.node.0 change) w m) (sym e) ((alone _ key way (change b) w at).locked way.node.0 first)
+    | inr differ ↦ other_locked a way.node.0 b change named w other differ (has.locked other i differ)
+  ];
+  own = has.own;
+  halves = halves_changed (prefix_of key way) a way.node.0 b change named w split low has.halves;
 }
 
 -- ---- what a put that asks for a version may come to

@@ -12,7 +12,6 @@ use Rattle.mt_arena.specs.declared.node.Node.TheVariants.{Border, Head}
 use Rattle.mt_border.specs.Entry.{IsEntry}
 use Rattle.mt_border.specs.Order.{IsBorder}
 use Rattle.mt_border.specs.declared.entry.Entry.{Entry}
-use Rattle.mt_border.specs.declared.found.Found.TheVariants.{Absent}
 use Rattle.mt_border.specs.declared.unwritten.SlotKey.{SlotKey}
 use Rattle.mt_border.specs.Entry.{entry_with, key_of_rest}
 use Rattle.mt_border.specs.Keys.{key_seen, IsKey}

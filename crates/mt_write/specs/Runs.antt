@@ -106,7 +106,7 @@ CommitsUnread C a after log left write (Ok (Some committed)) = CommitsAt C a aft
 CommitsUnread C a after log left write (Err refusal) = WriteStep C a after log left write Locked Moved
     (record write { stage = Failed refusal None })
 
--- the key and the row of a new key are written, after each other
+-- the key and the row of a new key are written, one after the other
 pub record InsertsAt (a after : ArenaView) (write : Write) (stage then : Stage) : Type 0 where
   pub between : Stage
   pub keyed : ArenaView
@@ -114,10 +114,15 @@ pub record InsertsAt (a after : ArenaView) (write : Write) (stage then : Stage) 
   pub value : TreeStep keyed after write between Moved (record write { stage = then })
   pub arena : IsArena keyed
 
--- from what it has made ready it has written a new key and its row, in two steps; or it has done nothing
-abbrev pub ThenInserts : ArenaView → ArenaView → Write → Stage → Stage → ℕ → Type 0
-ThenInserts a after write stage then steps = ((after ≡ a) × (then ≡ stage) × (steps ≡ 0))
-    ⊎ ((steps ≡ 2) × InsertsAt a after write stage then)
+-- from this stage it has committed at once, or has written a new key and its row before
+pub record CommitsStage (a after : ArenaView) (log left : LogView) (write : Write) (stage : Stage) (committed : AtCommit) : Type 0 where
+  pub between : ArenaView
+  pub then : Stage
+  pub writes : ((between ≡ a) × (then ≡ stage) × (committed.steps ≡ 2))
+      ⊎ (InsertsAt a between write stage then × (committed.steps ≡ 4))
+  pub arena : IsArena between
+  pub commits : (C : ℕ) → WriteStep C between after log left write then (Committed committed.commit)
+      (record write { stage = Stored committed.commit None })
 
 -- so much it has done there: it has found no row to remove, or committed, or made another stage ready
 abbrev pub ComesTo : ℕ → ArenaView → ArenaView → LogView → LogView → Write → AtBorder → Type 0

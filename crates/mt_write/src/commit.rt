@@ -3,6 +3,7 @@
 ghost use Rattle.std.specs.Prelude.{◌≡◌, ℕ, ◌<◌, ◌+◌, IsSomeAnd, None};
 ghost use Rattle.mt_commit.specs.Log.{newest, with_delta};
 ghost use Rattle.mt_border.specs.Border.{row_at, with_hidden, with_shown, with_value};
+ghost use Rattle.mt_border.specs.declared.unwritten.Unwritten.TheVariants.{Nothing};
 ghost use Rattle.mt_arena.specs.Node.{border_at};
 ghost use Rattle.mt_arena.specs.Arena.{with_border_changed};
 ghost use Rattle.mt_tree.specs.BorderSteps.{MayShowAt, ShowsNext, HasRowAt, HidesRowAt, SetsRowAt};
@@ -96,6 +97,7 @@ pub fn hide(
     before: Row,
 ) -> u64
     requires row { IsSomeAnd (border_at tree.old.nodes number.0) (λ b. HasRowAt b place) }
+    requires written { IsSomeAnd (border_at tree.old.nodes number.0) (λ b. b.unwritten ≡ Nothing) }
     requires room { 0 < log.old.reserved }
     ensures number { result ≡ newest log.old + 1 }
     ensures hidden { tree.new ≡ with_border_changed tree.old number.0 (λ b. with_hidden b place) }

@@ -3,16 +3,14 @@
 
 ghost use Rattle.std.specs.Prelude.{◌≡◌, ℕ, ◌<◌, ◌≤◌, IfOk, IfErr, IsSomeAnd, None, true, false};
 ghost use Rattle.mt_border.specs.Border.{with_unlocked};
+ghost use Rattle.mt_border.specs.Order.{IsBorder};
 ghost use Rattle.mt_arena.specs.Node.{border_at};
 ghost use Rattle.mt_arena.specs.Arena.{IsArena, with_border_changed};
 ghost use Rattle.mt_tree.specs.Keeping.{KeepsTree};
 ghost use Rattle.mt_steps.specs.Way.{Finds, Visits};
 ghost use Rattle.mt_steps.specs.declared.way.Went.{Went};
-ghost use Rattle.mt_write.specs.Writing.{MayStage};
-ghost use Rattle.mt_write.specs.Follows.{WriteStep};
 ghost use Rattle.mt_border.specs.declared.unwritten.Unwritten.TheVariants.{Nothing};
-ghost use Rattle.mt_commit.specs.Log.{LogView};
-ghost use Rattle.mt_write.specs.Runs.{Advances, ComesTo, HasRun, IsTrimmed, MayAct, MayRun, ThenInserts, state};
+ghost use Rattle.mt_write.specs.Runs.{Advances, ComesTo, HasRun, IsTrimmed, MayAct, MayRun, CommitsStage, state};
 
 use crate::commit::{hide, overwrite, show};
 use crate::ending::written;
@@ -45,58 +43,50 @@ pub enum AtBorder {
 }
 
 impl Write {
-    // Writes the key and the row of a new key into the first unused slot, if they are made and its border isn't split.
-    // Returns the stage that follows, and how many steps that were.
-    fn insert(&self, tree: &mut Tree, stage: Stage) -> (Stage, u64)
-        requires { (C : ℕ) × (log : LogView) × MayStage C tree.old log self.now stage }
-        ensures { ThenInserts tree.old tree.new self.now stage result.0 result.1 }
-    {
-        match stage {
-            Stage::Reserved(
-                Insertion {
-                    place,
-                    key,
-                    logged,
-                    split: None,
-                },
-                slot_key,
-                row,
-            ) => {
-                write_slot(tree, self.way.node, slot_key, row);
-                let filled = Stage::Filled {
-                    place,
-                    key,
-                    logged,
-                    split: None,
-                };
-                (filled, 2)
-            }
-            stage => (stage, 0),
-        }
-    }
-
-    // Commits a row that is ready to be shown, written over another, or hidden. Otherwise returns the stage as it was.
-    fn commit(&self, tree: &mut Tree, log: &mut Log, stage: Stage) -> Result<u64, Stage>
-        requires { (C : ℕ) × MayStage C tree.old log.old self.now stage }
-        ensures commits { IfOk result (λ number. (C : ℕ) → WriteStep C tree.old tree.new log.old log.new self.now stage
-            (Progress.Committed number) (record self.now { stage = Stage.Stored number None })) }
+    // Commits a row that is ready to be written and shown, written over another, or hidden. Otherwise returns the stage as
+    // it was.
+    fn commit(&self, tree: &mut Tree, log: &mut Log, stage: Stage) -> Result<Committed, Stage>
+        requires { (C : ℕ) × MayRun C (state tree.old log.old (record self.now { stage = stage })) }
+        ensures commits { IfOk result (λ committed. CommitsStage tree.old tree.new log.old log.new self.now stage committed) }
         ensures not { IfErr result (λ same. (same ≡ stage) × (tree.new ≡ tree.old) × (log.new ≡ log.old)) }
     {
         let number = self.way.node;
+        let _arena = tree.free_numbers();
         match stage {
-            Stage::Filled {
-                place,
-                key,
-                logged,
-                split: None,
-            } => Ok(show(tree, log, number, place, key, logged)),
+            Stage::Reserved(new, slot_key, row) => {
+                let Insertion {
+                    place,
+                    key,
+                    logged,
+                    split,
+                } = new;
+                if split.is_some() {
+                    let new = Insertion {
+                        place,
+                        key,
+                        logged,
+                        split,
+                    };
+                    return Err(Stage::Reserved(new, slot_key, row));
+                }
+                write_slot(tree, number, slot_key, row);
+                let _written = tree.free_numbers();
+                let commit = show(tree, log, number, place, key, logged);
+                Ok(Committed { commit, steps: 4 })
+            }
             Stage::Made {
                 place,
                 key,
                 columns,
                 logged,
-            } => Ok(overwrite(tree, log, number, place, key, columns, logged)),
-            Stage::Taken { place, key, before } => Ok(hide(tree, log, number, place, key, before)),
+            } => Ok(Committed {
+                commit: overwrite(tree, log, number, place, key, columns, logged),
+                steps: 2,
+            }),
+            Stage::Taken { place, key, before } => Ok(Committed {
+                commit: hide(tree, log, number, place, key, before),
+                steps: 2,
+            }),
             stage => Err(stage),
         }
     }
@@ -123,15 +113,12 @@ impl Write {
         };
         let _arena = tree.free_numbers();
         let _reserved = log.number();
-        let (stage, writes) = self.insert(tree, stage);
-        let _inserted = tree.free_numbers();
         match self.commit(tree, log, stage) {
-            Ok(commit) => {
+            Ok(committed) => {
                 let _appended = log.number();
                 let _committed = tree.free_numbers();
                 log.trim();
-                let steps = writes + 2;
-                AtBorder::Commits(Committed { commit, steps })
+                AtBorder::Commits(committed)
             }
             Err(stage) => AtBorder::Ready(stage),
         }
@@ -170,6 +157,7 @@ impl Write {
         requires idle { self.old.stage ≡ Stage.Seeks }
         requires here { Visits tree.old self.old.key self.old.way Went.Here }
         requires finds { Finds tree.old self.old.key self.old.way found }
+        requires sound { IsSomeAnd (border_at tree.old.nodes self.old.way.node.0) IsBorder }
         requires unlocked { IsSomeAnd (border_at tree.old.nodes self.old.way.node.0) (λ b. b.version.locked ≡ false) }
         ensures runs { HasRun columns (state tree.old log.old self.old) result (state tree.new log.new self.new) }
         ensures some { 0 < result.steps }

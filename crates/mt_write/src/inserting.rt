@@ -74,10 +74,7 @@ fn new_row(alloc: Global, row: &NewRow<'_>) -> Result<(SlotKey, Row), NoMemory>
 }
 
 // The same, and a copy of the key and the columns, for the log.
-fn new_logged(
-    alloc: Global,
-    row: &NewRow<'_>,
-) -> Result<(SlotKey, Row, Key, Columns), NoMemory>
+fn new_logged(alloc: Global, row: &NewRow<'_>) -> Result<(SlotKey, Row, Key, Columns), NoMemory>
     requires { 8 * row.now.way.layer ≤ length row.now.key.now - 1 }
     ensures key { IfOk result (λ made. made.0 ≡ key_of_rest (rest_of row.now.key.now row.now.way)) }
     ensures whole { IfOk result (λ made. IsKey (key_seen made.0)) }
@@ -151,7 +148,6 @@ pub fn write_slot(tree: &mut Tree, number: NodeNo, slot_key: SlotKey, row: Row)
 {
     tree.write_key(number, slot_key);
     let _arena = tree.free_numbers();
-    let _border = tree.border(number);
     tree.write_value(number, row);
 }
 
@@ -184,7 +180,6 @@ pub fn insert_unread(
     };
     mark(tree, row.way.node);
     let _arena = tree.free_numbers();
-    let _marked = tree.border(row.way.node);
     write_slot(tree, row.way.node, slot_key, new);
     Ok(())
 }

@@ -27,7 +27,8 @@ impl Write {
     ) -> Result<Option<Committed>, Refusal>
         requires may { (C : ℕ) × MayAct C tree.old log.old self.now found }
         requires unread { IsUnread log.old }
-        ensures { (C : ℕ) → CommitsUnread C tree.old tree.new log.old log.new self.now result }
+        ensures { (C : ℕ) → MayAct C tree.old log.old self.now found
+            → CommitsUnread C tree.old tree.new log.old log.new self.now result }
     {
         let _bytes = rest_of(&self.key, self.way.layer);
         let (Edit::Remove, Found::Row(place)) = (&self.edit, found) else {
@@ -36,6 +37,7 @@ impl Write {
         let _border = tree.border(self.way.node);
         log.reserve()?;
         tree.hide_row(self.way.node, place);
+        let _hidden = tree.free_numbers();
         log.pass();
         Ok(Some(Committed {
             commit: log.number(),
@@ -80,6 +82,7 @@ impl Write {
                 log.pass();
                 let version = log.number();
                 drop(tree.set_value(self.way.node, place, Row { version, columns }));
+                let _written = tree.free_numbers();
                 Ok(Some(Committed {
                     commit: version,
                     steps: 2,
@@ -91,6 +94,7 @@ impl Write {
                 log.pass();
                 let version = log.number();
                 tree.show(self.way.node, place, version);
+                let _shown = tree.free_numbers();
                 Ok(Some(Committed {
                     commit: version,
                     steps: 4,

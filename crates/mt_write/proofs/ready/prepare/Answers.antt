@@ -23,7 +23,7 @@ returns-in-Ok-clause-fault c =
       | in-Absent+else-is_full w ↦ λ b named.
           let here = one_border (border_at c.args.tree.now.nodes c.args.row.now.way.node.0) w.border.result.now b w.border.ensures.value named in
           by_found c.args.found c.match-found.made _ _ b w.in-Absent.is w.made-is
-          (room_ready c.args.tree.now c.args.log.now b w.in-Absent.place _ (subst (λ (x : BorderView). length x.live < SLOTS) here (w.is_full.ensures.room.0 w.if-is_full.false)) (some_at _ (border_at c.args.tree.now.nodes c.args.row.now.way.node.0) b w.fill.ensures.fault named))
+          (room_ready c.args.tree.now c.args.log.now b w.in-Absent.place _ (subst (λ (x : BorderView). length x.live < SLOTS) here (w.is_full.ensures.room.0 w.if-is_full.false)) (some_at _ (border_at c.args.tree.now.nodes c.args.row.now.way.node.0) b w.reserve.ensures.fault named))
       | in-OtherSuffix w ↦ λ b named. by_found c.args.found c.match-found.made _ _ b w.in-OtherSuffix.is w.made-is w.spare_layer-made.ensures.fault
     ])
   where

@@ -68,6 +68,18 @@ go_below-requires c = (c.args.columns, c.args.log.now, may_be c.args.columns c.a
 pub returns-in-Layered : goal.returns-in-Layered
 returns-in-Layered c = at_step c.args.columns c.args.tree.now c.go_below.new.tree c.args.log.now c.args.log.now c.args.self.now c.replace.new.dest _ c.go_below.result c.go_below.new.self (sym c.replace.ensures.value ∙ c.in-Layered.is) (c.go_below.ensures c.args.columns c.args.log.now)
 
+pub write_key-requires : goal.write_key-requires
+write_key-requires c = (c.args.columns, c.args.log.now, may_be c.args.columns c.args.tree.now c.args.log.now c.args.self.now c.replace.new.dest _ (sym c.replace.ensures.value ∙ c.in-Reserved.is) c.requires)
+
+pub returns-in-Reserved : goal.returns-in-Reserved
+returns-in-Reserved c = at_step c.args.columns c.args.tree.now c.write_key.new.tree c.args.log.now c.args.log.now c.args.self.now c.replace.new.dest _ c.write_key.result c.write_key.new.self (sym c.replace.ensures.value ∙ c.in-Reserved.is) (c.write_key.ensures c.args.columns c.args.log.now)
+
+pub write_value-requires : goal.write_value-requires
+write_value-requires c = (c.args.columns, c.args.log.now, may_be c.args.columns c.args.tree.now c.args.log.now c.args.self.now c.replace.new.dest _ (sym c.replace.ensures.value ∙ c.in-KeyWritten.is) c.requires)
+
+pub returns-in-KeyWritten : goal.returns-in-KeyWritten
+returns-in-KeyWritten c = at_step c.args.columns c.args.tree.now c.write_value.new.tree c.args.log.now c.args.log.now c.args.self.now c.replace.new.dest _ c.write_value.result c.write_value.new.self (sym c.replace.ensures.value ∙ c.in-KeyWritten.is) (c.write_value.ensures c.args.columns c.args.log.now)
+
 pub show_row-requires : goal.show_row-requires
 show_row-requires c = (c.args.columns, may_be c.args.columns c.args.tree.now c.args.log.now c.args.self.now c.replace.new.dest _ (sym c.replace.ensures.value ∙ c.in-Filled.is) c.requires)
 

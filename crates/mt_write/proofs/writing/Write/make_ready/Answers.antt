@@ -4,14 +4,21 @@ use Rattle.mt_border.specs.Border.{BorderView, with_unlocked}
 use Rattle.mt_arena.specs.Node.{border_at}
 use Rattle.mt_arena.specs.Arena.{ArenaView, with_border_changed}
 use Rattle.mt_tree.specs.Keeping.{KeepsTree}
+use Rattle.mt_border.specs.declared.unwritten.Unwritten.TheVariants.{Nothing}
 use Rattle.mt_write.proofs.StageSteps.{turned}
 use Rattle.mt_write.proofs.writing.Write.make_ready.Goals as goal
 
-pub unlock_border-requires : goal.unlock_border-requires
-unlock_border-requires c =
+pub unlock_border-requires-clause-locked : goal.unlock_border-requires-clause-locked
+unlock_border-requires-clause-locked c =
     let (b, at) = c.requires.true.0 in
     subst (λ (x : ArenaView). IsSomeAnd (border_at x.nodes c.args.self.now.way.node.0) (λ b. b.version.locked ≡ true)) (sym (c.ready.ensures.none c.in_default.is).0)
     (subst (λ (o : Option BorderView). IsSomeAnd o (λ b. b.version.locked ≡ true)) (sym at.named) at.locked)
+
+pub unlock_border-requires-clause-written : goal.unlock_border-requires-clause-written
+unlock_border-requires-clause-written c =
+    let (b, at) = c.requires.true.0 in
+    subst (λ (x : ArenaView). IsSomeAnd (border_at x.nodes c.args.self.now.way.node.0) (λ b. b.unwritten ≡ Nothing)) (sym (c.ready.ensures.none c.in_default.is).0)
+    (subst (λ (o : Option BorderView). IsSomeAnd o (λ b. b.unwritten ≡ Nothing)) (sym at.named) at.written)
 
 pub returns-in_default : goal.returns-in_default
 returns-in_default c =
