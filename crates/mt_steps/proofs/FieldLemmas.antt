@@ -5,68 +5,54 @@ use Rattle.std.specs.Option.{option_map}
 use Rattle.std.proofs.lemmas.Bool.{ltb-true, ltb-false}
 use Rattle.mt_types.specs.Rows.{shown}
 use Rattle.mt_types.specs.declared.numbers.NodeNo.{NodeNo}
-use Rattle.mt_slice.specs.Place.{Place, AreBytes, place_of, slice_number}
-use Rattle.mt_border.specs.Border.{BorderView}
-use Rattle.mt_border.specs.Slots.{slot_at}
-use Rattle.mt_border.specs.declared.entry.Content.{Content}
-use Rattle.mt_border.specs.declared.entry.Content.TheVariants.{Short, Long, Link}
-use Rattle.mt_border.specs.Order.{IsBorder}
-use Rattle.mt_border.specs.declared.entry.RightLink.{RightLink}
-use Rattle.mt_arena.specs.Arena.{ArenaView}
-use Rattle.mt_arena.specs.Node.{border_at}
-use Rattle.mt_chart.specs.Tree.{Arena, Right, Below}
-use Rattle.mt_chart.specs.Chart.{Holds}
-use Rattle.mt_chart.specs.Walk.{Trail}
-use Rattle.mt_chart.proofs.ReadingStay.{right_held, climbs_right}
-use Rattle.mt_tree.specs.Seen.{arena_seen, border_seen, right_seen, content_seen}
-use Rattle.mt_tree.specs.Fields.{fields_seen}
-use Rattle.mt_tree.proofs.DescentLemmas.{slice_of_place}
-use Rattle.mt_steps.specs.Reader.{bounded, by_visit, counters_of, looked, settled}
-use Rattle.mt_steps.specs.declared.way.Way.{Way}
-use Rattle.mt_steps.specs.declared.reader.Counters.{Counters}
-use Rattle.mt_steps.specs.Finding.{Finding}
-use Rattle.mt_steps.specs.declared.reader.Reader.TheVariants.{Begins, Looked, Bounded, Reads, AtValue, Settles}
-use Rattle.mt_steps.specs.Finding.{FindReading}
-use Rattle.mt_steps.specs.declared.reader.Reading.TheVariants.{Restarts, Repeats, GoesOn, To, Finds}
 use Rattle.mt_types.specs.declared.event.Request.TheVariants.{Get as GetRequest}
 use Rattle.mt_types.specs.declared.event.Answer.TheVariants.{Absent as AbsentAnswer, Found}
-use Rattle.mt_steps.specs.Getting.{AtBorder, HasBound, FindingIsTrue, reads_made}
-use Rattle.mt_steps.specs.Standing.{counters_seen, Still}
-use Rattle.mt_steps.proofs.StandLemmas.{looks_at, holds_on, bound, there_now, few_live, orders_now, still_so}
-use Rattle.mt_steps.specs.World.{World, IsWorld}
-use Rattle.mt_steps.specs.Way.{IsOnWay, prefix_of, rest_of}
-use Rattle.mt_steps.specs.Step.{IsRight}
+use Rattle.mt_slice.specs.Place.{Place, AreBytes, place_of, slice_number, rest_at, slices_above}
 use Rattle.mt_word.specs.Slots.{Slots}
-use Rattle.mt_chart.specs.Tree.{border}
-use Rattle.mt_chart.specs.ScanRun.{Stood, Lacked}
-use Rattle.mt_chart.specs.Noted.{FieldsSeen}
-use Rattle.mt_chart.specs.Reading.{Searches, Stops}
-use Rattle.mt_chart.proofs.HeldNodes.{evolves_same}
-use Rattle.mt_chart.proofs.ReadingLemmas.{lacks}
-use Rattle.mt_chart.proofs.ReadingKeys.{stops_at_end}
-use Rattle.mt_chart.proofs.ReadingStay.{searches_stay, ages_none}
-use Rattle.mt_tree.proofs.AgeLemmas.{are_slots}
-use Rattle.mt_steps.specs.declared.finding.Sight.TheVariants.{Absent as AbsentSight}
-use Rattle.mt_steps.specs.Finding.{settles, next_key}
-use Rattle.mt_border.specs.declared.entry.Entry.{Entry}
-use Rattle.mt_steps.specs.declared.finding.Kind.TheVariants.{Row as RowKind, Link as LinkKind}
-use Rattle.mt_slice.specs.Place.{rest_at, slices_above}
+use Rattle.mt_border.specs.Border.{BorderView}
+use Rattle.mt_border.specs.Slots.{slot_at}
+use Rattle.mt_border.specs.Order.{IsBorder}
 use Rattle.mt_border.specs.Parts.{IsValueOf}
+use Rattle.mt_border.specs.declared.entry.Content.{Content}
+use Rattle.mt_border.specs.declared.entry.Content.TheVariants.{Short, Long, Link}
+use Rattle.mt_border.specs.declared.entry.RightLink.{RightLink}
+use Rattle.mt_border.specs.declared.entry.Entry.{Entry}
 use Rattle.mt_border.specs.declared.field.ValuePart.{ValuePart}
 use Rattle.mt_border.specs.declared.field.ValuePart.TheVariants.{Row as RowPart, Link as LinkPart}
-use Rattle.mt_chart.specs.Tree.{link}
-use Rattle.mt_chart.specs.Walk.{moves as trail_moves}
-use Rattle.mt_chart.specs.Reading.{row_in}
-use Rattle.mt_chart.proofs.ReadingKeys.{row_stood, no_row_under_link, link_held}
-use Rattle.mt_chart.proofs.ReadingStay.{row_key_stays, link_key_stays, climbs_below}
+use Rattle.mt_arena.specs.Arena.{ArenaView}
+use Rattle.mt_arena.specs.Node.{border_at}
+use Rattle.mt_chart.specs.Tree.{Arena, Right, Below, border, link}
+use Rattle.mt_chart.specs.Chart.{Holds}
+use Rattle.mt_chart.specs.Walk.{Trail, moves as trail_moves}
+use Rattle.mt_chart.specs.ScanRun.{Stood, Lacked}
+use Rattle.mt_chart.specs.Noted.{FieldsSeen}
+use Rattle.mt_chart.specs.Reading.{Searches, Stops, row_in}
+use Rattle.mt_chart.proofs.ReadingStay.{right_held, climbs_right, searches_stay, ages_none, row_key_stays, link_key_stays, climbs_below}
+use Rattle.mt_chart.proofs.HeldNodes.{evolves_same}
+use Rattle.mt_chart.proofs.ReadingLemmas.{lacks}
+use Rattle.mt_chart.proofs.ReadingKeys.{stops_at_end, row_stood, no_row_under_link, link_held}
+use Rattle.mt_tree.specs.Seen.{arena_seen, border_seen, right_seen, content_seen}
+use Rattle.mt_tree.specs.Fields.{fields_seen}
 use Rattle.mt_tree.specs.declared.visit.Visit.{Visit}
 use Rattle.mt_tree.specs.declared.visit.Visit.TheVariants.{Again as VisitAgain, To as VisitTo, Below as VisitBelow, Here as VisitHere}
+use Rattle.mt_tree.proofs.DescentLemmas.{slice_of_place}
+use Rattle.mt_tree.proofs.AgeLemmas.{are_slots}
+use Rattle.mt_steps.specs.Reader.{bounded, by_visit, counters_of, looked, settled}
+use Rattle.mt_steps.specs.Finding.{Finding, FindReading, settles, next_key, value_read, at_order, notes_at}
+use Rattle.mt_steps.specs.Getting.{AtBorder, HasBound, FindingIsTrue, reads_made, IsPlaceOf, GoesDeeper, KeyIsTrue, Fits, SightIsTrue}
+use Rattle.mt_steps.specs.Standing.{counters_seen, Still}
+use Rattle.mt_steps.specs.World.{World, IsWorld}
+use Rattle.mt_steps.specs.Way.{IsOnWay, prefix_of, rest_of, Visits, went_by}
+use Rattle.mt_steps.specs.Step.{IsRight}
+use Rattle.mt_steps.specs.declared.way.Way.{Way}
+use Rattle.mt_steps.specs.declared.reader.Counters.{Counters}
+use Rattle.mt_steps.specs.declared.reader.Reader.TheVariants.{Begins, Looked, Bounded, Reads, AtValue, Settles}
+use Rattle.mt_steps.specs.declared.reader.Reading.TheVariants.{Restarts, Repeats, GoesOn, To, Finds}
+use Rattle.mt_steps.specs.declared.finding.Sight.TheVariants.{Absent as AbsentSight, Row as RowSight, Link as LinkSight}
+use Rattle.mt_steps.specs.declared.finding.Kind.TheVariants.{Row as RowKind, Link as LinkKind}
 use Rattle.mt_steps.specs.declared.finding.Kind.{Kind}
 use Rattle.mt_steps.specs.declared.finding.Sight.{Sight}
-use Rattle.mt_steps.specs.declared.finding.Sight.TheVariants.{Row as RowSight, Link as LinkSight}
-use Rattle.mt_steps.specs.Finding.{value_read, at_order, notes_at}
-use Rattle.mt_steps.specs.Getting.{IsPlaceOf, GoesDeeper, KeyIsTrue, Fits, SightIsTrue}
-use Rattle.mt_steps.specs.Way.{Visits, went_by}
+use Rattle.mt_steps.proofs.StandLemmas.{looks_at, holds_on, bound, there_now, few_live, orders_now, still_so}
 use Rattle.mt_steps.proofs.WayLemmas.{layer_below}
 use Rattle.mt_steps.proofs.ReaderLemmas.{looked_by, bounded_by, settled_by}
 

@@ -1,67 +1,57 @@
 -- A get that reads the key of a slot: what it knows then, and where that leads.
 use Rattle.std.proofs.Common.{ℕ, ◌≡◌, ◌≢◌, ◌<◌, ◌≤◌, ◌+◌, ◌⊎◌, inl, inr, Bool, true, false, cond, ◌||◌, ◌&&◌, ◌==◌, List, [], ◌∷◌, length, drop, slice_get, Option, Some, None, refl, sym, ap, subst, ◌∙◌, arith}
-use Rattle.std.specs.Prelude.{slice_index, nat_lt, nat_le}
+use Rattle.std.specs.Prelude.{slice_index, nat_lt, nat_le, unwrap_or}
 use Rattle.std.specs.Option.{option_copied, option_map}
+use Rattle.std.specs.Str.{bytes_eq}
 use Rattle.std.proofs.lemmas.Bool.{lt-ltb, le-ltb, ltb-true, leb-true, le-leb, eq-eqb, or_right, cases_lt, cases_Bool, cond-true, cond-false}
 use Rattle.std.proofs.lemmas.List.{drop_all}
 use Rattle.std.proofs.lemmas.Bool.Decides.{eqb_tells}
+use Rattle.std.proofs.lemmas.Slice.Eq.{bytes_eq-Decides}
+use Rattle.std.proofs.lemmas.Option.{slice_get-get_or}
 use Rattle.mt_types.specs.Rows.{shown}
 use Rattle.mt_types.specs.declared.numbers.NodeNo.{NodeNo}
+use Rattle.mt_types.specs.declared.row.Row.{Row}
 use Rattle.mt_slice.specs.Place.{Place, last, deeper, AreBytes, place_of, first_slice, first_class, slice_number}
 use Rattle.mt_slice.specs.Classes.{class_number, class_of, place_at}
 use Rattle.mt_slice.specs.declared.slice_class.Class.{Class}
 use Rattle.mt_slice.specs.declared.slice_class.Class.TheVariants.{Len, Long as LongClass}
 use Rattle.mt_slice.proofs.PlaceOn.{place_of-place_at, place_of-short, place_of-long}
-use Rattle.mt_border.specs.Border.{BorderView}
-use Rattle.mt_border.specs.Entry.{content_class, entry_class, entry_suffix}
-use Rattle.mt_border.specs.Slots.{slot_at, key_at}
-use Rattle.mt_border.specs.declared.entry.Content.{Content}
-use Rattle.mt_border.specs.declared.entry.Content.TheVariants.{Short, Long, Link}
-use Rattle.mt_border.specs.Order.{IsBorder}
-use Rattle.mt_border.specs.declared.entry.RightLink.{RightLink}
-use Rattle.mt_arena.specs.Arena.{ArenaView}
-use Rattle.mt_chart.specs.Tree.{Arena}
-use Rattle.mt_chart.specs.Chart.{class}
-use Rattle.mt_tree.specs.Seen.{arena_seen, right_seen, entry_seen, content_seen}
-use Rattle.mt_tree.specs.Fields.{fields_seen}
-use Rattle.mt_tree.proofs.DescentLemmas.{slice_of_place}
-use Rattle.mt_steps.specs.declared.way.Way.{Way}
-use Rattle.mt_steps.specs.declared.reader.Counters.{Counters}
-use Rattle.mt_steps.specs.declared.reader.Reader.TheVariants.{Reads, AtValue}
-use Rattle.mt_steps.specs.Finding.{FindReading}
-use Rattle.mt_steps.specs.declared.reader.Reading.TheVariants.{GoesOn}
-use Rattle.mt_steps.specs.Finding.{is_before}
-use Rattle.mt_steps.specs.Getting.{AtBorder, HasBound}
-use Rattle.mt_steps.specs.Standing.{Still}
-use Rattle.mt_steps.proofs.StandLemmas.{key_of_still}
-use Rattle.mt_steps.specs.World.{World, IsWorld}
-use Rattle.mt_steps.specs.Way.{prefix_of, rest_of}
-use Rattle.mt_types.specs.declared.row.Row.{Row}
-use Rattle.mt_word.specs.Slots.{Slots}
-use Rattle.mt_chart.specs.Noted.{FieldsSeen}
-use Rattle.mt_chart.specs.Reading.{Searches, Stops}
-use Rattle.mt_steps.specs.declared.finding.Sight.TheVariants.{Absent as AbsentSight}
-use Rattle.mt_steps.specs.Finding.{settles, next_key}
-use Rattle.std.specs.Prelude.{unwrap_or}
-use Rattle.std.specs.Str.{bytes_eq}
-use Rattle.std.proofs.lemmas.Slice.Eq.{bytes_eq-Decides}
-use Rattle.std.proofs.lemmas.Option.{slice_get-get_or}
 use Rattle.mt_slice.proofs.Slices.{bytes-drop}
 use Rattle.mt_slice.proofs.Canonical.{same_from_place_of}
-use Rattle.mt_border.specs.Entry.{content_suffix}
+use Rattle.mt_word.specs.Slots.{Slots}
+use Rattle.mt_border.specs.Border.{BorderView}
+use Rattle.mt_border.specs.Entry.{content_class, entry_class, entry_suffix, content_suffix}
+use Rattle.mt_border.specs.Slots.{slot_at, key_at}
+use Rattle.mt_border.specs.Order.{IsBorder}
 use Rattle.mt_border.specs.Keys.{KeyView, content_mark as part_mark, entry_key, part_bytes, IsRest, IsKeyPart}
+use Rattle.mt_border.specs.declared.entry.Content.{Content}
+use Rattle.mt_border.specs.declared.entry.Content.TheVariants.{Short, Long, Link}
+use Rattle.mt_border.specs.declared.entry.RightLink.{RightLink}
 use Rattle.mt_border.specs.declared.entry.Entry.{Entry}
 use Rattle.mt_border.specs.declared.field.KeyPart.{KeyPart}
 use Rattle.mt_border.specs.declared.field.Mark.{Mark}
 use Rattle.mt_border.specs.declared.field.Mark.TheVariants.{Plain, Unstable, Layer}
-use Rattle.mt_chart.specs.Tree.{HoldsRow}
-use Rattle.mt_chart.specs.Reading.{StandsBefore, StandsAfter, HasLinkKey}
+use Rattle.mt_arena.specs.Arena.{ArenaView}
+use Rattle.mt_chart.specs.Tree.{Arena, HoldsRow}
+use Rattle.mt_chart.specs.Chart.{class}
+use Rattle.mt_chart.specs.Noted.{FieldsSeen}
+use Rattle.mt_chart.specs.Reading.{Searches, Stops, StandsBefore, StandsAfter, HasLinkKey}
 use Rattle.mt_chart.proofs.ReadingKeys.{noted_at, passes_key, stops_after, stops_other, finds_row, finds_link}
-use Rattle.mt_tree.specs.Fields.{content_mark}
-use Rattle.mt_tree.proofs.DescentLemmas.{class_long}
+use Rattle.mt_tree.specs.Seen.{arena_seen, right_seen, entry_seen, content_seen}
+use Rattle.mt_tree.specs.Fields.{fields_seen, content_mark}
+use Rattle.mt_tree.proofs.DescentLemmas.{slice_of_place, class_long}
+use Rattle.mt_steps.specs.Finding.{FindReading, is_before, settles, next_key, key_found, key_compared, key_read, notes_at, FindNotes}
+use Rattle.mt_steps.specs.Getting.{AtBorder, HasBound}
+use Rattle.mt_steps.specs.Standing.{Still}
+use Rattle.mt_steps.specs.World.{World, IsWorld}
+use Rattle.mt_steps.specs.Way.{prefix_of, rest_of}
+use Rattle.mt_steps.specs.declared.way.Way.{Way}
+use Rattle.mt_steps.specs.declared.reader.Counters.{Counters}
+use Rattle.mt_steps.specs.declared.reader.Reader.TheVariants.{Reads, AtValue}
+use Rattle.mt_steps.specs.declared.reader.Reading.TheVariants.{GoesOn}
+use Rattle.mt_steps.specs.declared.finding.Sight.TheVariants.{Absent as AbsentSight}
 use Rattle.mt_steps.specs.declared.finding.Kind.TheVariants.{Row as RowKind, Link as LinkKind}
-use Rattle.mt_steps.specs.Finding.{key_found, key_compared, key_read}
-use Rattle.mt_steps.specs.Finding.{notes_at, FindNotes}
+use Rattle.mt_steps.proofs.StandLemmas.{key_of_still}
 use Rattle.mt_steps.proofs.ReaderLemmas.{marked_by}
 use Rattle.mt_steps.proofs.FieldLemmas.{LeadsTo, on_border, searches_later, lacks_then, settles_none, next_leads}
 

@@ -37,18 +37,16 @@ use Rattle.mt_tree.specs.Fields.{content_mark, fields_seen}
 use Rattle.mt_tree.specs.Seen.{arena_seen, right_seen, entry_seen, entries_seen, content_seen}
 use Rattle.mt_tree.proofs.AgeLemmas.{are_slots}
 use Rattle.mt_steps.specs.Reader.{HasNext, bounded, looked, settled}
+use Rattle.mt_steps.specs.Listing.{ListNotes, ListReading, list_next, list_at_order, value_kept, key_read_of, is_before_link, kept_with, one_more, list_key, list_value, AreFew, ShowsKey, HasKey, ListsSlots, NotesAreTrue, IsReadList, ListLeads}
+use Rattle.mt_steps.specs.Standing.{counters_seen, StandsAt, Still, IsBounded}
+use Rattle.mt_steps.specs.World.{World, IsWorld}
 use Rattle.mt_steps.specs.declared.reader.Counters.{Counters}
 use Rattle.mt_steps.specs.declared.listing.KeyRead.{KeyRead}
 use Rattle.mt_steps.specs.declared.listing.SlotKey.{SlotKey}
 use Rattle.mt_steps.specs.declared.listing.Listed.{Listed}
 use Rattle.mt_steps.specs.declared.listing.KeyRead.TheVariants.{Short as ShortKey, Long as LongKey, Layer as LayerKey}
-use Rattle.mt_steps.specs.Listing.{ListNotes}
 use Rattle.mt_steps.specs.declared.reader.Reader.TheVariants.{Bounded, Reads, AtValue, Settles}
-use Rattle.mt_steps.specs.Listing.{ListReading}
 use Rattle.mt_steps.specs.declared.reader.Reading.TheVariants.{GoesOn}
-use Rattle.mt_steps.specs.Listing.{list_next, list_at_order, value_kept, key_read_of, is_before_link, kept_with, one_more, list_key, list_value, AreFew, ShowsKey, HasKey, ListsSlots, NotesAreTrue, IsReadList, ListLeads}
-use Rattle.mt_steps.specs.Standing.{counters_seen, StandsAt, Still, IsBounded}
-use Rattle.mt_steps.specs.World.{World, IsWorld}
 use Rattle.mt_steps.proofs.StandLemmas.{looks_at, bound, there_now, few_live, orders_now, still_so, key_of_still}
 use Rattle.mt_steps.proofs.ReaderLemmas.{looked_by, bounded_by, marked_by, settled_by}
 

@@ -8,10 +8,10 @@ use Rattle.mt_types.specs.declared.numbers.NodeNo.{NodeNo}
 use Rattle.mt_word.specs.Version.{is_flagged}
 use Rattle.mt_border.specs.Border.{BorderView}
 use Rattle.mt_border.specs.Keys.{KeyView, content_mark, entry_key}
-use Rattle.mt_border.specs.declared.field.Mark.TheVariants.{Unstable}
 use Rattle.mt_border.specs.Order.{IsBorder, IsUnwritten}
 use Rattle.mt_border.specs.Slots.{slot_at, key_in, key_at}
 use Rattle.mt_border.specs.Table.{number_at, next_number}
+use Rattle.mt_border.specs.declared.field.Mark.TheVariants.{Unstable}
 use Rattle.mt_border.specs.declared.unwritten.Unwritten.{Unwritten}
 use Rattle.mt_border.specs.declared.unwritten.Unwritten.TheVariants.{Nothing, Value}
 use Rattle.mt_border.specs.declared.entry.Content.{Content}

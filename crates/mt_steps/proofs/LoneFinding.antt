@@ -35,21 +35,19 @@ use Rattle.mt_tree.specs.Seen.{arena_seen, entries_seen}
 use Rattle.mt_tree.specs.declared.visit.Visit.{Visit}
 use Rattle.mt_tree.specs.declared.visit.Visit.TheVariants.{Again as VisitAgain, To as VisitTo, Below as VisitBelow, Here as VisitHere}
 use Rattle.mt_steps.specs.Reader.{bounded, by_visit, counters_of, looked, settled, wants}
-use Rattle.mt_steps.specs.declared.reader.Counters.{Counters}
-use Rattle.mt_steps.specs.Finding.{Finding}
-use Rattle.mt_steps.specs.declared.reader.Reader.TheVariants.{Begins, Looked, Bounded, Reads, AtValue, Settles}
-use Rattle.mt_steps.specs.declared.finding.Kind.{Kind}
-use Rattle.mt_steps.specs.declared.finding.Kind.TheVariants.{Row as RowKind, Link as LinkKind}
-use Rattle.mt_steps.specs.Finding.{FindReading}
-use Rattle.mt_steps.specs.declared.reader.Reading.TheVariants.{GoesOn, To, Finds}
-use Rattle.mt_steps.specs.declared.finding.Sight.{Sight}
-use Rattle.mt_steps.specs.declared.finding.Sight.TheVariants.{Absent, Row as RowSight, Link as LinkSight}
-use Rattle.mt_steps.specs.declared.getting.Get.{Get}
-use Rattle.mt_steps.specs.Finding.{next_key, key_found, is_before, key_compared, key_read, value_read, settles, notes_at, FindNotes}
+use Rattle.mt_steps.specs.Finding.{Finding, FindReading, next_key, key_found, is_before, key_compared, key_read, value_read, settles, notes_at, FindNotes}
 use Rattle.mt_steps.specs.Getting.{reading_of}
 use Rattle.mt_steps.specs.Standing.{Lends}
 use Rattle.mt_steps.specs.Way.{rest_of}
 use Rattle.mt_steps.specs.World.{is_locked}
+use Rattle.mt_steps.specs.declared.reader.Counters.{Counters}
+use Rattle.mt_steps.specs.declared.reader.Reader.TheVariants.{Begins, Looked, Bounded, Reads, AtValue, Settles}
+use Rattle.mt_steps.specs.declared.finding.Kind.{Kind}
+use Rattle.mt_steps.specs.declared.finding.Kind.TheVariants.{Row as RowKind, Link as LinkKind}
+use Rattle.mt_steps.specs.declared.reader.Reading.TheVariants.{GoesOn, To, Finds}
+use Rattle.mt_steps.specs.declared.finding.Sight.{Sight}
+use Rattle.mt_steps.specs.declared.finding.Sight.TheVariants.{Absent, Row as RowSight, Link as LinkSight}
+use Rattle.mt_steps.specs.declared.getting.Get.{Get}
 use Rattle.mt_steps.proofs.LoneFields.{never, IsNow, VisitMoves, head_moves, interior_moves, unflagged, counters_same, key_of_unlocked, never_unstable, right_moves, link_moves, link_among, border_alive, border_unlocked}
 use Rattle.mt_steps.proofs.PartLemmas.{lends_field, version_part, right_part, order_part, key_part, value_part, head_part, interior_part}
 use Rattle.mt_steps.proofs.ReaderLemmas.{looked_by, bounded_by, marked_by, settled_by}

@@ -32,26 +32,23 @@ use Rattle.mt_arena.specs.declared.part.Field.TheVariants.{Version as VersionFie
 use Rattle.mt_arena.specs.declared.part.Part.{Part}
 use Rattle.mt_chart.specs.Tree.{short, long, link, Among, first, later, PlainContent, PlainEntry}
 use Rattle.mt_chart.specs.Walk.{Moves}
-use Rattle.mt_scan.specs.Onward.{LeadsOn}
 use Rattle.mt_tree.specs.Descent.{visit_head, visit_interior, is_marked}
 use Rattle.mt_tree.specs.Seen.{arena_seen, entry_seen, entries_seen, right_seen}
 use Rattle.mt_tree.specs.declared.visit.Visit.{Visit}
 use Rattle.mt_tree.specs.declared.visit.Visit.TheVariants.{Again as VisitAgain, To as VisitTo, Below as VisitBelow, Here as VisitHere}
+use Rattle.mt_scan.specs.Onward.{LeadsOn}
+use Rattle.mt_scan.specs.Listed.{list_of}
 use Rattle.mt_steps.specs.Reader.{MayRead, HasNext, bounded, by_visit, counters_of, looked, settled, wants}
+use Rattle.mt_steps.specs.Listing.{Listing, ListReading, ListNotes, list_next, key_read_of, entry_for, is_before_link, kept_with, one_more, list_key, value_kept, list_reading, AreFew}
+use Rattle.mt_steps.specs.Standing.{Lends}
+use Rattle.mt_steps.specs.World.{is_locked}
 use Rattle.mt_steps.specs.declared.reader.Counters.{Counters}
 use Rattle.mt_steps.specs.declared.listing.KeyRead.{KeyRead}
 use Rattle.mt_steps.specs.declared.listing.SlotKey.{SlotKey}
 use Rattle.mt_steps.specs.declared.listing.Listed.{Listed}
-use Rattle.mt_scan.specs.Listed.{list_of}
 use Rattle.mt_steps.specs.declared.listing.KeyRead.TheVariants.{Short as ShortKey, Long as LongKey, Layer as LayerKey}
-use Rattle.mt_steps.specs.Listing.{Listing}
 use Rattle.mt_steps.specs.declared.reader.Reader.TheVariants.{Begins, Looked, Bounded, Reads, AtValue, Settles}
-use Rattle.mt_steps.specs.Listing.{ListReading}
 use Rattle.mt_steps.specs.declared.reader.Reading.TheVariants.{GoesOn, To, Finds}
-use Rattle.mt_steps.specs.Listing.{ListNotes}
-use Rattle.mt_steps.specs.Listing.{list_next, key_read_of, entry_for, is_before_link, kept_with, one_more, list_key, value_kept, list_reading, AreFew}
-use Rattle.mt_steps.specs.Standing.{Lends}
-use Rattle.mt_steps.specs.World.{is_locked}
 use Rattle.mt_steps.proofs.LoneFields.{never, IsNow, VisitMoves, head_moves, interior_moves, unflagged, counters_same, key_of_unlocked, never_unstable, right_moves, right_seen_moves, link_moves, link_among, border_alive, border_unlocked}
 use Rattle.mt_steps.proofs.PartLemmas.{lends_field, version_part, right_part, order_part, key_part, value_part, head_part, interior_part}
 use Rattle.mt_steps.proofs.ReaderLemmas.{looked_by, bounded_by, marked_by, settled_by}

@@ -33,22 +33,20 @@ use Rattle.mt_scan.specs.declared.scan.ScanMove.{ScanMove}
 use Rattle.mt_scan.specs.declared.scan.ScanMove.TheVariants.{Done, To as VisitedTo, Top}
 use Rattle.mt_steps.specs.Causes.{ReadFails}
 use Rattle.mt_steps.specs.Reader.{MayRead, IsReader, FailsAt, by_visit, wants}
-use Rattle.mt_steps.specs.Listing.{Listing}
+use Rattle.mt_steps.specs.Listing.{Listing, ListReading, list_reading, ListReads, ListLeads, IsReadList}
+use Rattle.mt_steps.specs.World.{World, IsWorld, IsKeyPlace, AreOfKeys}
+use Rattle.mt_steps.specs.Step.{StepLaw, MayStep, nothing}
+use Rattle.mt_steps.specs.Standing.{Lends}
+use Rattle.mt_steps.specs.Ranging.{range_request, RangeIsTrue, RangeScans, RangeDoes, RangeReads, ListHasKeys, ScanEnds, unread, restarted}
 use Rattle.mt_steps.specs.declared.reader.Reader.TheVariants.{Begins}
-use Rattle.mt_steps.specs.Listing.{ListReading}
 use Rattle.mt_steps.specs.declared.reader.Reading.TheVariants.{Restarts, Repeats, GoesOn, To, Finds}
 use Rattle.mt_steps.specs.declared.progress.Progress.{Progress}
 use Rattle.mt_steps.specs.declared.progress.Progress.TheVariants.{Moved, Waits, Answered, Refused}
 use Rattle.mt_steps.specs.declared.ranging.Range.{Range}
-use Rattle.mt_steps.specs.World.{World, IsWorld, IsKeyPlace, AreOfKeys}
-use Rattle.mt_steps.specs.Step.{StepLaw, MayStep, nothing}
-use Rattle.mt_steps.specs.Standing.{Lends}
-use Rattle.mt_steps.specs.Listing.{list_reading, ListReads, ListLeads, IsReadList}
-use Rattle.mt_steps.specs.Ranging.{range_request, RangeIsTrue, RangeScans, RangeDoes, RangeReads, ListHasKeys, ScanEnds, unread, restarted}
+use Rattle.mt_steps.specs.declared.listing.Listed.{Listed}
 use Rattle.mt_steps.proofs.PartLemmas.{head_part, interior_part}
 use Rattle.mt_steps.proofs.ListSteps.{list_leads, list_within, list_may_read, list_node}
 use Rattle.mt_steps.proofs.RangeLemmas.{all_from, holds_row, in_order, range_waits, range_fails, moves_by, repeats_by, reads_by, goes_by, tops_by, answers_by}
-use Rattle.mt_steps.specs.declared.listing.Listed.{Listed}
 
 -- ---- the rows of what was read are those of keys
 stood_key : (show : Row → Row) (arenas : List Arena) → AreOfKeys arenas → (place : Place) (row : Row) → Stood show arenas place row → IsKeyPlace place

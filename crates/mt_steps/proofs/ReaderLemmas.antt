@@ -1,8 +1,13 @@
 -- What a reader is lent of a node, and why it waits at a head or an interior node.
 use Rattle.std.proofs.Common.{ℕ, ◌≡◌, ◌<◌, ◌≤◌, Bool, true, false, if◌then◌else◌, length, slice_get, Option, Some, None, refl, sym, ap, subst, ◌∙◌}
-use Rattle.std.specs.Prelude.{◌-◌, IsSomeAnd}
+use Rattle.std.specs.Prelude.{◌-◌, IsSomeAnd, nat_le}
 use Rattle.std.specs.Borrow.{Bor}
-use Rattle.std.specs.Option.{option_and_then}
+use Rattle.std.specs.Option.{option_and_then, option_map}
+use Rattle.std.proofs.lemmas.Bool.{leb-true, leb-false}
+use Rattle.mt_word.specs.Version.{VersionView, is_flagged}
+use Rattle.mt_border.specs.declared.entry.RightLink.{RightLink}
+use Rattle.mt_border.specs.declared.field.Mark.{Mark}
+use Rattle.mt_border.specs.declared.field.Mark.TheVariants.{Plain, Unstable, Layer}
 use Rattle.mt_interior.specs.Head.{HeadView}
 use Rattle.mt_interior.specs.Interior.{InteriorView, children_up_to}
 use Rattle.mt_interior.specs.declared.child.Child.{Child}
@@ -14,27 +19,18 @@ use Rattle.mt_arena.specs.declared.node.Node.TheVariants.{Head as HeadNode, Inte
 use Rattle.mt_arena.specs.declared.part.Field.{Field}
 use Rattle.mt_arena.specs.declared.part.Part.{Part}
 use Rattle.mt_arena.specs.declared.part.Part.TheVariants.{Head as HeadPart, Interior as InteriorPart}
+use Rattle.mt_chart.specs.Tree.{Below, no_right, before_right}
 use Rattle.mt_tree.specs.Descent.{visit_head, visit_interior, to_child, is_marked}
+use Rattle.mt_tree.specs.Seen.{right_seen}
 use Rattle.mt_tree.specs.declared.visit.Visit.TheVariants.{Again as VisitAgain, To as VisitTo}
+use Rattle.mt_steps.specs.Reader.{by_visit, IsOn, ReadWaits, MayRead, counters_of, same_counters, by_mark, looked, bounded, settled}
+use Rattle.mt_steps.specs.Standing.{Lends}
 use Rattle.mt_steps.specs.declared.reader.Reader.{Reader}
-use Rattle.mt_steps.specs.declared.reader.Reader.TheVariants.{Begins}
+use Rattle.mt_steps.specs.declared.reader.Reader.TheVariants.{Begins, Looked, Bounded}
 use Rattle.mt_steps.specs.declared.reader.Reading.{Reading}
 use Rattle.mt_steps.specs.declared.reader.Reading.TheVariants.{Restarts, Repeats, GoesOn, To, Finds}
-use Rattle.mt_steps.specs.Reader.{by_visit, IsOn, ReadWaits, MayRead}
-use Rattle.mt_steps.specs.Standing.{Lends}
-use Rattle.mt_steps.proofs.PartLemmas.{no_head, no_interior}
-use Rattle.std.specs.Prelude.{nat_le}
-use Rattle.std.specs.Option.{option_map}
-use Rattle.std.proofs.lemmas.Bool.{leb-true, leb-false}
-use Rattle.mt_word.specs.Version.{VersionView, is_flagged}
-use Rattle.mt_border.specs.declared.entry.RightLink.{RightLink}
-use Rattle.mt_chart.specs.Tree.{Below, no_right, before_right}
-use Rattle.mt_tree.specs.Seen.{right_seen}
 use Rattle.mt_steps.specs.declared.reader.Counters.{Counters}
-use Rattle.mt_steps.specs.declared.reader.Reader.TheVariants.{Looked, Bounded}
-use Rattle.mt_steps.specs.Reader.{counters_of, same_counters, by_mark, looked, bounded, settled}
-use Rattle.mt_border.specs.declared.field.Mark.{Mark}
-use Rattle.mt_border.specs.declared.field.Mark.TheVariants.{Plain, Unstable, Layer}
+use Rattle.mt_steps.proofs.PartLemmas.{no_head, no_interior}
 
 module _ {N K F : Type 0} (a : ArenaView) (number slice : ℕ) (reader : Reader N K F) (may : MayRead a number slice reader) (field : Field) where
   -- the interior that is lent has a child for the slice
