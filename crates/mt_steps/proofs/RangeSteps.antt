@@ -1,21 +1,16 @@
 -- The step of a range that reads one field: its law, by what it is lent.
 use Rattle.std.proofs.Common.{ℕ, ◌≡◌, ◌<◌, ◌^◌, inl, inr, List, [], ◌∷◌, IsSome, refl, sym, ap, subst, ◌∙◌}
 use Rattle.std.specs.Prelude.{Result, Ok, IfOk, false}
-use Rattle.std.specs.Option.{option_map, option_and_then}
+use Rattle.std.specs.Option.{option_map}
 use Rattle.mt_types.specs.Rows.{shown}
 use Rattle.mt_types.specs.declared.refusal.NoMemory.{NoMemory as NoMemoryError}
 use Rattle.mt_types.specs.declared.row.Row.{Row}
-use Rattle.mt_types.specs.declared.refusal.Refusal.TheVariants.{NoMemory}
-use Rattle.mt_types.specs.declared.event.Answer.TheVariants.{Rows as RowsAnswer}
 use Rattle.mt_slice.specs.Place.{Place, place_of, first_slice, under}
 use Rattle.mt_commit.specs.Log.{LogView}
 use Rattle.mt_border.specs.Entry.{entry_row}
 use Rattle.mt_border.specs.declared.entry.Entry.{Entry}
 use Rattle.mt_arena.specs.Arena.{ArenaView}
-use Rattle.mt_arena.specs.Node.{node_at, border_of}
-use Rattle.mt_arena.specs.Parts.{IsPart}
-use Rattle.mt_arena.specs.declared.node.Node.{Node}
-use Rattle.mt_arena.specs.declared.node.Node.TheVariants.{Head as HeadNode, Interior as InteriorNode, Border as OwnBorder}
+use Rattle.mt_arena.specs.Node.{node_at}
 use Rattle.mt_arena.specs.declared.part.Part.{Part}
 use Rattle.mt_chart.specs.Tree.{Arena, Among, first, later, BorderNode}
 use Rattle.mt_chart.specs.Scan.{Comes}
@@ -23,30 +18,27 @@ use Rattle.mt_chart.specs.ScanRun.{Stood, AllHave}
 use Rattle.mt_chart.specs.KeyAnswer.{as_places}
 use Rattle.mt_chart.proofs.Ranges.{holds_top, noted_visits}
 use Rattle.mt_tree.specs.Seen.{arena_seen, entry_seen, entry_place, entries_seen, right_seen}
-use Rattle.mt_tree.specs.Descent.{visit_head, visit_interior}
-use Rattle.mt_tree.specs.declared.visit.Visit.{Visit}
-use Rattle.mt_tree.specs.declared.visit.Visit.TheVariants.{Again as VisitAgain, To as VisitTo, Below as VisitBelow, Here as VisitHere}
 use Rattle.mt_tree.proofs.SeenLemmas.{among_map}
 use Rattle.mt_scan.specs.Listed.{list_of}
 use Rattle.mt_scan.specs.Scan.{ScanView, HoldsKey, HoldsKeys, VisitsList, outcome_of}
 use Rattle.mt_scan.specs.declared.scan.ScanMove.{ScanMove}
 use Rattle.mt_scan.specs.declared.scan.ScanMove.TheVariants.{Done, To as VisitedTo, Top}
-use Rattle.mt_steps.specs.Causes.{ReadFails}
-use Rattle.mt_steps.specs.Reader.{MayRead, IsReader, FailsAt, by_visit, wants}
-use Rattle.mt_steps.specs.Listing.{Listing, ListReading, list_reading, ListReads, ListLeads, IsReadList}
+use Rattle.mt_steps.specs.Reader.{MayRead, IsReader, wants}
+use Rattle.mt_steps.specs.Listing.{Listing}
+use Rattle.mt_steps.specs.declared.reader.Reader.TheVariants.{Begins}
+use Rattle.mt_steps.specs.Listing.{ListReading}
+use Rattle.mt_steps.specs.declared.reader.Reading.TheVariants.{Restarts, Repeats, GoesOn, To, Finds}
+use Rattle.mt_steps.specs.declared.progress.Progress.{Progress}
+use Rattle.mt_steps.specs.declared.progress.Progress.TheVariants.{Moved, Waits}
+use Rattle.mt_steps.specs.declared.ranging.Range.{Range}
 use Rattle.mt_steps.specs.World.{World, IsWorld, IsKeyPlace, AreOfKeys}
 use Rattle.mt_steps.specs.Step.{StepLaw, MayStep, nothing}
 use Rattle.mt_steps.specs.Standing.{Lends}
+use Rattle.mt_steps.specs.Listing.{list_reading, ListReads, ListLeads, IsReadList}
 use Rattle.mt_steps.specs.Ranging.{range_request, RangeIsTrue, RangeScans, RangeDoes, RangeReads, ListHasKeys, ScanEnds, unread, restarted}
-use Rattle.mt_steps.specs.declared.reader.Reader.TheVariants.{Begins}
-use Rattle.mt_steps.specs.declared.reader.Reading.TheVariants.{Restarts, Repeats, GoesOn, To, Finds}
-use Rattle.mt_steps.specs.declared.progress.Progress.{Progress}
-use Rattle.mt_steps.specs.declared.progress.Progress.TheVariants.{Moved, Waits, Answered, Refused}
-use Rattle.mt_steps.specs.declared.ranging.Range.{Range}
-use Rattle.mt_steps.specs.declared.listing.Listed.{Listed}
-use Rattle.mt_steps.proofs.PartLemmas.{head_part, interior_part}
 use Rattle.mt_steps.proofs.ListSteps.{list_leads, list_within, list_may_read, list_node}
 use Rattle.mt_steps.proofs.RangeLemmas.{all_from, holds_row, in_order, range_waits, range_fails, moves_by, repeats_by, reads_by, goes_by, tops_by, answers_by}
+use Rattle.mt_steps.specs.declared.listing.Listed.{Listed}
 
 -- ---- the rows of what was read are those of keys
 stood_key : (show : Row → Row) (arenas : List Arena) → AreOfKeys arenas → (place : Place) (row : Row) → Stood show arenas place row → IsKeyPlace place
@@ -62,41 +54,6 @@ read_keys show prefix slice begun arenas w listed keys read = record { each = al
         let (row, holds) = holds_row entry.slice entry.content some in
         let k = stood_key show arenas keys (under prefix (entry_place entry)) (show row) (read.list.shown (entry_seen entry) (entry_place entry) row (among_map entry_seen entry listed.entries i) holds) in
         record { key = k.key; bytes = k.bytes; fits = k.fits; place = k.is }
-
--- ---- only at a border it finds what it has read
-no_finds : (visit : Visit) (listed : Listed) → ◌≡◌ {A = ListReading} (by_visit visit) (Finds listed) → ⊥
-no_finds VisitAgain listed is = absurd (cc)
-no_finds (VisitTo next) listed is = absurd (cc)
-no_finds (VisitBelow head) listed is = absurd (cc)
-no_finds VisitHere listed is = absurd (cc)
-
-finds_at : (a : ArenaView) (number slice : ℕ) (listing : Listing) (part : Part) → Lends a number (wants listing) part → (listed : Listed) → list_reading listing slice part ≡ Finds listed → FailsAt a number
-finds_at a number slice listing part lent listed finds = subst IsSome (sym (ap (option_and_then border_of) lent.named)) (go lent.node lent.is)
-  where
-    go : (node : Node) → IsPart node (wants listing) part → IsSome (border_of node)
-    go (HeadNode h) is = let (own, one, view) = head_part h (wants listing) part is in absurd (no_finds (visit_head own.now) listed (ap (list_reading listing slice) (sym one) ∙ finds))
-    go (InteriorNode i) is = let (own, one, view) = interior_part i (wants listing) part is in absurd (no_finds (visit_interior slice own.now) listed (ap (list_reading listing slice) (sym one) ∙ finds))
-    go (OwnBorder b) is = refl
-
--- so it is out of memory only there
-does_fail : (a : ArenaView) (number : ℕ) (range new : Range) (reading : ListReading) → ((listed : Listed) → reading ≡ Finds listed → FailsAt a number) → (p : Progress) → RangeDoes range reading p new → ReadFails a number p
-does_fail a number range new reading border p done = go reading refl done
-  where
-    by : (q : Progress) → p ≡ q → ReadFails a number q → ReadFails a number p
-    by q is fails = subst (λ (x : Progress). ReadFails a number x) (sym is) fails
-
-    ended : (scan : ScanView) (visited : ScanMove) → ScanEnds range scan visited p new → ReadFails a number p
-    ended scan Done (is, bytes) = by (Answered (RowsAnswer scan.taken)) is tt
-    ended scan (VisitedTo next) (is, same) = by Moved is tt
-    ended scan Top (is, same) = by Moved is tt
-
-    go : (r : ListReading) → reading ≡ r → RangeDoes range r p new → ReadFails a number p
-    go Restarts of (is, same) = by Waits is tt
-    go Repeats of (is, same) = by Waits is tt
-    go (GoesOn next) of (is, same) = by Moved is tt
-    go (To node) of (is, same) = by Moved is tt
-    go (Finds listed) of (inl is) = by (Refused NoMemory) is (refl, border listed of)
-    go (Finds listed) of (inr scans) = ended scans.scan scans.visited scans.ends
 
 -- ---- the step
 module _ (a : ArenaView) (range : Range) (fits : first_slice range.scan.at < 2 ^ 64) where
@@ -207,11 +164,6 @@ module _ (a : ArenaView) (range : Range) (slice : ℕ) (is_slice : slice ≡ fir
         let same = subst (λ (r : Result ListReading NoMemoryError). IfOk r (λ x. x ≡ list_reading range.listing (first_slice range.scan.at) own_reads.part)) is own_reads.does in
         let unread_does = subst (λ (l : Listing). RangeDoes (record range { listing = l }) reading p new) begins done in
         record { part = own_reads.part; fits = own_fits; lent = own_reads.lent; does = inr (subst (λ (r : ListReading). RangeDoes (unread range) r p new) same unread_does) }
-
-    pub fails_on : (reading : ListReading) → result ≡ Ok reading → (dest : Listing) (p : Progress) (new : Range) → RangeDoes (record range { listing = dest }) reading p new → ReadFails a range.node.0 p
-    fails_on reading is dest p new =
-        let same = subst (λ (r : Result ListReading NoMemoryError). IfOk r (λ x. x ≡ list_reading range.listing (first_slice range.scan.at) own_reads.part)) is own_reads.does in
-        does_fail a range.node.0 (record range { listing = dest }) new reading (λ listed finds. finds_at a range.node.0 (first_slice range.scan.at) range.listing own_reads.part own_reads.lent listed (sym same ∙ finds)) p
 
     pub steps_on : (reading : ListReading) → result ≡ Ok reading → (dest : Listing) → dest ≡ Begins → (p : Progress) (new : Range) → RangeDoes (record range { listing = dest }) reading p new
         → (C : ℕ) (log : LogView) → StepLaw C a a log log (range_request range) nothing p nothing (RangeIsTrue range) (RangeIsTrue new)

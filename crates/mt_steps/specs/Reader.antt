@@ -153,3 +153,8 @@ pub record ReadsField {N K F : Type 0} (a : ArenaView) (number : ℕ) (reader : 
 -- it is out of memory only at a border
 abbrev pub FailsAt : ArenaView → ℕ → Type 0
 FailsAt a number = IsSome (border_at a.nodes number)
+
+-- what it finds, it finds at a border
+abbrev pub FindsAt : {N K F : Type 0} → ArenaView → ℕ → Reading N K F → Type 0
+FindsAt a number (Finds found) = IsSome (border_at a.nodes number)
+FindsAt a number _ = Unit {0}

@@ -5,7 +5,7 @@ ghost use Rattle.std.specs.Option.{option_copied};
 ghost use Rattle.mt_border.specs.declared.field.Mark.TheVariants.{Unstable};
 ghost use Rattle.mt_arena.specs.Node.{node_at};
 ghost use Rattle.mt_steps.specs.Causes.{KeepsSlot};
-ghost use Rattle.mt_steps.specs.Reader.{IsOn, HasNext, IsReader, WantsOrder, WantsKey, WantsValue, MayRead, ReadWaits, FailsAt};
+ghost use Rattle.mt_steps.specs.Reader.{IsOn, HasNext, IsReader, WantsOrder, WantsKey, WantsValue, MayRead, ReadWaits, FindsAt, FailsAt};
 ghost use Rattle.mt_steps.specs.Listing.{list_next, key_read_of, entry_for, is_before_link, kept_with, one_more, list_value, list_at_order, list_at_key, list_at_value, ListReads, ListingWaits};
 
 use crate::reader::{Notes, Reader, Reading, at_head, at_interior};
@@ -245,6 +245,7 @@ pub fn read(
     requires may { MayRead tree.now number.0 slice listing }
     ensures reads { ListReads tree.now number.0 slice listing result }
     ensures waits { IfOk result (λ reading. ReadWaits (ListingWaits listing) tree.now number.0 reading) }
+    ensures finds { IfOk result (FindsAt tree.now number.0) }
     ensures fails { IsErr result → FailsAt tree.now number.0 }
 {
     match tree.part(number, listing.wants()) {

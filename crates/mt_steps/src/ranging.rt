@@ -14,6 +14,7 @@ ghost use Rattle.mt_tree.specs.Descent.{is_marked};
 ghost use Rattle.mt_steps.specs.Way.{Names};
 ghost use Rattle.mt_steps.specs.Step.{StepLaw, MayStep, nothing};
 ghost use Rattle.mt_steps.specs.Causes.{IsMarkedAt, ReadFails};
+ghost use Rattle.mt_steps.specs.Reader.{FindsAt, FailsAt};
 ghost use Rattle.mt_steps.specs.Ranging.{range_request, RangeIsTrue, RangeScans, RangeDoes, ListHasKeys, RangeReads, RangeWaits, IsHeldFor, IsHeldNode, Seeks};
 
 use crate::listing::{ListReading, Listed, Listing, read};
@@ -87,6 +88,7 @@ impl Range {
         ensures request { range_request self.new ≡ range_request self.old }
         ensures scans { (result ≡ Refused NoMemoryRefusal)
             ⊎ RangeScans self.old (list_of listed.entries listed.right) result self.new }
+        ensures fails { (a : ArenaView) (number : ℕ) → FailsAt a number → ReadFails a number result }
     {
         let Listed { entries, right } = listed;
         match self.scan.visit(alloc, entries.as_slice(), right) {
@@ -108,6 +110,7 @@ impl Range {
         requires { ListHasKeys self.old.scan.prefix reading }
         ensures request { range_request self.new ≡ range_request self.old }
         ensures does { RangeDoes self.old reading result self.new }
+        ensures fails { (a : ArenaView) (number : ℕ) → FindsAt a number reading → ReadFails a number result }
     {
         match reading {
             Reading::Restarts => {

@@ -1,5 +1,5 @@
 use Rattle.mt_steps.proofs.RangeLemmas.{range_fails}
-use Rattle.mt_steps.proofs.RangeSteps.{asks_node, asks_may, asks_keys, fails_on, steps_on}
+use Rattle.mt_steps.proofs.RangeSteps.{asks_node, asks_may, asks_keys, steps_on}
 use Rattle.mt_steps.proofs.ranging.Range.step.Goals as goal
 
 pub read-requires-clause-node : goal.read-requires-clause-node
@@ -17,8 +17,7 @@ returns-in-Ok-clause-steps c = steps_on c.args.tree.now c.args.self.now c.slice-
     c.read.result c.read.ensures.reads c.in-Ok.reading c.in-Ok.is c.replace-listing.new.dest c.replace-listing.ensures.after c.follow.result c.follow.new.self c.follow.ensures.does
 
 pub returns-in-Ok-clause-fails : goal.returns-in-Ok-clause-fails
-returns-in-Ok-clause-fails c = fails_on c.args.tree.now c.args.self.now c.slice-slice.result c.slice-slice.ensures c.slice-slice.type_inv c.replace-listing.result c.replace-listing.ensures.value
-    c.read.result c.read.ensures.reads c.in-Ok.reading c.in-Ok.is c.replace-listing.new.dest c.follow.result c.follow.new.self c.follow.ensures.does
+returns-in-Ok-clause-fails c = c.follow.ensures.fails c.args.tree.now c.args.self.now.node.0 c.in-Ok.ensures.finds
 
 pub returns-in-Err-clause-steps : goal.returns-in-Err-clause-steps
 returns-in-Err-clause-steps c = λ C log. range_fails c.args.tree.now c.args.self.now _ log C
