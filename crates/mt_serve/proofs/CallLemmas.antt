@@ -20,7 +20,7 @@ use Rattle.mt_promise.specs.History.{History, OpenCall, moment}
 use Rattle.mt_types.specs.Rows.{version_of}
 use Rattle.mt_word.specs.declared.version_word.TheConstants.{MAX_SPLITS}
 use Rattle.mt_word.specs.declared.permutation_word.TheConstants.{SLOTS}
-use Rattle.mt_border.specs.Border.{BorderView, fill_is_spent}
+use Rattle.mt_border.specs.Border.{BorderView, insert_is_spent}
 use Rattle.mt_border.specs.declared.found.Found.{Found}
 use Rattle.mt_border.specs.declared.found.Found.TheVariants.{Absent, Row, OtherSuffix}
 use Rattle.mt_arena.specs.Node.{border_at, occupied}
@@ -113,15 +113,15 @@ module _ (s : Store) (pass : PassNo) (request : Request) (number : CallNo) where
         ]
 
     fill_says : (node : ℕ) (b : BorderView) → border_at m.machine.tree.nodes node ≡ Some b → (refusal : Refusal) → fill_fault m.machine.log b ≡ Some refusal → Says refusal
-    fill_says node b at refusal e = elim (of_two (fill_is_spent b) Spent refusal (reserve_fault m.machine.log) e) [
-      | inl spent ↦ subst Says (sym spent.1) (inr (m, came.comes, (node, subst (λ (o : Option BorderView). IsSomeAnd o (λ (x : BorderView). (fill_is_spent x ≡ true) ⊎ (x.version.vsplit ≡ MAX_SPLITS))) (sym at) (inl spent.0))))
+    fill_says node b at refusal e = elim (of_two (insert_is_spent b) Spent refusal (reserve_fault m.machine.log) e) [
+      | inl spent ↦ subst Says (sym spent.1) (inr (m, came.comes, (node, subst (λ (o : Option BorderView). IsSomeAnd o (λ (x : BorderView). (insert_is_spent x ≡ true) ⊎ (x.version.vsplit ≡ MAX_SPLITS))) (sym at) (inl spent.0))))
       | inr rest ↦ reserve_says refusal rest
     ]
 
     split_says : (node : ℕ) (b : BorderView) → border_at m.machine.tree.nodes node ≡ Some b → (refusal : Refusal) → split_fault m.machine.tree b ≡ Some refusal → Says refusal
     split_says node b at refusal e = elim (of_two (b.version.vsplit == MAX_SPLITS) Spent refusal (refused_if (occupied m.machine.tree.nodes == MAX_NODES) ArenaFull) e) [
       | inl spent ↦ elim (eqb_tells b.version.vsplit MAX_SPLITS) [
-        | inl t ↦ subst Says (sym spent.1) (inr (m, came.comes, (node, subst (λ (o : Option BorderView). IsSomeAnd o (λ (x : BorderView). (fill_is_spent x ≡ true) ⊎ (x.version.vsplit ≡ MAX_SPLITS))) (sym at) (inr t.1))))
+        | inl t ↦ subst Says (sym spent.1) (inr (m, came.comes, (node, subst (λ (o : Option BorderView). IsSomeAnd o (λ (x : BorderView). (insert_is_spent x ≡ true) ⊎ (x.version.vsplit ≡ MAX_SPLITS))) (sym at) (inr t.1))))
         | inr f ↦ (let clash : ◌≡◌ {A = Bool} true false = sym spent.0 ∙ f.0 in cc)
       ]
       | inr rest ↦

@@ -15,7 +15,7 @@ use Rattle.mt_types.specs.declared.event.Request.TheVariants.{Put, PutIf, Remove
 use Rattle.mt_promise.specs.History.{History, Moment, StandingView, GoesOn, moment}
 use Rattle.mt_promise.specs.Legal.{begin_fault}
 use Rattle.mt_word.specs.declared.version_word.TheConstants.{MAX_SPLITS}
-use Rattle.mt_border.specs.Border.{fill_is_spent}
+use Rattle.mt_border.specs.Border.{insert_is_spent}
 use Rattle.mt_arena.specs.Node.{border_at, occupied}
 use Rattle.mt_index.specs.Events.{AllHappen}
 use Rattle.mt_index.specs.Stands.{MachineView}
@@ -75,7 +75,7 @@ HasFewNodes m = MAX_NODES ≤ occupied m.tree.nodes + 1
 -- a border has counted as many insertions, or as many splits, as its version can
 abbrev pub HasSpentBorder : MachineView → Type 0
 HasSpentBorder m = (number : ℕ) × IsSomeAnd (border_at m.tree.nodes number)
-    (λ border. (fill_is_spent border ≡ true) ⊎ (border.version.vsplit ≡ MAX_SPLITS))
+    (λ border. (insert_is_spent border ≡ true) ⊎ (border.version.vsplit ≡ MAX_SPLITS))
 
 -- the call came to a store whose machine is so
 abbrev pub Meets : Store → PassNo → Request → CallNo → (MachineView → Type 0) → Type 0

@@ -11,6 +11,7 @@ ghost use Rattle.mt_steps.specs.Listing.{WaitsForField};
 ghost use Rattle.mt_arena.specs.Arena.{ArenaView};
 ghost use Rattle.mt_steps.specs.Step.{MayStep, nothing};
 ghost use Rattle.mt_steps.specs.Causes.{ReadFails};
+ghost use Rattle.mt_steps.specs.Reader.{FindsAt};
 ghost use Rattle.mt_works.specs.Building.{building_request, BuildingIsTrue, BuildingLaw, IsBuilt, IsInLog, BuildsOn, BuildFollows, BuildLists, BuildDoes, MayScan, BuildReads, BuildTakes, BuildWaits, BuildFails, OnlyForMemory};
 
 use mt_build::build::Build;
@@ -97,6 +98,7 @@ impl Building {
         requires { MayScan self.old.build.prefix reading }
         ensures request { building_request self.new ≡ building_request self.old }
         ensures does { BuildDoes log.now self.old reading result self.new }
+        ensures fails { (a : ArenaView) (number : ℕ) → FindsAt a number reading → ReadFails a number result }
     {
         match reading {
             Reading::Restarts => {

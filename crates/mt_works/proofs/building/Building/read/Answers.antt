@@ -25,3 +25,6 @@ returns-in-Ok-clause-builds c = builds_on c.args.tree.now c.args.log.now c.args.
 
 pub returns-in-Err-clause-steps : goal.returns-in-Err-clause-steps
 returns-in-Err-clause-steps c = λ C. build_fails c.args.tree.now c.args.log.now c.args.self.now _ C
+
+pub returns-in-Ok-clause-fails : goal.returns-in-Ok-clause-fails
+returns-in-Ok-clause-fails c = c.follow.ensures.fails c.args.tree.now c.args.self.now.node.0 c.in-Ok.ensures.finds
