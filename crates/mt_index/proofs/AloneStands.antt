@@ -39,7 +39,7 @@ use Rattle.mt_works.specs.declared.work.Work.{Work}
 use Rattle.mt_works.specs.declared.work.Work.TheVariants.{Get, Write, Range, Tidy, Build}
 use Rattle.mt_write.specs.declared.writing.Edit.{Edit}
 use Rattle.mt_write.specs.declared.writing.Edit.TheVariants.{Put, Remove}
-use Rattle.mt_write.specs.Writing.{edit_request}
+use Rattle.mt_write.specs.Held.{edit_request}
 use Rattle.mt_arena.specs.Node.{occupied}
 use Rattle.mt_works.specs.Works.{request_of, held, IsTrue, IsBuiltWork, WorkBuilds}
 use Rattle.mt_works.specs.Causes.{WorkWaits}

@@ -38,7 +38,7 @@ use Rattle.mt_types.specs.declared.row.Change.TheVariants.{Put as PutChange, Dro
 use Rattle.mt_write.specs.declared.writing.Write.{Write}
 use Rattle.mt_write.specs.declared.writing.Edit.{Edit}
 use Rattle.mt_write.specs.declared.writing.Edit.TheVariants.{Put as PutEdit, Remove as RemoveEdit}
-use Rattle.mt_write.specs.Writing.{edit_request}
+use Rattle.mt_write.specs.Held.{edit_request}
 use Rattle.mt_works.specs.Works.{request_of, held, IsTrue, IsBuiltWork, WorkBuilds}
 use Rattle.mt_views.specs.Views.{ViewsView, places, standing}
 use Rattle.mt_index.specs.Viewing.{ReadsOf}

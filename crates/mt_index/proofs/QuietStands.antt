@@ -11,7 +11,7 @@ use Rattle.mt_steps.specs.Lone.{IsLoneTree}
 use Rattle.mt_steps.specs.Step.{RowIs}
 use Rattle.mt_write.specs.declared.writing.Edit.{Edit}
 use Rattle.mt_write.specs.declared.writing.Edit.TheVariants.{Put, Remove}
-use Rattle.mt_write.specs.Writing.{put_request, edit_request}
+use Rattle.mt_write.specs.Held.{put_request, edit_request}
 use Rattle.mt_works.specs.declared.work.Work.{Work}
 use Rattle.mt_works.specs.declared.work.Work.TheVariants.{Write, Tidy}
 use Rattle.mt_works.specs.Works.{request_of, held}

@@ -30,7 +30,7 @@ use Rattle.mt_works.specs.declared.work.Work.TheVariants.{Get as GetWork, Write 
 use Rattle.mt_steps.specs.Step.{RowIs, IsRight, MayRefuse, TellsVersion, blocked_by}
 use Rattle.mt_write.specs.declared.writing.Edit.{Edit}
 use Rattle.mt_write.specs.declared.writing.Edit.TheVariants.{Put as PutEdit, Remove as RemoveEdit}
-use Rattle.mt_write.specs.Writing.{edit_request}
+use Rattle.mt_write.specs.Held.{edit_request}
 use Rattle.mt_works.specs.Works.{request_of, held}
 use Rattle.mt_index.specs.Stands.{MachineView, WasBlocked, IsPast, Stands}
 use Rattle.mt_index.proofs.PastLemmas.{right_range}

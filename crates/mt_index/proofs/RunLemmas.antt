@@ -23,7 +23,7 @@ use Rattle.mt_write.specs.declared.running.WriteRun.{WriteRun}
 use Rattle.mt_write.specs.declared.writing.Write.{Write}
 use Rattle.mt_write.specs.declared.writing.Edit.{Edit}
 use Rattle.mt_write.specs.declared.writing.Edit.TheVariants.{Put as PutEdit}
-use Rattle.mt_write.specs.Writing.{edit_request, write_request}
+use Rattle.mt_write.specs.Held.{edit_request, write_request}
 use Rattle.mt_write.specs.Runs.{Advances, HasRun, IsTrimmed, MayRun, RunStep, RunSteps, WriteState, commits_in}
 use Rattle.mt_works.specs.declared.work.Work.TheVariants.{Write as WriteWork}
 use Rattle.mt_works.specs.Works.{IsNew}

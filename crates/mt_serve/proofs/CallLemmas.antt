@@ -32,7 +32,7 @@ use Rattle.mt_write.specs.declared.writing.Edit.{Edit}
 use Rattle.mt_write.specs.declared.writing.Edit.TheVariants.{Put as PutEdit, Remove as RemoveEdit}
 use Rattle.mt_write.specs.declared.writing.Stage.{Stage}
 use Rattle.mt_write.specs.Causes.{fill_fault, split_fault, layer_fault, version_fault, put_fault, remove_fault, edit_fault}
-use Rattle.mt_write.specs.Writing.{stage_held}
+use Rattle.mt_write.specs.Held.{stage_held}
 use Rattle.mt_works.specs.declared.work.Work.{Work}
 use Rattle.mt_works.specs.declared.work.Work.TheVariants.{Write}
 use Rattle.mt_works.specs.Works.{request_of, held, IsAtStart, IsBuiltWork}

@@ -21,7 +21,7 @@ use Rattle.mt_write.specs.declared.writing.Ending.{Ending}
 use Rattle.mt_write.specs.declared.writing.Ending.TheVariants.{Stored as EndStored, Failed as EndFailed}
 use Rattle.mt_write.specs.declared.writing.Stage.{Stage}
 use Rattle.mt_write.specs.declared.writing.Stage.TheVariants.{Seeks, Locked, HalfFilled, Halved, Posts, Layered, Filled, Made, Taken, Stored, Failed}
-use Rattle.mt_write.specs.Writing.{ending_stage}
+use Rattle.mt_write.specs.Held.{ending_stage}
 use Rattle.mt_write.specs.Causes.{edit_fault, fill_fault, FailsBy, StageFails}
 use Rattle.mt_write.specs.Follows.{StageFollows, StageRests}
 use Rattle.mt_works.specs.declared.work.Work.{Work}

@@ -15,7 +15,7 @@ use Rattle.mt_steps.specs.declared.way.Way.{Way}
 use Rattle.mt_write.specs.declared.writing.Write.{Write as WriteView}
 use Rattle.mt_write.specs.declared.writing.Edit.{Edit}
 use Rattle.mt_write.specs.declared.writing.Edit.TheVariants.{Put, Remove}
-use Rattle.mt_write.specs.Writing.{write_request, edit_request}
+use Rattle.mt_write.specs.Held.{write_request, edit_request}
 use Rattle.mt_steps.specs.Finding.{Finding}
 use Rattle.mt_steps.specs.Listing.{Listing}
 use Rattle.mt_steps.specs.Getting.{reads_made}

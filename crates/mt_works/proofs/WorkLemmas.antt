@@ -23,7 +23,8 @@ use Rattle.mt_steps.specs.Step.{Held, Truth, StepLaw, StepLawIn, MayStep, MaySte
 use Rattle.mt_steps.specs.Getting.{GetIsTrue, get_request}
 use Rattle.mt_steps.specs.Ranging.{range_request, RangeIsTrue}
 use Rattle.mt_write.specs.declared.writing.Write.{Write}
-use Rattle.mt_write.specs.Writing.{WriteIsTrue, write_request, write_held}
+use Rattle.mt_write.specs.Held.{write_request, write_held}
+use Rattle.mt_write.specs.Writing.{WriteIsTrue}
 use Rattle.mt_write.proofs.CauseLemmas.{stage_refused}
 use Rattle.mt_write.proofs.WorkLemmas.{write_stays, write_taken}
 use Rattle.mt_write.proofs.WriteLasts.{write_since}

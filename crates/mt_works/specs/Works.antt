@@ -13,7 +13,8 @@ use Rattle.mt_steps.specs.Step.{Held, nothing}
 use Rattle.mt_steps.specs.Way.{start}
 use Rattle.mt_steps.specs.Getting.{get_request, GetIsTrue}
 use Rattle.mt_steps.specs.Ranging.{range_request, RangeIsTrue}
-use Rattle.mt_write.specs.Writing.{write_request, write_held, WriteIsTrue}
+use Rattle.mt_write.specs.Held.{write_request, write_held}
+use Rattle.mt_write.specs.Writing.{WriteIsTrue}
 use Rattle.mt_write.specs.declared.writing.Stage.TheVariants.{Seeks as WriteSeeks}
 use Rattle.mt_remove.specs.declared.stage.Stage.TheVariants.{Seeks as TidySeeks}
 use Rattle.mt_remove.specs.Follows.{not_noted}

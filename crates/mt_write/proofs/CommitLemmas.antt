@@ -35,7 +35,8 @@ use Rattle.mt_steps.specs.World.{World, IsWorld, RowsAreOfKeys, Goes}
 use Rattle.mt_steps.specs.Way.{rest_of, prefix_of, IsLayerOf}
 use Rattle.mt_steps.specs.Step.{Held, Truth, StepLaw, RowIs, IsQuiet, put_row, Commits, Changes, blocked_by, bounds, MayRefuse, TellsVersion, IsRight}
 use Rattle.mt_write.specs.Causes.{version_fault}
-use Rattle.mt_write.specs.Writing.{edit_request, Tells, written_answer, stage_held, IsLockedAt, HasLocked, owned, IsFound, StageIsTrue}
+use Rattle.mt_write.specs.Held.{edit_request, written_answer, stage_held, owned}
+use Rattle.mt_write.specs.Writing.{Tells, IsLockedAt, HasLocked, IsFound, StageIsTrue}
 use Rattle.mt_write.specs.Ready.{PreparesRemove, LacksRow, put_delta, remove_delta}
 use Rattle.mt_steps.specs.World.{IsLockedBorder}
 use Rattle.mt_steps.proofs.FrameLemmas.{goes_same, quiet_same}

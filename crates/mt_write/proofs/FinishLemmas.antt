@@ -16,7 +16,8 @@ use Rattle.mt_write.specs.declared.running.WriteRun.{WriteRun}
 use Rattle.mt_write.specs.declared.writing.Write.{Write}
 use Rattle.mt_write.specs.declared.writing.Stage.{Stage}
 use Rattle.mt_write.specs.declared.writing.Stage.TheVariants.{Seeks, Locked, Reserved, KeyWritten, Filled, Stored}
-use Rattle.mt_write.specs.Writing.{MayStage, StageIsTrue, written_answer}
+use Rattle.mt_write.specs.Held.{written_answer}
+use Rattle.mt_write.specs.Writing.{MayStage, StageIsTrue}
 use Rattle.mt_write.specs.Follows.{FindsNone, TreeStep, WriteStep}
 use Rattle.mt_write.specs.Runs.{Advances, CommitsAt, CommitsStage, InsertsAt, HasRun, IsTrimmed, MayRun, RunStep, WriteState, commits_in, state}
 use Rattle.mt_write.proofs.PostLemmas.{is_locked_border, is_written_border}

@@ -31,7 +31,8 @@ use Rattle.mt_steps.specs.declared.progress.Progress.TheVariants.{Moved}
 use Rattle.mt_steps.specs.World.{World}
 use Rattle.mt_steps.specs.Way.{rest_of, prefix_of}
 use Rattle.mt_steps.specs.Step.{StepLaw, Stepped}
-use Rattle.mt_write.specs.Writing.{edit_request, stage_held, StageIsTrue, IsLockedAt, HasLocked, IsSplit, IsSpare, IsCutAt, IsHalf, IsAbsent, IsHalfOf, empty_half, upper_half, PutsNew}
+use Rattle.mt_write.specs.Held.{edit_request, stage_held}
+use Rattle.mt_write.specs.Writing.{StageIsTrue, IsLockedAt, HasLocked, IsSplit, IsSpare, IsCutAt, IsHalf, IsAbsent, IsHalfOf, empty_half, upper_half, PutsNew}
 use Rattle.mt_steps.specs.World.{IsLockedBorder}
 use Rattle.mt_tree.proofs.AgeLemmas.{ages_split}
 use Rattle.mt_steps.proofs.FoundLemmas.{some_at, some_and}

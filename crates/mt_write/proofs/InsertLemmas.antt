@@ -39,7 +39,8 @@ use Rattle.mt_write.specs.declared.writing.Halves.{Halves}
 use Rattle.mt_write.specs.declared.writing.Insertion.{Insertion}
 use Rattle.mt_write.specs.declared.writing.Stage.{Stage}
 use Rattle.mt_write.specs.declared.writing.Stage.TheVariants.{Reserved, KeyWritten, Filled}
-use Rattle.mt_write.specs.Writing.{edit_request, stage_held, owned, IsFilled, IsNewRow, StageIsTrue, new_entry}
+use Rattle.mt_write.specs.Held.{edit_request, stage_held, owned}
+use Rattle.mt_write.specs.Writing.{IsFilled, IsNewRow, StageIsTrue, new_entry}
 use Rattle.mt_write.proofs.EntryLemmas.{class_of_content, left_of_right, next_slot}
 use Rattle.mt_write.proofs.WriteLemmas.{others_changed, others_written, owned_at-changed, quiet_step, written_at}
 

@@ -31,7 +31,8 @@ use Rattle.mt_write.specs.declared.writing.Ending.{Ending}
 use Rattle.mt_write.specs.declared.writing.Ending.TheVariants.{Stored as EndStored, Failed as EndFailed}
 use Rattle.mt_write.specs.declared.writing.Stage.{Stage}
 use Rattle.mt_write.specs.declared.writing.Stage.TheVariants.{Seeks, Spared, HalfFilled, Halved, Posts, LayerSpared, LayerFilled, LayerReady, Layered, Reserved, KeyWritten, Filled, Made, Stored, Failed}
-use Rattle.mt_write.specs.Writing.{write_held, written_answer, ending_stage, WriteIsTrue, IsHalfOf, way_below}
+use Rattle.mt_write.specs.Held.{write_held, written_answer, ending_stage}
+use Rattle.mt_write.specs.Writing.{WriteIsTrue, IsHalfOf, way_below}
 use Rattle.mt_write.specs.Ready.{SomeSets, Prepares}
 use Rattle.mt_write.specs.Causes.{IsNotFailed, EndsWith, FailsBy, fill_fault}
 use Rattle.mt_write.specs.Follows.{WriteStep, TreeStep, PostingSteps, IsNewPosting, IsReadyIn}

@@ -35,7 +35,8 @@ use Rattle.mt_write.specs.declared.writing.Ending.{Ending}
 use Rattle.mt_write.specs.declared.writing.Ending.TheVariants.{Stored as EndStored, Failed as EndFailed}
 use Rattle.mt_write.specs.declared.writing.Stage.{Stage}
 use Rattle.mt_write.specs.declared.writing.Stage.TheVariants.{Seeks, Locked, Spared, HalfFilled, Halved, Posts, LayerSpared, LayerFilled, LayerReady, Layered, Reserved, KeyWritten, Filled, Made, Taken, Stored, Failed}
-use Rattle.mt_write.specs.Writing.{edit_request, StageIsTrue, stage_held, write_held, way_below, ending_stage}
+use Rattle.mt_write.specs.Held.{edit_request, stage_held, write_held, ending_stage}
+use Rattle.mt_write.specs.Writing.{StageIsTrue, way_below}
 use Rattle.mt_write.specs.Causes.{StageWaits, WriteWaits, IsPosting}
 use Rattle.mt_write.specs.Runs.{Advances}
 use Rattle.mt_write.proofs.LinkLemmas.{linked_head_is_on}

@@ -45,7 +45,8 @@ use Rattle.mt_write.specs.declared.writing.Ending.{Ending}
 use Rattle.mt_chart.proofs.Basics.{same_number}
 use Rattle.mt_write.specs.declared.writing.Stage.{Stage}
 use Rattle.mt_write.specs.declared.writing.Stage.TheVariants.{Seeks, Locked, Spared, HalfFilled, Halved, Posts, LayerSpared, LayerFilled, LayerReady, Layered, Reserved, KeyWritten, Filled, Made, Taken, Stored, Failed}
-use Rattle.mt_write.specs.Writing.{StageIsTrue, HasLocked, HasOthers, stage_held, write_held, owned}
+use Rattle.mt_write.specs.Held.{stage_held, write_held, owned}
+use Rattle.mt_write.specs.Writing.{StageIsTrue, HasLocked, HasOthers}
 use Rattle.mt_write.specs.Causes.{WriteWaits}
 use Rattle.mt_write.specs.Follows.{Follows, WriteFollows, HeadGoes, HeadFollows, IsNewPosting, PostingSteps, PostsGo, PostsFollow}
 use Rattle.mt_write.proofs.LinkLemmas.{linked_head_stands}

@@ -44,7 +44,8 @@ use Rattle.mt_write.specs.declared.writing.Edit.{Edit}
 use Rattle.mt_write.specs.declared.writing.Layer.{Layer}
 use Rattle.mt_write.specs.declared.writing.Stage.{Stage}
 use Rattle.mt_write.specs.declared.writing.Stage.TheVariants.{Seeks, LayerSpared, LayerFilled, LayerReady, Layered}
-use Rattle.mt_write.specs.Writing.{edit_request, stage_held, layer_owned, StageIsTrue, HeadedStage, IsLockedAt, moved_entry, lone_root, way_below}
+use Rattle.mt_write.specs.Held.{edit_request, stage_held, layer_owned}
+use Rattle.mt_write.specs.Writing.{StageIsTrue, HeadedStage, IsLockedAt, moved_entry, lone_root, way_below}
 use Rattle.mt_write.proofs.LinkLemmas.{linked_among}
 use Rattle.mt_write.proofs.WorkLemmas.{locked_at_stays}
 use Rattle.mt_write.proofs.EntryLemmas.{row_of_content, entry_place_is}

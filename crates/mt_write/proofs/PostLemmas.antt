@@ -31,7 +31,8 @@ use Rattle.mt_write.specs.declared.writing.Ending.{Ending}
 use Rattle.mt_write.specs.declared.writing.Ending.TheVariants.{Stored as EndStored, Failed as EndFailed}
 use Rattle.mt_write.specs.declared.writing.Stage.{Stage}
 use Rattle.mt_write.specs.declared.writing.Stage.TheVariants.{Posts, Stored, Failed}
-use Rattle.mt_write.specs.Writing.{edit_request, stage_held, owned, StageIsTrue, HeadedStage, HasLocked, MayEnd, ending_stage}
+use Rattle.mt_write.specs.Held.{edit_request, stage_held, owned, ending_stage}
+use Rattle.mt_write.specs.Writing.{StageIsTrue, HeadedStage, HasLocked, MayEnd}
 use Rattle.mt_steps.specs.World.{IsLockedBorder}
 use Rattle.mt_steps.specs.declared.way.Went.{Went}
 use Rattle.mt_steps.specs.declared.way.Went.TheVariants.{To}

@@ -32,7 +32,8 @@ use Rattle.mt_steps.specs.World.{World, IsWorld, Goes}
 use Rattle.mt_steps.specs.Way.{rest_of, prefix_of}
 use Rattle.mt_steps.specs.Step.{Stepped, StepLaw, bounds, MayFail}
 use Rattle.mt_write.specs.Causes.{version_fault}
-use Rattle.mt_write.specs.Writing.{put_request, edit_request, stage_held, IsLockedAt, HasLocked, empty_half, owned, IsNewRow, IsMade, StageIsTrue}
+use Rattle.mt_write.specs.Held.{put_request, edit_request, stage_held, owned}
+use Rattle.mt_write.specs.Writing.{IsLockedAt, HasLocked, empty_half, IsNewRow, IsMade, StageIsTrue}
 use Rattle.mt_write.specs.Ready.{SomeSets, IsBack, Reserves, Prepares}
 use Rattle.mt_steps.proofs.FrameLemmas.{goes_same, quiet_same, retired_same}
 use Rattle.mt_write.proofs.EntryLemmas.{is_marked, marked_locked}

@@ -17,7 +17,8 @@ use Rattle.mt_steps.specs.World.{World}
 use Rattle.mt_steps.specs.Step.{Held, IsQuiet, Does, MayStep, Stepped, ThenTrue, bounds, left_with}
 use Rattle.mt_write.specs.declared.running.WriteRun.{WriteRun}
 use Rattle.mt_write.specs.declared.writing.Write.{Write}
-use Rattle.mt_write.specs.Writing.{WriteIsTrue, write_held, write_request}
+use Rattle.mt_write.specs.Held.{write_held, write_request}
+use Rattle.mt_write.specs.Writing.{WriteIsTrue}
 use Rattle.mt_write.specs.Follows.{WriteStep}
 use Rattle.mt_write.specs.Runs.{Advances, HasRun, IsTrimmed, MayRun, RunStep, RunSteps, WriteState, commits_in}
 

@@ -17,7 +17,8 @@ use Rattle.mt_steps.proofs.FrameLemmas.{retired_same}
 use Rattle.mt_steps.proofs.LayerLemmas.{goes_two, two_apart}
 use Rattle.mt_write.specs.declared.writing.Halves.{Halves}
 use Rattle.mt_write.specs.declared.writing.Layer.{Layer}
-use Rattle.mt_write.specs.Writing.{IsLockedAt, HasLocked, AreHalves, IsToFill, layer_owned}
+use Rattle.mt_write.specs.Held.{layer_owned}
+use Rattle.mt_write.specs.Writing.{IsLockedAt, HasLocked, AreHalves, IsToFill}
 use Rattle.mt_write.specs.Ready.{LayerSpares}
 use Rattle.mt_write.proofs.WorkLemmas.{locked_at_stays}
 

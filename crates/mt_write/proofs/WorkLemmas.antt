@@ -24,7 +24,8 @@ use Rattle.mt_steps.specs.Way.{IsOnWay, prefix_of}
 use Rattle.mt_chart.specs.Chart.{top}
 use Rattle.mt_chart.proofs.Walk.{known_kept}
 use Rattle.mt_post.proofs.PostingLasts.{posting_stays, posting_taken}
-use Rattle.mt_write.specs.Writing.{StageIsTrue, stage_held, IsLockedAt, IsOwnedAt, HasLocked, HasOthers, AreHalves, HasLayer, HasLink, IsSpare, owned, layer_owned, way_below, WriteIsTrue, write_held, Tells}
+use Rattle.mt_write.specs.Held.{stage_held, owned, layer_owned, write_held}
+use Rattle.mt_write.specs.Writing.{StageIsTrue, IsLockedAt, IsOwnedAt, HasLocked, HasOthers, AreHalves, HasLayer, HasLink, IsSpare, way_below, WriteIsTrue, Tells}
 use Rattle.mt_types.specs.declared.refusal.Refusal.{Refusal}
 use Rattle.mt_types.specs.declared.refusal.Refusal.TheVariants.{OtherVersion}
 use Rattle.mt_steps.specs.World.{IsLockedBorder}

@@ -15,7 +15,8 @@ use Rattle.mt_write.specs.declared.writing.Stage.TheVariants.{Seeks, Locked, Spa
 use Rattle.mt_write.specs.declared.writing.Halves.{Halves}
 use Rattle.mt_write.specs.declared.writing.Layer.{Layer}
 use Rattle.mt_chart.proofs.Basics.{same_number}
-use Rattle.mt_write.specs.Writing.{StageIsTrue, stage_held, HasLocked, HasOthers, HasLayer, owned, layer_owned, WriteIsTrue, write_held}
+use Rattle.mt_write.specs.Held.{stage_held, owned, layer_owned, write_held}
+use Rattle.mt_write.specs.Writing.{StageIsTrue, HasLocked, HasOthers, HasLayer, WriteIsTrue}
 
 module _ (C : ℕ) (a : ArenaView) (now begun : ℕ) (w : World) (world : IsWorld a now w) where
   border_since : (number : ℕ) (b : BorderView) → border_at a.nodes number ≡ Some b → GoneSince begun w (number ∷ [])

@@ -42,7 +42,8 @@ use Rattle.mt_steps.specs.World.{World, NotAmong, Goes}
 use Rattle.mt_steps.specs.Way.{rest_of, prefix_of, IsLayerOf, IsAtPlace, GoesTo, Visits}
 use Rattle.mt_steps.specs.Step.{Held, Stepped, StepLaw, MayStep, put_row, Blocks, Commits, Changes, blocked_by, IsOfLog, MayRefuse, IsRight}
 use Rattle.mt_write.specs.Causes.{version_fault}
-use Rattle.mt_write.specs.Writing.{put_request, edit_request, IsAbsent, PutsNew, IsOtherwise, Tells, written_answer, stage_held, IsLockedAt, IsOwnedAt, HasOthers, HasLocked, AreHalves, StageIsTrue, HeadedStage}
+use Rattle.mt_write.specs.Held.{put_request, edit_request, written_answer, stage_held}
+use Rattle.mt_write.specs.Writing.{IsAbsent, PutsNew, IsOtherwise, Tells, IsLockedAt, IsOwnedAt, HasOthers, HasLocked, AreHalves, StageIsTrue, HeadedStage}
 use Rattle.mt_steps.specs.World.{IsLockedBorder}
 use Rattle.mt_steps.proofs.FrameLemmas.{goes_same, quiet_same}
 use Rattle.std.specs.Prelude.{IsTrue}

@@ -29,7 +29,8 @@ use Rattle.mt_write.specs.declared.writing.Stage.{Stage}
 use Rattle.mt_write.specs.declared.writing.Stage.TheVariants.{Seeks, Locked, Spared, HalfFilled, Halved, Posts, LayerSpared, LayerFilled, LayerReady, Layered, Reserved, KeyWritten, Filled, Made, Taken, Stored, Failed}
 use Rattle.mt_write.specs.declared.writing.Write.{Write as WriteView}
 use Rattle.mt_commit.specs.Log.{LogView}
-use Rattle.mt_write.specs.Writing.{write_request, ending_stage, MayStage, StageLaw}
+use Rattle.mt_write.specs.Held.{write_request, ending_stage}
+use Rattle.mt_write.specs.Writing.{MayStage, StageLaw}
 use Rattle.mt_write.specs.Causes.{IsPosting, StageWaits, StageFails}
 
 -- it is at this stage, and at the node at which it was

@@ -1,4 +1,5 @@
 -- What the contracts of puts and removes cite.
+pub mod Held
 pub mod Writing
 pub mod Ready
 pub mod Causes

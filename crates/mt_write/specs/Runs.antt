@@ -17,7 +17,8 @@ use Rattle.mt_write.specs.declared.finishing.AtBorder.TheVariants.{Absent, Commi
 use Rattle.mt_write.specs.declared.writing.Write.{Write}
 use Rattle.mt_write.specs.declared.writing.Stage.{Stage}
 use Rattle.mt_write.specs.declared.writing.Stage.TheVariants.{Locked, Stored, Failed}
-use Rattle.mt_write.specs.Writing.{WriteIsTrue, write_held}
+use Rattle.mt_write.specs.Held.{write_held}
+use Rattle.mt_write.specs.Writing.{WriteIsTrue}
 use Rattle.mt_write.specs.Follows.{FindsNone, TreeStep, WriteStep}
 
 -- the log holds no delta that is to be trimmed

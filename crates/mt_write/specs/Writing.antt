@@ -2,10 +2,6 @@
 use Rattle.std.specs.Prelude.{ℕ, ◌≡◌, ◌≢◌, ◌<◌, ◌≤◌, ◌+◌, ◌⊎◌, List, [], ◌∷◌, length, drop, slice_get, Option, Some, None, Bool, true, false}
 use Rattle.mt_types.specs.declared.limits.TheConstants.{MAX_KEY_BYTES}
 use Rattle.mt_types.specs.declared.row.Row.{Row}
-use Rattle.mt_types.specs.declared.event.Request.{Request}
-use Rattle.mt_types.specs.declared.event.Request.TheVariants.{Put as PutRequest, PutIf as PutIfRequest, Remove as RemoveRequest}
-use Rattle.mt_types.specs.declared.event.Answer.{Answer}
-use Rattle.mt_types.specs.declared.event.Answer.TheVariants.{Stored as StoredAnswer, Removed}
 use Rattle.mt_types.specs.Rows.{version_of}
 use Rattle.mt_types.specs.declared.refusal.Refusal.{Refusal}
 use Rattle.mt_types.specs.declared.refusal.Refusal.TheVariants.{OtherVersion}
@@ -46,96 +42,15 @@ use Rattle.mt_write.specs.declared.writing.Stage.TheVariants.{Seeks, Locked, Spa
 use Rattle.mt_write.specs.declared.writing.Halves.{Halves}
 use Rattle.mt_write.specs.declared.writing.Ending.{Ending}
 use Rattle.mt_write.specs.declared.writing.Ending.TheVariants.{Stored as EndStored, Failed as EndFailed}
-use Rattle.mt_post.specs.Posting.{PostingIsTrue, owned as posting_owned}
+use Rattle.mt_post.specs.Posting.{PostingIsTrue}
 use Rattle.mt_chart.specs.Chart.{spot, at_level, on}
 use Rattle.mt_write.specs.declared.writing.Insertion.{Insertion}
 use Rattle.mt_write.specs.declared.writing.Layer.{Layer}
 use Rattle.mt_steps.specs.World.{World, IsLockedBorder, NotAmong}
 use Rattle.mt_steps.specs.Way.{prefix_of, rest_of, IsLayerOf, IsOnWay, IsHeadOf}
 use Rattle.mt_steps.specs.declared.progress.Progress.{Progress}
-use Rattle.mt_steps.specs.Step.{Held, nothing, blocked_by, MayRefuse, StepLaw, MayStep, columns_after}
-
-abbrev pub put_request : List ℕ → List (ℕ × List ℕ) → Option ℕ → Request
-put_request key sets None = PutRequest key sets
-put_request key sets (Some version) = PutIfRequest key sets version
-
-abbrev pub edit_request : List ℕ → Edit → Request
-edit_request key (PutEdit sets only) = put_request key sets only
-edit_request key RemoveEdit = RemoveRequest key
-
-abbrev pub write_request : Write → Request
-write_request write = edit_request write.key write.edit
-
--- what a write answers that has made its commit
-abbrev pub written_answer : Edit → ℕ → Answer
-written_answer (PutEdit sets only) number = StoredAnswer number
-written_answer RemoveEdit number = Removed number
-
--- the border that a write has locked, or the two halves of the border that it has split
-abbrev pub owned : ℕ → Option Halves → List ℕ
-owned number None = number ∷ []
-owned number (Some split) = split.half.0 ∷ split.left.0 ∷ []
-
--- the border, and the head and the root of the layer that it makes below it
-abbrev pub layer_owned : ℕ → Layer → List ℕ
-layer_owned number layer = layer.head.0 ∷ layer.root.0 ∷ number ∷ []
-
--- the commit that a write has made, if it is to answer one
-abbrev pub ending_commit : Ending → Option ℕ
-ending_commit (EndStored commit) = Some commit
-ending_commit (EndFailed refusal) = None
-
--- the number at which a write was blocked that is to fail
-abbrev pub ending_blocked : Ending → Option ℕ
-ending_blocked (EndStored commit) = None
-ending_blocked (EndFailed refusal) = blocked_by refusal
-
--- the stage from which it ends so
-abbrev pub ending_stage : Ending → Option Halves → Stage
-ending_stage (EndStored commit) split = Stored commit split
-ending_stage (EndFailed refusal) split = Failed refusal split
-
--- what a write has: from the lock on its border, and from a stage that is ready on room in the log
-abbrev pub stage_held : ℕ → Stage → Held
-stage_held number Seeks = nothing
-stage_held number Locked = record { owns = number ∷ []; reserves = 0; committed = None; blocked = None }
-stage_held number (Spared half cut entries) =
-    record { owns = half.0 ∷ number ∷ []; reserves = 0; committed = None; blocked = None }
-stage_held number (HalfFilled half cut) =
-    record { owns = half.0 ∷ number ∷ []; reserves = 0; committed = None; blocked = None }
-stage_held number (Halved split) =
-    record { owns = owned number (Some split); reserves = 0; committed = None; blocked = None }
-stage_held number (LayerSpared layer entries) =
-    record { owns = layer_owned number layer; reserves = 0; committed = None; blocked = None }
-stage_held number (LayerFilled layer) =
-    record { owns = layer_owned number layer; reserves = 0; committed = None; blocked = None }
-stage_held number (LayerReady layer) =
-    record { owns = layer_owned number layer; reserves = 0; committed = None; blocked = None }
-stage_held number (Layered head) = record { owns = number ∷ []; reserves = 0; committed = None; blocked = None }
-stage_held number (Reserved new slot_key row) =
-    record { owns = owned number new.split; reserves = 1; committed = None; blocked = None }
-stage_held number (KeyWritten new row) =
-    record { owns = owned number new.split; reserves = 1; committed = None; blocked = None }
-stage_held number (Filled place stored logged split) =
-    record { owns = owned number split; reserves = 1; committed = None; blocked = None }
-stage_held number (Made place stored columns logged) =
-    record { owns = number ∷ []; reserves = 1; committed = None; blocked = None }
-stage_held number (Taken place stored before) =
-    record { owns = number ∷ []; reserves = 1; committed = None; blocked = None }
-stage_held number (Posts posting ending) =
-    record {
-      owns = posting_owned posting;
-      reserves = 0;
-      committed = ending_commit ending;
-      blocked = ending_blocked ending;
-    }
-stage_held number (Stored commit split) =
-    record { owns = owned number split; reserves = 0; committed = Some commit; blocked = None }
-stage_held number (Failed refusal split) =
-    record { owns = owned number split; reserves = 0; committed = None; blocked = blocked_by refusal }
-
-abbrev pub write_held : Write → Held
-write_held write = stage_held write.way.node.0 write.stage
+use Rattle.mt_steps.specs.Step.{MayRefuse, StepLaw, MayStep, columns_after}
+use Rattle.mt_write.specs.Held.{edit_request, owned, stage_held, write_held, write_request}
 
 -- the call has locked the border of its key, and this is what is there; something of it may be unwritten
 pub record IsOwnedAt (a : ArenaView) (key : List ℕ) (way : Way) (b : BorderView) (w : World) : Type 0 where

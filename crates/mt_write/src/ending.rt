@@ -2,7 +2,7 @@
 //! border is unlocked and it answers.
 
 ghost use Rattle.std.specs.Prelude.{◌≡◌, Some, None};
-ghost use Rattle.mt_write.specs.Writing.{written_answer, ending_stage};
+ghost use Rattle.mt_write.specs.Held.{written_answer, ending_stage};
 ghost use Rattle.mt_write.specs.Follows.{TreeStep, MayBeAt};
 
 use crate::writing::{Edit, Ending, Halves, Stage, Write};
