@@ -71,8 +71,8 @@ def full_border(name: str, nodes: int) -> Script:
     call = len(lines) + 1
     last = f"{call:04x}"
     begin = len(lines)
-    lines += [f"begin 1 put {last} 0=10", *[f"step {call}"] * 9, "begin 2 get 000f all", f"finish {call + 1}"]
-    lines += [*[f"step {call}"] * 6, "alone get 000f all", f"finish {call}"]
+    lines += [f"begin 1 put {last} 0=10", *[f"step {call}"] * 10, "begin 2 get 000f all", f"finish {call + 1}"]
+    lines += [*[f"step {call}"] * 5, "alone get 000f all", f"finish {call}"]
     lines += [f"alone get {last} all", "alone get 0001 all"]
     return Script(name, (), tuple(lines), begin)
 
