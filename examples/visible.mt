@@ -3,6 +3,8 @@ begin 2 get 61 all
 step 1
 step 1
 step 1
+step 1
+step 1
 step 2
 step 2
 step 2

@@ -55,6 +55,8 @@ step 18
 step 18
 step 17
 step 17
+step 17
+step 17
 step 18
 step 17
 step 18
@@ -155,6 +157,8 @@ step 47
 step 48
 step 49
 step 49
+step 47
+step 47
 step 47
 step 47
 step 49

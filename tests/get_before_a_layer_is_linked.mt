@@ -20,3 +20,5 @@ step 3
 step 3
 step 3
 step 3
+step 3
+step 3

@@ -54,6 +54,8 @@ finish 15
 begin 1 put eea6ec3fa6f0c337 0=c337
 step 16
 step 14
+step 14
+step 14
 begin 2 put 0000000000000000000000000000000000000000000000006b7676787171 0=7171
 step 16
 begin 3 put d2300447e5dc0763 0=0763
@@ -79,6 +81,8 @@ step 23
 begin 1 put 636174616c6f672f7271 0=7271
 step 22
 finish 22
+step 23
+step 23
 step 23
 step 24
 finish 24
@@ -213,6 +217,8 @@ step 57
 finish 57
 step 53
 step 53
+step 53
+step 53
 begin 2 put ead3972798600a77 0=0a77
 finish 53
 begin 3 put 633c0ba3d85af3da 0=f3da
@@ -236,6 +242,8 @@ finish 61
 begin 1 put 73657373696f6e2f656b6c6b7665626a 0=626a
 finish 65
 begin 2 put e299ac6b2ccb6de8 0=6de8
+step 55
+step 55
 step 55
 step 55
 step 55
@@ -266,6 +274,8 @@ begin 3 put d7a7bd292dcaf25b 0=f25b
 step 68
 begin 1 put 99479294bb5addbd 0=ddbd
 step 67
+step 67
+step 67
 finish 71
 finish 74
 step 67
@@ -288,6 +298,8 @@ step 78
 step 78
 finish 78
 step 68
+step 68
+step 68
 step 79
 finish 75
 step 73
@@ -301,6 +313,8 @@ step 79
 step 81
 step 79
 finish 79
+step 73
+step 73
 step 73
 step 81
 begin 2 put 3e533c0a174ff987 0=f987
@@ -362,6 +376,8 @@ finish 89
 step 90
 step 92
 step 90
+step 90
+step 90
 step 93
 finish 93
 step 90
@@ -396,6 +412,8 @@ finish 101
 step 96
 begin 3 put 8b741ede7f91a99e 0=a99e
 step 96
+step 96
+step 96
 step 103
 finish 103
 step 104
@@ -407,6 +425,8 @@ step 105
 step 104
 begin 3 put 35aa0d063c1175e7 0=75e7
 step 100
+step 104
+step 104
 step 104
 step 104
 step 107
@@ -430,6 +450,8 @@ step 106
 begin 3 put 00000000000000000000000000000000000000000000000071686a6d696c7175 0=7175
 step 110
 finish 108
+step 105
+step 105
 step 105
 step 110
 step 110
@@ -512,6 +534,8 @@ begin 1 put 636174616c6f672f636174616c6f672f6779646a78646476 1=63
 begin 2 range 29e6328954a28ba8 7 0
 finish 134
 begin 3 put 3e0cc9d17395df79 1=3e
+step 133
+step 133
 step 133
 finish 136
 begin 1 put 636174616c6f672f636174616c6f672f636174616c6f672f6e62 0=6e62
@@ -618,11 +642,15 @@ begin 3 put 38ee74404f01c01a 0=c01a
 step 146
 step 153
 step 153
+step 153
+step 153
 finish 153
 begin 1 get 000000000000000000000000000000000000000000000000746b666574776b6971 all
 step 156
 step 156
 begin 2 put 260df281c04f5056 1=26
+step 146
+step 146
 step 146
 step 154
 step 157
@@ -733,6 +761,8 @@ begin 1 put 00000000000000000000000000000000617775776b66736870686c72 0=6c72
 finish 178
 finish 173
 step 176
+step 176
+step 176
 step 177
 step 176
 finish 177
@@ -761,6 +791,10 @@ finish 180
 step 183
 step 186
 step 182
+step 182
+step 182
+step 183
+step 183
 step 183
 finish 186
 begin 2 put 636174616c6f672f 0=672f
@@ -785,6 +819,8 @@ step 189
 finish 189
 step 188
 begin 2 put 134607bb960ef16f 0=f16f
+step 185
+step 185
 step 185
 step 190
 step 190
@@ -825,6 +861,8 @@ finish 198
 finish 199
 step 195
 step 192
+step 195
+step 195
 step 195
 finish 192
 step 196
@@ -910,6 +948,8 @@ step 218
 step 221
 finish 214
 step 218
+step 218
+step 218
 step 220
 step 210
 begin 2 remove 73657373696f6e2f73657373696f6e2f73657373696f6e2f6f7a646d
@@ -954,6 +994,8 @@ step 222
 step 222
 step 222
 begin 2 put c98afa60d1bd1fb0 0=1fb0
+step 220
+step 220
 step 220
 step 225
 step 225
@@ -1009,6 +1051,8 @@ step 228
 step 231
 finish 231
 finish 222
+step 228
+step 228
 step 228
 finish 225
 begin 2 put cbc284419cdb3ae5 0=3ae5
@@ -1096,6 +1140,8 @@ begin 1 put 73657373696f6e2f73657373696f6e2f73657373696f6e2f6b79796e736e66736d71
 step 236
 step 249
 step 236
+step 236
+step 236
 step 249
 step 248
 step 248
@@ -1114,6 +1160,8 @@ finish 238
 step 247
 step 236
 begin 3 put 73657373696f6e2f73657373696f6e2f 0=6e2f
+step 246
+step 246
 step 246
 begin 1 put 73657373696f6e2f73657373696f6e2f7367677772 0=7772
 begin 2 get a868025c53d4f2d8 all
@@ -1228,7 +1276,7 @@ step 255
 step 255
 step 255
 step 255
-step 255
+finish 255
 step 261
 step 255
 step 258
@@ -1254,6 +1302,8 @@ step 264
 step 263
 finish 263
 begin 1 put 24f1133ca703706e 0=706e
+step 264
+step 264
 step 264
 step 264
 begin 2 put aefab95bf827d9bc 0=d9bc
@@ -1323,6 +1373,8 @@ finish 277
 begin 3 put 000000000000000000000000000000000000000000000000796f6a746d62 0=6d62
 step 276
 begin 1 put f2fdccc62e4ef3d5 0=f3d5
+step 276
+step 276
 step 276
 finish 275
 begin 2 remove 00000000000000006175716677676a6b6e71
@@ -1450,6 +1502,8 @@ step 306
 step 306
 step 305
 step 305
+step 305
+step 305
 step 296
 begin 2 get 000000000000000000000000000000000000000000000000 all
 step 307
@@ -1457,6 +1511,8 @@ step 296
 begin 3 put 3fd61c65df40cb8c 0=cb8c
 step 311
 finish 306
+step 307
+step 307
 step 307
 step 307
 step 296
@@ -1546,6 +1602,8 @@ step 316
 step 321
 finish 321
 step 315
+step 315
+step 315
 begin 2 put 6b12c135f88561c2 0=61c2
 step 323
 step 323
@@ -1561,6 +1619,8 @@ step 324
 finish 324
 step 316
 begin 3 put 636174616c6f672f636174616c6f672f636174616c6f672f6b736e61 1=63
+step 316
+step 316
 step 316
 begin 1 put 4e49fb6be11889fc 0=89fc
 step 315
@@ -1620,10 +1680,14 @@ step 337
 finish 338
 step 336
 step 336
+step 336
+step 336
 finish 336
 begin 1 put 7770791c06998f46 0=8f46
 step 335
 step 335
+step 337
+step 337
 step 337
 step 337
 begin 2 get 4b1d873ab41f020c all
@@ -1730,6 +1794,8 @@ begin 3 put 5357fc2998fe2a2a 0=2a2a
 finish 346
 begin 1 put 73657373696f6e2f796e706572666f7a7163 1=73
 step 354
+step 354
+step 354
 step 348
 step 354
 step 354
@@ -1741,6 +1807,8 @@ step 359
 step 359
 step 356
 step 360
+step 359
+step 359
 step 359
 step 356
 step 355
@@ -1749,6 +1817,8 @@ step 354
 step 354
 step 355
 step 348
+step 356
+step 356
 step 356
 step 356
 step 356
@@ -1777,6 +1847,8 @@ begin 2 put 0000000000000000000000000000000000000000000000006165626d7372656d72 0
 step 363
 step 363
 begin 3 put db8d69d31863c290 0=c290
+step 358
+step 358
 step 358
 begin 1 put 0000000000000000000000000000000000000000000000006d67 0=6d67
 step 364
@@ -1854,6 +1926,8 @@ step 378
 step 378
 step 378
 finish 375
+step 373
+step 373
 step 373
 begin 2 get e299ac6b2ccb6de8 all
 step 379
@@ -1961,6 +2035,8 @@ step 393
 step 396
 step 393
 step 393
+step 393
+step 393
 step 399
 begin 2 put 53c5faea75853d85 0=3d85
 step 393
@@ -2001,6 +2077,8 @@ step 399
 step 405
 step 402
 finish 395
+step 399
+step 399
 step 399
 step 401
 step 393
@@ -2231,6 +2309,8 @@ step 433
 finish 433
 step 448
 step 447
+step 447
+step 447
 step 444
 step 444
 step 448
@@ -2270,6 +2350,8 @@ step 453
 step 452
 step 456
 step 452
+step 452
+step 452
 begin 2 get aefab95bf827d9bc all
 finish 453
 step 452
@@ -2285,6 +2367,8 @@ step 458
 begin 2 put 73657373696f6e2f73657373696f6e2f73657373696f6e2f6479 0=6479
 step 459
 finish 459
+step 458
+step 458
 step 458
 step 458
 step 458
@@ -2445,6 +2529,8 @@ finish 483
 step 488
 finish 482
 step 479
+step 479
+step 479
 step 488
 step 485
 step 485
@@ -2565,6 +2651,8 @@ step 498
 finish 499
 step 498
 step 498
+step 498
+step 498
 begin 3 put 5f461e557dc93328 1=5f
 step 490
 begin 1 range d5e9ba1eaa222cff 20 0
@@ -2624,9 +2712,13 @@ finish 504
 step 507
 begin 2 get 209fefc0605cf809 all
 step 503
+step 503
+step 503
 finish 511
 step 507
 begin 3 remove a3013b2298bfd7ae
+step 507
+step 507
 step 507
 step 508
 finish 508
@@ -2679,6 +2771,8 @@ finish 518
 step 521
 step 521
 begin 1 put 05f7aac49d402b2d 0=2b2d
+step 520
+step 520
 step 520
 finish 512
 begin 2 put 73657373696f6e2f73657373696f6e2f73657373696f6e2f726b6469656e 0=656e
@@ -2834,6 +2928,8 @@ step 562
 step 560
 step 562
 step 554
+step 554
+step 554
 begin 3 put 46b5ce0efbefd2c6 0=d2c6
 step 563
 step 554
@@ -2875,6 +2971,8 @@ step 569
 step 569
 finish 570
 begin 3 put 636174616c6f672f636174616c6f672f636174616c6f672f70 1=63
+step 561
+step 561
 step 561
 step 561
 step 572
@@ -2925,6 +3023,8 @@ finish 567
 step 573
 step 576
 step 576
+step 573
+step 573
 step 573
 finish 579
 begin 2 get 9c38402a4ef471da all
@@ -3086,6 +3186,8 @@ step 594
 step 594
 step 598
 step 598
+step 598
+step 598
 step 602
 step 605
 step 605
@@ -3215,6 +3317,8 @@ finish 631
 begin 1 put 820ebb5fc7ea7001 0=7001
 finish 630
 step 632
+step 628
+step 628
 step 628
 finish 616
 step 619
@@ -3488,6 +3592,8 @@ finish 694
 step 695
 step 695
 step 695
+step 695
+step 695
 step 696
 begin 1 put 6fc7ec2f92ed97a8 0=97a8
 finish 697
@@ -3542,6 +3648,8 @@ step 708
 step 706
 step 704
 finish 704
+step 706
+step 706
 step 706
 step 706
 step 703
@@ -3687,6 +3795,8 @@ finish 734
 begin 3 put 57e9e2f74e5b6167 0=6167
 finish 738
 step 733
+step 733
+step 733
 begin 1 remove 59420f81a6039cf8
 step 736
 step 741
@@ -3739,6 +3849,8 @@ step 745
 step 750
 step 750
 step 747
+step 750
+step 750
 step 750
 step 747
 step 749
@@ -3865,6 +3977,8 @@ step 764
 begin 1 put 1611998c4f1055aa 1=16
 begin 2 put 000000000000000000000000000000006a64716c7872666778 1=00
 step 764
+step 764
+step 764
 step 775
 begin 3 get 6c3c9004773235ff all
 step 776
@@ -3892,6 +4006,8 @@ begin 2 put 636174616c6f672f636174616c6f672f61 0=2f61
 step 764
 step 777
 begin 3 put 8fa1ff26708f0c9c 0=0c9c
+step 766
+step 766
 step 766
 step 764
 finish 764
@@ -4286,6 +4402,8 @@ begin 3 put 4080e2aa05f17a0b 1=40
 step 848
 step 848
 step 841
+step 841
+step 841
 step 845
 step 846
 finish 846
@@ -4674,6 +4792,8 @@ step 926
 finish 926
 step 923
 step 923
+step 923
+step 923
 finish 924
 finish 923
 begin 1 get 9663cf55bd663423 all
@@ -4719,6 +4839,8 @@ step 932
 step 941
 step 941
 step 936
+step 936
+step 936
 step 941
 step 939
 step 938
@@ -4736,6 +4858,7 @@ step 941
 finish 939
 begin 2 put 0cd0938b09a07afe 0=7afe
 step 936
+finish 939
 step 941
 step 941
 step 943
@@ -4774,6 +4897,8 @@ finish 947
 begin 2 get 73657373696f6e2f73657373696f6e2f62646b69736275706a7a61 all
 begin 3 put 73657373696f6e2f73657373696f6e2f73657373696f6e2f686a7569667a6d6e6e6173 0=6173
 step 950
+step 943
+step 943
 step 943
 step 943
 step 948
@@ -4975,6 +5100,8 @@ finish 982
 step 979
 step 979
 begin 3 range f490b52385cc6ee6 7 0
+step 976
+step 976
 step 976
 step 976
 step 979
@@ -5442,6 +5569,8 @@ step 1072
 step 1071
 finish 1070
 step 1071
+step 1071
+step 1071
 step 1072
 step 1075
 step 1072
@@ -5597,6 +5726,8 @@ step 1101
 step 1081
 finish 1081
 begin 3 put c53794b7f8112291 0=2291
+step 1097
+step 1097
 step 1097
 finish 1102
 begin 1 get 73657373696f6e2f73657373696f6e2f78 all

@@ -2315,6 +2315,8 @@ step 1152
 step 1152
 step 1152
 step 1152
+step 1152
+step 1152
 begin 2 put 4319 0=bb
 step 1153
 step 1153
@@ -2326,7 +2328,11 @@ step 1153
 step 1153
 step 1153
 step 1153
+step 1153
+step 1153
 begin 3 put 0199 0=cc
+step 1154
+step 1154
 step 1154
 step 1154
 step 1154
@@ -2461,7 +2467,11 @@ step 1184
 step 1184
 step 1184
 step 1184
+step 1184
+step 1184
 step 1183
+step 1181
+step 1181
 step 1181
 step 1182
 step 1181
@@ -2483,12 +2493,16 @@ begin 2 put 3ec1 0=a8
 step 1187
 step 1183
 step 1183
+step 1183
+step 1183
 step 1186
 step 1188
 step 1183
 begin 1 put 3ec1 0=0e
 step 1186
 step 1187
+step 1186
+step 1186
 step 1186
 step 1185
 step 1189
@@ -2500,6 +2514,10 @@ step 1186
 step 1187
 begin 2 put 44c0 0=f0
 step 1187
+step 1187
+step 1187
+step 1185
+step 1185
 step 1185
 step 1188
 step 1189
@@ -2511,6 +2529,8 @@ step 1187
 step 1190
 step 1182
 step 1190
+step 1182
+step 1182
 step 1182
 step 1188
 step 1190
@@ -2531,8 +2551,12 @@ step 1188
 step 1191
 step 1191
 step 1190
+step 1190
+step 1190
 step 1192
 step 1189
+step 1188
+step 1188
 step 1188
 step 1191
 step 1191
@@ -2589,7 +2613,11 @@ step 1196
 step 1194
 step 1193
 step 1193
+step 1193
+step 1193
 step 1195
+step 1192
+step 1192
 step 1192
 step 1195
 begin 2 put 4590 0=3e
@@ -2603,8 +2631,12 @@ step 1198
 step 1192
 step 1196
 step 1196
+step 1196
+step 1196
 step 1194
 step 1198
+step 1194
+step 1194
 step 1194
 step 1194
 step 1198
@@ -2619,10 +2651,14 @@ step 1197
 step 1199
 step 1199
 step 1197
+step 1197
+step 1197
 step 1199
 step 1194
 begin 3 get 1d40 all
 step 1198
+step 1195
+step 1195
 step 1195
 step 1197
 step 1198
@@ -2640,6 +2676,8 @@ step 1195
 step 1200
 begin 4 get 0880 all
 step 1198
+step 1198
+step 1198
 step 1200
 step 1202
 step 1201
@@ -2652,6 +2690,8 @@ step 1199
 step 1198
 step 1202
 step 1203
+step 1199
+step 1199
 step 1199
 step 1198
 step 1201
@@ -2670,6 +2710,8 @@ step 1199
 step 1205
 step 1204
 step 1204
+step 1200
+step 1200
 step 1200
 step 1204
 step 1203
@@ -2698,7 +2740,11 @@ step 1199
 step 1206
 step 1205
 step 1205
+step 1205
+step 1205
 begin 4 put 3f42 0=89
+step 1202
+step 1202
 step 1202
 step 1205
 step 1205
@@ -2723,6 +2769,8 @@ step 1207
 step 1210
 step 1206
 step 1204
+step 1204
+step 1204
 step 1209
 step 1209
 step 1206
@@ -2736,6 +2784,8 @@ step 1208
 step 1206
 step 1207
 step 1210
+step 1209
+step 1209
 step 1209
 step 1210
 step 1206
@@ -2753,17 +2803,25 @@ step 1211
 step 1211
 step 1211
 step 1206
+step 1206
+step 1206
 step 1204
 step 1204
 step 1204
 step 1206
 step 1211
 step 1207
+step 1207
+step 1207
 step 1204
+step 1208
+step 1208
 step 1208
 step 1208
 step 1210
 step 1204
+step 1211
+step 1211
 step 1211
 step 1204
 step 1207
@@ -2792,6 +2850,8 @@ step 1210
 step 1214
 begin 4 put 45a0 0=ed
 step 1214
+step 1210
+step 1210
 step 1210
 step 1215
 step 1212
@@ -2827,6 +2887,10 @@ step 1216
 step 1212
 step 1213
 step 1212
+step 1212
+step 1212
+step 1216
+step 1216
 step 1216
 step 1218
 step 1216
@@ -2840,6 +2904,8 @@ begin 1 put 44e0 0=cb
 step 1215
 step 1220
 step 1213
+step 1213
+step 1213
 step 1220
 step 1217
 step 1217
@@ -2849,6 +2915,8 @@ step 1218
 step 1218
 step 1219
 step 1213
+step 1217
+step 1217
 step 1217
 step 1218
 step 1217
@@ -2860,6 +2928,8 @@ step 1218
 step 1219
 step 1220
 step 1218
+step 1218
+step 1218
 step 1215
 step 1218
 step 1219
@@ -2875,7 +2945,11 @@ step 1213
 step 1221
 step 1219
 step 1219
+step 1219
+step 1219
 step 1220
+step 1215
+step 1215
 step 1215
 step 1221
 step 1218
@@ -2892,8 +2966,12 @@ step 1215
 step 1213
 begin 4 get 3fa0 all
 step 1221
+step 1221
+step 1221
 step 1222
 step 1222
+step 1220
+step 1220
 step 1220
 step 1223
 step 1220
@@ -2917,11 +2995,15 @@ step 1224
 step 1223
 step 1225
 step 1223
+step 1223
+step 1223
 step 1222
 step 1226
 step 1225
 step 1225
 step 1226
+step 1222
+step 1222
 step 1222
 step 1215
 step 1223
@@ -2958,6 +3040,8 @@ step 1227
 step 1230
 step 1226
 step 1226
+step 1226
+step 1226
 step 1230
 step 1228
 step 1229
@@ -2966,6 +3050,8 @@ step 1228
 step 1231
 step 1227
 step 1229
+step 1230
+step 1230
 step 1230
 step 1227
 step 1230
@@ -2991,6 +3077,10 @@ begin 4 put 4249 0=76
 step 1229
 step 1231
 step 1231
+step 1231
+step 1231
+step 1227
+step 1227
 step 1227
 step 1233
 step 1232
@@ -3021,6 +3111,8 @@ step 1235
 step 1236
 step 1236
 step 1234
+step 1229
+step 1229
 step 1229
 step 1233
 step 1236
@@ -3072,7 +3164,11 @@ step 1233
 step 1238
 step 1233
 step 1233
+step 1233
+step 1233
 step 1237
+step 1234
+step 1234
 step 1234
 step 1240
 step 1233
@@ -3081,6 +3177,8 @@ begin 3 put 43a2 0=16
 step 1241
 step 1241
 step 1241
+step 1238
+step 1238
 step 1238
 step 1238
 step 1238
@@ -3101,6 +3199,10 @@ step 1242
 step 1239
 step 1240
 step 1240
+step 1240
+step 1240
+step 1241
+step 1241
 step 1241
 step 1240
 step 1243
@@ -3117,9 +3219,13 @@ step 1239
 step 1242
 step 1237
 step 1237
+step 1237
+step 1237
 step 1241
 step 1239
 begin 2 put 4570 0=e4
+step 1239
+step 1239
 step 1239
 step 1239
 step 1243
@@ -3134,6 +3240,8 @@ step 1246
 step 1243
 step 1242
 step 1244
+step 1242
+step 1242
 step 1242
 step 1242
 step 1242
@@ -3168,6 +3276,8 @@ step 1246
 step 1249
 step 1244
 step 1244
+step 1244
+step 1244
 step 1249
 step 1248
 step 1249
@@ -3194,6 +3304,8 @@ step 1248
 finish 1248
 begin 2 get 2b80 all
 step 1246
+step 1246
+step 1246
 step 1244
 step 1249
 step 1250
@@ -3208,6 +3320,8 @@ step 1246
 begin 5 get 4480 all
 step 1249
 step 1244
+step 1249
+step 1249
 step 1249
 step 1244
 step 1249
@@ -3249,6 +3363,8 @@ step 1245
 step 1245
 step 1247
 step 1247
+step 1247
+step 1247
 step 1245
 step 1253
 step 1253
@@ -3278,6 +3394,8 @@ step 1255
 step 1253
 step 1253
 step 1253
+step 1245
+step 1245
 step 1245
 step 1255
 step 1255
@@ -4737,6 +4855,8 @@ step 1760
 step 1760
 step 1760
 step 1760
+step 1760
+step 1760
 begin 2 put 6119 0=ee
 step 1761
 step 1761
@@ -4749,7 +4869,11 @@ step 1761
 step 1761
 step 1761
 step 1761
+step 1761
+step 1761
 begin 3 put 1419 0=ff
+step 1762
+step 1762
 step 1762
 step 1762
 step 1762

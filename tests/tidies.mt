@@ -208,6 +208,8 @@ step 68
 step 66
 step 59
 step 59
+step 59
+step 59
 step 58
 step 64
 step 66
@@ -238,6 +240,8 @@ begin 2 put 0000000000000046 0=-
 begin 2 put 0000000000000047 0=48
 step 76
 step 66
+step 66
+step 66
 feed 34 3
 step 74
 step 74
@@ -251,6 +255,8 @@ step 77
 step 75
 step 77
 step 75
+step 76
+step 76
 step 76
 step 75
 step 74
@@ -274,6 +280,8 @@ step 74
 step 79
 step 79
 step 80
+step 64
+step 64
 step 64
 step 75
 step 77
@@ -332,6 +340,8 @@ step 90
 begin 1 put 0000000000000056 0=80
 step 88
 step 88
+step 74
+step 74
 step 74
 step 81
 step 89
@@ -2166,6 +2176,10 @@ begin 1 put 000000000000027f 0=5416
 step 664
 step 673
 step 664
+step 664
+step 664
+step 650
+step 650
 step 650
 step 672
 step 650
@@ -3588,6 +3602,8 @@ step 1136
 step 1136
 begin 1 remove 00000000000001ed
 step 1135
+step 1123
+step 1123
 step 1123
 step 1134
 step 1138
@@ -9817,6 +9833,8 @@ step 3168
 step 3168
 begin 1 tidy 00000000000000b5
 step 3167
+step 3162
+step 3162
 step 3162
 step 3164
 step 3169

@@ -52,6 +52,8 @@ step 4
 step 7
 step 9
 step 6
+step 6
+step 6
 step 7
 step 2
 advance
@@ -88,6 +90,8 @@ step 4
 step 7
 step 4
 step 4
+step 4
+step 4
 step 2
 step 10
 step 4
@@ -99,6 +103,8 @@ step 11
 step 2
 step 9
 step 10
+step 7
+step 7
 step 7
 step 11
 step 2
@@ -121,12 +127,18 @@ step 11
 step 2
 step 13
 step 9
+step 9
+step 9
 step 12
+step 13
+step 13
 step 13
 step 2
 step 12
 step 13
 step 9
+step 11
+step 11
 step 11
 step 11
 step 9
@@ -137,11 +149,15 @@ step 14
 step 2
 collect
 step 2
+step 2
+step 2
 step 15
 step 14
 step 12
 step 14
 step 15
+step 12
+step 12
 step 12
 step 14
 step 12
@@ -634,6 +650,8 @@ step 144
 begin 2 put 616161616161616162626262626262620101 0=f4e0
 step 143
 step 147
+step 147
+step 147
 step 145
 step 147
 step 143
@@ -1036,6 +1054,8 @@ step 229
 feed 32 10
 step 229
 step 229
+step 229
+step 229
 step 224
 step 230
 step 230
@@ -1055,6 +1075,8 @@ step 224
 step 222
 step 231
 step 228
+step 228
+step 228
 step 231
 step 224
 step 222
@@ -1063,6 +1085,8 @@ step 228
 collect
 step 229
 step 230
+step 224
+step 224
 step 224
 begin 1 put 616161616161616162626262626262620303 0=b6545c
 begin 3 put 61616161616161610101 0=fc
@@ -1265,6 +1289,8 @@ step 257
 apply 0
 step 257
 step 266
+step 262
+step 262
 step 262
 step 262
 finish 262
@@ -1877,6 +1903,8 @@ step 385
 step 377
 step 384
 step 377
+step 377
+step 377
 step 386
 step 385
 step 385
@@ -2239,6 +2267,8 @@ step 460
 step 461
 step 465
 step 460
+step 460
+step 460
 step 465
 step 461
 step 464
@@ -2268,6 +2298,8 @@ step 459
 feed 90 3
 feed 80 1
 step 463
+step 461
+step 461
 step 461
 step 461
 step 459
@@ -2320,6 +2352,8 @@ step 467
 step 465
 step 466
 step 464
+step 464
+step 464
 step 467
 step 464
 step 463
@@ -2332,11 +2366,15 @@ step 467
 step 468
 step 468
 step 467
+step 467
+step 467
 step 468
 step 468
 step 467
 step 463
 step 467
+step 466
+step 466
 step 466
 begin 2 put 616161616161616162626262626262620303 0=a6
 step 466
@@ -2353,6 +2391,8 @@ begin 3 remove 616161616161616102
 step 463
 step 468
 step 459
+step 463
+step 463
 step 463
 step 469
 step 468
@@ -2381,6 +2421,8 @@ step 468
 begin 2 build prefix 61616161 any
 step 471
 feed 15 1
+step 459
+step 459
 step 459
 step 473
 step 473
@@ -2424,6 +2466,8 @@ step 474
 step 474
 step 474
 step 471
+step 469
+step 469
 step 469
 step 469
 step 471
@@ -3110,6 +3154,8 @@ step 608
 step 613
 begin 1 remove 61616161616161610303
 step 603
+step 603
+step 603
 step 613
 step 613
 step 613
@@ -3224,6 +3270,8 @@ step 618
 step 618
 step 618
 step 618
+step 625
+step 625
 step 625
 step 625
 step 627
@@ -3785,6 +3833,8 @@ step 758
 step 762
 advance
 step 758
+step 758
+step 758
 step 761
 step 751
 step 761
@@ -3796,11 +3846,17 @@ step 758
 step 757
 step 758
 step 760
+step 760
+step 760
 begin 1 put 62626262626262620202 0=-
 step 761
 step 763
 step 757
 step 761
+step 761
+step 761
+step 763
+step 763
 step 763
 step 763
 step 763
@@ -3840,6 +3896,8 @@ step 764
 step 766
 finish 764
 feed 87 3
+step 762
+step 762
 step 762
 step 762
 step 757
@@ -3883,6 +3941,8 @@ step 770
 step 771
 step 767
 step 772
+step 767
+step 767
 step 767
 advance
 step 767
@@ -4468,6 +4528,8 @@ step 878
 step 877
 step 877
 step 874
+step 874
+step 874
 step 878
 step 870
 step 879
@@ -4475,6 +4537,10 @@ step 878
 step 874
 step 877
 step 870
+step 870
+step 870
+step 868
+step 868
 step 868
 step 868
 step 878
@@ -4498,6 +4564,8 @@ begin 2 remove 62626262626262620000
 step 881
 step 882
 step 879
+step 877
+step 877
 step 877
 step 882
 step 877
@@ -4567,6 +4635,8 @@ step 880
 step 881
 step 881
 step 881
+step 881
+step 881
 step 889
 step 889
 step 889
@@ -4601,6 +4671,8 @@ step 894
 step 891
 step 891
 collect
+step 880
+step 880
 step 880
 step 891
 step 893
@@ -5154,6 +5226,8 @@ finish 992
 begin 2 put 61616161616161610101 0=58
 step 1003
 step 1003
+step 1003
+step 1003
 step 999
 step 1003
 step 1002
@@ -5173,6 +5247,8 @@ begin 1 put 626262626262626203 0=3ffa57
 step 1005
 step 999
 step 1004
+step 998
+step 998
 step 998
 step 998
 step 1007
@@ -5213,6 +5289,8 @@ step 999
 step 1004
 step 1004
 step 1006
+step 1006
+step 1006
 step 1008
 step 999
 begin 1 put 616161616161616102 0=ec72
@@ -5220,6 +5298,8 @@ step 1008
 step 1008
 step 1006
 step 1005
+step 1007
+step 1007
 step 1007
 step 1004
 step 1005
@@ -5299,6 +5379,8 @@ step 1014
 step 1016
 step 1014
 begin 2 tidy 616161616161616102
+step 1009
+step 1009
 step 1009
 step 1016
 step 1019
@@ -5471,6 +5553,8 @@ step 1039
 step 1039
 step 1037
 step 1037
+step 1037
+step 1037
 feed 242 10
 step 1040
 step 1036
@@ -5493,6 +5577,10 @@ step 1040
 step 1036
 step 1036
 step 1038
+step 1038
+step 1038
+step 1035
+step 1035
 step 1035
 step 1038
 step 1040
@@ -5544,6 +5632,8 @@ step 1052
 step 1051
 step 1048
 step 1046
+step 1046
+step 1046
 step 1052
 step 1051
 step 1046
@@ -5573,6 +5663,8 @@ finish 1052
 begin 2 remove 62626262626262620202
 step 1053
 step 1053
+step 1044
+step 1044
 step 1044
 step 1044
 step 1055
@@ -5763,6 +5855,8 @@ step 1081
 step 1078
 step 1081
 step 1081
+step 1078
+step 1078
 step 1078
 step 1078
 begin 2 remove 616161616161616162626262626262620101
@@ -6099,6 +6193,8 @@ finish 1154
 begin 3 remove 62626262626262620202
 step 1153
 step 1153
+step 1153
+step 1153
 step 1156
 step 1153
 advance
@@ -6171,6 +6267,8 @@ step 1164
 step 1162
 step 1164
 step 1164
+step 1152
+step 1152
 step 1152
 step 1163
 step 1165
