@@ -112,9 +112,10 @@ impl Machine {
     ///
     /// A get, put, remove or tidy costs the visit of each node on its way, and a put makes the steps of its splits too. A
     /// range or build also visits each border that it reads. A get, range or build reads one field of a border in each of
-    /// its steps: a get makes at most 64 steps for each node that there is (`nodes`). A call allocates for its answer and for what it stores. A range or
-    /// build also allocates for what it reads, and a get, range or build to hold the log. The request is moved into the
-    /// call, not copied. A put or remove is never stored among the open calls.
+    /// its steps: a get makes at most 64 steps for each node that there is (`nodes`). A put or remove searches a border
+    /// once, and its steps are those that read it field by field. A call allocates for its answer and for what it stores.
+    /// A range or build also allocates for what it reads, and a get, range or build to hold the log. The request is moved
+    /// into the call, not copied. A put or remove is never stored among the open calls.
     ///
     /// # Errors
     ///

@@ -202,7 +202,8 @@ impl Machine {
     /// - `does`: what an event of each kind changes, and that it changes nothing else;
     /// - `caused`: why a call waits, fails or is refused, and which nodes a collection frees;
     /// - `one_step`: that a step of a call is one step of its kind, by the tree before it. It visits one node, of which
-    ///   a get, range or build reads one field if it is a border; or it takes one delta of the log.
+    ///   it reads one field if it is a border on the way of a get, put, remove, range or build; or it takes one delta of
+    ///   the log.
     ///
     /// What the event answers keeps the limits of an index (`limited`).
     ///

@@ -12,6 +12,10 @@ use Rattle.mt_arena.specs.Node.{border_at}
 use Rattle.mt_commit.specs.Log.{LogView}
 use Rattle.mt_tree.specs.Descent.{found_for}
 use Rattle.mt_steps.specs.declared.progress.Progress.TheVariants.{Moved, Waits, Committed}
+use Rattle.mt_steps.specs.Entering.{entered}
+use Rattle.mt_steps.specs.declared.entering.Entered.{Entered}
+use Rattle.mt_steps.specs.declared.entering.Entered.TheVariants.{Enters as EntersNext, Right as EntersRight, Below as EntersBelow, Here as EntersHere}
+use Rattle.mt_steps.specs.declared.entering.There.{There}
 use Rattle.mt_steps.specs.declared.way.Way.{Way}
 use Rattle.mt_steps.specs.Way.{rest_of}
 use Rattle.mt_write.specs.declared.writing.Write.{Write as WriteView}
@@ -20,8 +24,10 @@ use Rattle.mt_write.specs.declared.writing.Halves.{Halves}
 use Rattle.mt_write.specs.declared.writing.Ending.{Ending}
 use Rattle.mt_write.specs.declared.writing.Ending.TheVariants.{Stored as EndStored, Failed as EndFailed}
 use Rattle.mt_write.specs.declared.writing.Stage.{Stage}
-use Rattle.mt_write.specs.declared.writing.Stage.TheVariants.{Seeks, Locked, HalfFilled, Halved, Posts, Layered, Filled, Made, Taken, Stored, Failed}
+use Rattle.mt_write.specs.declared.writing.Stage.TheVariants.{Seeks, Enters, Rightward, Searched, HalfFilled, Halved, Posts, Layered, Filled, Made, Taken, Stored, Failed}
+use Rattle.mt_post.specs.declared.posting.Posting.{Posting}
 use Rattle.mt_write.specs.Held.{ending_stage}
+use Rattle.mt_write.specs.Writing.{entered_stage}
 use Rattle.mt_write.specs.Causes.{edit_fault, fill_fault, FailsBy, StageFails}
 use Rattle.mt_write.specs.Follows.{StageFollows, StageRests}
 use Rattle.mt_works.specs.declared.work.Work.{Work}
@@ -41,6 +47,13 @@ IsWriting (PutIfRequest key sets version) = Unit {0}
 IsWriting (RemoveRequest key) = Unit {0}
 IsWriting _ = ⊥
 
+-- a field that is read begins no posting
+posts_none : (posting : Posting) (ending : Ending) (e : Entered) → Posts posting ending ≡ entered_stage e → ⊥
+posts_none posting ending (EntersNext next) is = cc
+posts_none posting ending (EntersRight next) is = cc
+posts_none posting ending (EntersBelow head) is = cc
+posts_none posting ending (EntersHere there) is = cc
+
 module _ (P : Refusal → Type 0) where
   -- what is said of a failure that a stage carries
   abbrev pub EndSays : Ending → Type 0
@@ -59,7 +72,7 @@ module _ (P : Refusal → Type 0) where
   -- it is so of each fault for which a write may fail where it is
   pub record Explains (a : ArenaView) (log : LogView) (write : WriteView) : Type 0 where
     pub memory : P NoMemory
-    pub locked : write.stage ≡ Locked → (b : BorderView) → border_at a.nodes write.way.node.0 ≡ Some b → (refusal : Refusal)
+    pub searched : (there : There) → write.stage ≡ Searched there → (b : BorderView) → border_at a.nodes write.way.node.0 ≡ Some b → (refusal : Refusal)
         → edit_fault a log write.edit b (found_for (rest_of write.key write.way) b.live) ≡ Some refusal → P refusal
     pub halved : (split : Halves) → write.stage ≡ Halved split → (b : BorderView) → (refusal : Refusal) → border_at a.nodes write.way.node.0 ≡ Some b
         → fill_fault log b ≡ Some refusal → P refusal
@@ -77,11 +90,18 @@ module _ (P : Refusal → Type 0) where
         → StageFails a log key edit way stage Moved new → StageSays stage → StageSays new
     moved Seeks new e (inl stays) fails says = subst StageSays (sym stays.0) tt
     moved Seeks new e (inr on) fails says = subst StageSays (sym on.0) tt
-    moved Locked (Failed refusal halves) e ready fails says =
+    moved (Enters entering) (Failed refusal halves) e on fails says = subst P (sym fails.1.0) e.memory
+    moved (Enters entering) (Posts posting ending) e on fails says = elim on.0 [
+      | inl (part, lent, is) ↦ absurd (posts_none posting ending (entered (rest_of key way) entering part) is)
+      | inr is ↦ absurd (let clash : Posts posting ending ≡ Failed NoMemory None = is in cc)
+    ]
+    moved (Enters entering) _ e on fails says = tt
+    moved (Rightward right) new e on fails says = subst StageSays (sym on.0) tt
+    moved (Searched there) (Failed refusal halves) e ready fails says =
         let (b, at, by) = some_and (border_at a.nodes way.node.0) (λ b. FailsBy (edit_fault a log edit b (found_for (rest_of key way) b.live)) None (Failed refusal halves)) fails.1 in
-        failed_by (edit_fault a log edit b (found_for (rest_of key way) b.live)) refusal None halves by e.memory (λ x is. e.locked refl b at x is)
-    moved Locked (Posts posting ending) e ready fails says = absurd ready.0
-    moved Locked _ e ready fails says = tt
+        failed_by (edit_fault a log edit b (found_for (rest_of key way) b.live)) refusal None halves by e.memory (λ x is. e.searched there refl b at x is)
+    moved (Searched there) (Posts posting ending) e ready fails says = absurd ready.0
+    moved (Searched there) _ e ready fails says = tt
     moved (HalfFilled half cut) new e on fails says = subst StageSays (sym on.0) tt
     moved (Halved split) (Failed refusal halves) e ready fails says =
         let (b, at, by) = some_and (border_at a.nodes way.node.0) (λ b. FailsBy (fill_fault log b) (Some split) (Failed refusal halves)) fails.1 in
@@ -112,7 +132,7 @@ module _ (P : Refusal → Type 0) where
       → WorkFollows a log work Moved new → WorkFails a log work Moved new → WorkSays work → WorkSays new
   work_moved a log (Write write) (Write new) e follows fails says =
       let x = e write refl in
-      moved a log write.key write.edit write.way new.way write.stage new.stage (record { memory = x.memory; locked = x.locked; halved = x.halved }) follows fails says
+      moved a log write.key write.edit write.way new.way write.stage new.stage (record { memory = x.memory; searched = x.searched; halved = x.halved }) follows fails says
   work_moved a log _ (Write new) e follows fails says = absurd follows
   work_moved a log work _ e follows fails says = tt
 

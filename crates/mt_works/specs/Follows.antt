@@ -11,8 +11,8 @@ use Rattle.mt_works.specs.Building.{BuildFollows}
 use Rattle.mt_works.specs.declared.work.Work.{Work}
 use Rattle.mt_works.specs.declared.work.Work.TheVariants.{Get, Write, Range, Tidy, Build}
 
--- a get, range or build reads one field of a border, and does what follows from it; for a put, remove or tidy, which
--- stage follows
+-- a get, range or build reads one field of a border, and does what follows from it; so does a put or remove, on its way
+-- to its key, of a border that it has locked; otherwise, and for a tidy, which stage follows
 abbrev pub WorkFollows : ArenaView → LogView → Work → Progress → Work → Type 0
 WorkFollows a log (Get get) p (Get new) = GetFollows a get p new
 WorkFollows a log (Get get) p _ = ⊥

@@ -66,8 +66,9 @@ impl Work {
         }
     }
 
-    /// Makes one step. `epoch` is the present epoch. A get, range or build reads one field of a border, or visits a head or
-    /// an interior node; a build that has scanned its keys takes one delta. A put, remove or tidy visits one node.
+    /// Makes one step. `epoch` is the present epoch. A call visits one head or interior node, or reads one field of a
+    /// border; a put or remove locks the border first. A build that has scanned its keys takes one delta. A tidy visits
+    /// one node, as does a put that splits a border or makes a layer.
     pub fn step(
         &mut self,
         alloc: Global,

@@ -27,8 +27,9 @@ use Rattle.mt_steps.specs.declared.way.Way.{Way}
 use Rattle.mt_write.specs.declared.writing.Edit.{Edit}
 use Rattle.mt_write.specs.declared.writing.Edit.TheVariants.{Put as PutEdit, Remove as RemoveEdit}
 use Rattle.mt_write.specs.declared.writing.Stage.{Stage}
-use Rattle.mt_write.specs.declared.writing.Stage.TheVariants.{Locked, Filled, Made, Taken, Stored, Failed}
+use Rattle.mt_write.specs.declared.writing.Stage.TheVariants.{Searched, Filled, Made, Taken, Stored, Failed}
 use Rattle.mt_write.specs.declared.writing.Halves.{Halves}
+use Rattle.mt_steps.specs.declared.entering.There.{There}
 use Rattle.mt_steps.specs.declared.progress.Progress.{Progress}
 use Rattle.mt_steps.specs.declared.progress.Progress.TheVariants.{Moved, Committed, Answered, Refused}
 use Rattle.mt_steps.specs.World.{World, IsWorld, RowsAreOfKeys, Goes}
@@ -248,11 +249,11 @@ module _ (C : ℕ) (a : ArenaView) (log : LogView) (key : List ℕ) (edit : Edit
   unlock b = with_unlocked b
 
   -- a remove is ready, or it fails
-  pub takes : (stage : Stage) (left : LogView) → edit ≡ RemoveEdit → PreparesRemove key way a log (Some stage) left
-      → StepLaw C a a log left (edit_request key edit) (stage_held way.node.0 Locked) Moved (stage_held way.node.0 stage) (λ begun moves past x w. StageIsTrue C key edit way Locked begun x w) (λ begun moves past x w. StageIsTrue C key edit way stage begun x w)
-  takes (Taken place stored before) left is_remove f = record {
+  pub takes : (there : There) (stage : Stage) (left : LogView) → edit ≡ RemoveEdit → PreparesRemove key way a log (Some stage) left
+      → StepLaw C a a log left (edit_request key edit) (stage_held way.node.0 (Searched there)) Moved (stage_held way.node.0 stage) (λ begun moves past x w. StageIsTrue C key edit way (Searched there) begun x w) (λ begun moves past x w. StageIsTrue C key edit way stage begun x w)
+  takes there (Taken place stored before) left is_remove f = record {
     steps = λ now begun moves past w world early truth.
-        let (b, at) = truth in
+        let (b, at, told) = truth in
         let same : f.b ≡ b = (let both : ◌≡◌ {A = Option BorderView} (Some f.b) (Some b) = sym f.named ∙ at.named in cc) in
         record {
           goes = goes_same now a w _ (way.node.0 ∷ []) (way.node.0 ∷ []) refl world (b, at, subst (λ (e : Edit). IsFound key e way b place stored before) (sym is_remove) (subst (λ (x : BorderView). IsFound key RemoveEdit way x place stored before) same f.found));
@@ -263,11 +264,11 @@ module _ (C : ℕ) (a : ArenaView) (log : LogView) (key : List ℕ) (edit : Edit
           may = λ get. absurd (no_get key edit get);
         };
   }
-  takes (Failed refusal split) left is_remove (none, may, same_log) =
-      subst (λ (s : Option Halves). StepLaw C a a log left (edit_request key edit) (stage_held way.node.0 Locked) Moved (stage_held way.node.0 (Failed refusal s)) (λ begun moves past x w. StageIsTrue C key edit way Locked begun x w) (λ begun moves past x w. StageIsTrue C key edit way (Failed refusal s) begun x w)) (sym none)
-      (subst (λ (l : LogView). StepLaw C a a log l (edit_request key edit) (stage_held way.node.0 Locked) Moved (stage_held way.node.0 (Failed refusal None)) (λ begun moves past x w. StageIsTrue C key edit way Locked begun x w) (λ begun moves past x w. StageIsTrue C key edit way (Failed refusal None) begun x w)) (sym same_log) (record {
+  takes there (Failed refusal split) left is_remove (none, may, same_log) =
+      subst (λ (s : Option Halves). StepLaw C a a log left (edit_request key edit) (stage_held way.node.0 (Searched there)) Moved (stage_held way.node.0 (Failed refusal s)) (λ begun moves past x w. StageIsTrue C key edit way (Searched there) begun x w) (λ begun moves past x w. StageIsTrue C key edit way (Failed refusal s) begun x w)) (sym none)
+      (subst (λ (l : LogView). StepLaw C a a log l (edit_request key edit) (stage_held way.node.0 (Searched there)) Moved (stage_held way.node.0 (Failed refusal None)) (λ begun moves past x w. StageIsTrue C key edit way (Searched there) begun x w) (λ begun moves past x w. StageIsTrue C key edit way (Failed refusal None) begun x w)) (sym same_log) (record {
         steps = λ now begun moves past w world before truth.
-            let (b, at) = truth in
+            let (b, at, told) = truth in
             quiet_step key edit
             (goes_same now a w _ (way.node.0 ∷ []) (way.node.0 ∷ []) refl world (
               alone a key way b w at,
@@ -276,7 +277,7 @@ module _ (C : ℕ) (a : ArenaView) (log : LogView) (key : List ℕ) (edit : Edit
             ))
             (quiet_same a log).content refl refl (fails_at log refusal may.1);
       }))
-  takes _ left is_remove f = absurd f
+  takes there _ left is_remove f = absurd f
 
   -- ---- the end
   pub ends : (Then : World → Type 0) (now : ℕ) (w : World) (after : ArenaView) → after ≡ with_border_changed a way.node.0 unlock → KeepsTree a after → IsWorld a now w → IsLockedBorder a w way.node.0 → Then w
@@ -298,11 +299,11 @@ module _ (C : ℕ) (a : ArenaView) (log : LogView) (key : List ℕ) (edit : Edit
   }
 
   -- a remove that finds no row ends
-  pub lacks : (then : Held) (Then : Truth) (after : ArenaView) → edit ≡ RemoveEdit → after ≡ with_border_changed a way.node.0 unlock → KeepsTree a after → LacksRow key way a → (left : LogView) → left ≡ log
-      → StepLaw C a after log left (edit_request key edit) (stage_held way.node.0 Locked) (Answered AbsentAnswer) then (λ begun moves past x w. StageIsTrue C key edit way Locked begun x w) Then
-  lacks then Then after is_remove is keeps lacking left same_log = subst (λ (l : LogView). StepLaw C a after log l (edit_request key edit) (stage_held way.node.0 Locked) (Answered AbsentAnswer) then (λ begun moves past x w. StageIsTrue C key edit way Locked begun x w) Then) (sym same_log) (record {
+  pub lacks : (there : There) (then : Held) (Then : Truth) (after : ArenaView) → edit ≡ RemoveEdit → after ≡ with_border_changed a way.node.0 unlock → KeepsTree a after → LacksRow key way a → (left : LogView) → left ≡ log
+      → StepLaw C a after log left (edit_request key edit) (stage_held way.node.0 (Searched there)) (Answered AbsentAnswer) then (λ begun moves past x w. StageIsTrue C key edit way (Searched there) begun x w) Then
+  lacks there then Then after is_remove is keeps lacking left same_log = subst (λ (l : LogView). StepLaw C a after log l (edit_request key edit) (stage_held way.node.0 (Searched there)) (Answered AbsentAnswer) then (λ begun moves past x w. StageIsTrue C key edit way (Searched there) begun x w) Then) (sym same_log) (record {
     steps = λ now begun moves past w world before truth.
-        let (b, at) = truth in
+        let (b, at, told) = truth in
         let same : lacking.b ≡ b = (let both : ◌≡◌ {A = Option BorderView} (Some lacking.b) (Some b) = sym lacking.named ∙ at.named in cc) in
         let (goes, quiet) = ends (λ next. Unit {0}) now w after is keeps world (record { b = b; named = at.named; known = known_on (arena_seen a) w.chart way.node.0 (prefix_of key way) (border_seen b) at.stands.stands; locked = at.locked; alive = at.alive; written = at.written; free = at.free }) tt in
         let stood = stood_is b w now lacking.bytes (subst IsBorder same lacking.sound) world at in
@@ -330,12 +331,12 @@ module _ (C : ℕ) (a : ArenaView) (log : LogView) (key : List ℕ) (edit : Edit
   tells_version w now world RemoveEdit refusal tells = tt
 
   -- a put that asks for another version than the row is of fails for that
-  pub differs : (sets : List (ℕ × List ℕ)) (only : Option ℕ) (refusal : Refusal) → edit ≡ PutEdit sets only → AreBytes key → IsSomeAnd (border_at a.nodes way.node.0) (λ b. IsBorder b × (Some refusal ≡ version_fault only (row_found b.live (found_for rest b.live))))
-      → StepLaw C a a log log (edit_request key edit) (stage_held way.node.0 Locked) Moved (stage_held way.node.0 (Failed refusal None)) (λ begun moves past x w. StageIsTrue C key edit way Locked begun x w) (λ begun moves past x w. StageIsTrue C key edit way (Failed refusal None) begun x w)
-  differs sets None refusal is_put bytes fault = let (b, named, both) = some_and _ (border_at a.nodes way.node.0) fault in absurd (let clash : ◌≡◌ {A = Option Refusal} (Some refusal) None = both.1 in cc)
-  differs sets (Some version) refusal is_put bytes fault = record {
+  pub differs : (there : There) (sets : List (ℕ × List ℕ)) (only : Option ℕ) (refusal : Refusal) → edit ≡ PutEdit sets only → AreBytes key → IsSomeAnd (border_at a.nodes way.node.0) (λ b. IsBorder b × (Some refusal ≡ version_fault only (row_found b.live (found_for rest b.live))))
+      → StepLaw C a a log log (edit_request key edit) (stage_held way.node.0 (Searched there)) Moved (stage_held way.node.0 (Failed refusal None)) (λ begun moves past x w. StageIsTrue C key edit way (Searched there) begun x w) (λ begun moves past x w. StageIsTrue C key edit way (Failed refusal None) begun x w)
+  differs there sets None refusal is_put bytes fault = let (b, named, both) = some_and _ (border_at a.nodes way.node.0) fault in absurd (let clash : ◌≡◌ {A = Option Refusal} (Some refusal) None = both.1 in cc)
+  differs there sets (Some version) refusal is_put bytes fault = record {
     steps = λ now begun moves past w world early truth.
-        let (b, at) = truth in
+        let (b, at, told) = truth in
         let here = some_at _ (border_at a.nodes way.node.0) b fault at.named in
         let (other, is) = other_found version (row_found b.live (found_for rest b.live)) refusal here.1 in
         quiet_step key edit

@@ -1,27 +1,25 @@
--- What a run does at the border of its key, step by step: the lock, what is made ready, the commit, and the unlock.
-use Rattle.std.proofs.Common.{ℕ, ◌≡◌, ◌≤◌, ◌+◌, inl, inr, arith, Option, ◌∷◌, Some, None, true, false, refl, sym, subst}
+-- What a run does at the border of its key, once it has read it, step by step: what is made ready, the commit, and the
+-- unlock.
+use Rattle.std.proofs.Common.{ℕ, ◌≡◌, ◌≤◌, ◌+◌, inl, inr, arith, Option, ◌∷◌, None, true, refl, sym, subst}
 use Rattle.std.specs.Prelude.{IsSomeAnd}
 use Rattle.mt_types.specs.declared.event.Answer.{Answer}
 use Rattle.mt_types.specs.declared.event.Answer.TheVariants.{Absent as AbsentAnswer}
 use Rattle.mt_commit.specs.Log.{LogView, IsLog, newest}
-use Rattle.mt_border.specs.Border.{BorderView, with_locked, with_unlocked}
+use Rattle.mt_border.specs.Border.{with_unlocked}
 use Rattle.mt_arena.specs.Node.{border_at}
 use Rattle.mt_arena.specs.Arena.{ArenaView, IsArena, with_border_changed}
 use Rattle.mt_tree.specs.Keeping.{KeepsTree}
-use Rattle.mt_steps.specs.declared.way.Went.TheVariants.{Here}
+use Rattle.mt_steps.specs.declared.entering.There.{There}
 use Rattle.mt_steps.specs.declared.progress.Progress.{Progress}
 use Rattle.mt_steps.specs.declared.progress.Progress.TheVariants.{Moved, Committed, Answered}
-use Rattle.mt_steps.specs.Way.{Visits}
-use Rattle.mt_write.specs.declared.running.WriteRun.{WriteRun}
 use Rattle.mt_write.specs.declared.writing.Write.{Write}
 use Rattle.mt_write.specs.declared.writing.Stage.{Stage}
-use Rattle.mt_write.specs.declared.writing.Stage.TheVariants.{Seeks, Locked, Reserved, KeyWritten, Filled, Stored}
+use Rattle.mt_write.specs.declared.writing.Stage.TheVariants.{Seeks, Searched, Reserved, KeyWritten, Filled, Stored}
 use Rattle.mt_write.specs.Held.{written_answer}
 use Rattle.mt_write.specs.Writing.{MayStage, StageIsTrue}
 use Rattle.mt_write.specs.Follows.{FindsNone, TreeStep, WriteStep}
-use Rattle.mt_write.specs.Runs.{Advances, CommitsAt, CommitsStage, InsertsAt, HasRun, IsTrimmed, MayRun, RunStep, WriteState, commits_in, state}
+use Rattle.mt_write.specs.Runs.{Advances, CommitsAt, CommitsStage, InsertsAt, HasRun, IsTrimmed, MayRun, RunStep, commits_in, state}
 use Rattle.mt_write.proofs.PostLemmas.{is_locked_border, is_written_border}
-use Rattle.mt_border.specs.Order.{IsBorder}
 use Rattle.mt_border.specs.declared.unwritten.Unwritten.TheVariants.{Nothing}
 use Rattle.mt_commit.specs.Log.{trimmed}
 use Rattle.mt_steps.specs.World.{IsLockedBorder}
@@ -29,7 +27,7 @@ use Rattle.mt_tree.specs.Seen.{arena_seen}
 use Rattle.mt_write.specs.declared.finishing.Committed.{Committed as AtCommit}
 use Rattle.mt_write.proofs.RunLemmas.{Running, ends_run, left_trimmed, may_again, may_step, one_step, run_step, runs_further, runs_none, stays_trimmed, twice_trimmed}
 use Rattle.mt_write.proofs.InsertLemmas.{key_there}
-use Rattle.mt_write.proofs.StageSteps.{at_step, may_be, may_show, seek_ends, shows_row}
+use Rattle.mt_write.proofs.StageSteps.{at_step, may_be, may_show, shows_row}
 use Rattle.mt_border.specs.Border.{with_filled, with_shown}
 use Rattle.mt_border.specs.Entry.{entry_with}
 use Rattle.mt_border.specs.declared.unwritten.SlotKey.{SlotKey}
@@ -56,66 +54,78 @@ module _ (C : ℕ) (a : ArenaView) (log : LogView) (write : Write) (may : MayRun
   pub may_seek_on : Advances p → MayRun C (state a log then)
   may_seek_on on = may_again C (state a log write) may a log p then seeking on log (stays_trimmed log is_trimmed)
 
--- at the border that it has locked it has come to this stage, in so many steps
-pub record ReadiedAt (C : ℕ) (a : ArenaView) (log : LogView) (write : Write) (between : ArenaView) (reserved : LogView) (stage : Stage) (steps : ℕ) : Type 0 where
-  pub running : Running C (state a log (record write { stage = Locked })) steps 0 (state between reserved (record write { stage = stage }))
+-- and one that leaves what is still the same
+pub as_left : (C : ℕ) (a after last : ArenaView) (log left kept : LogView) (write : Write) (stage : Stage) (p : Progress) (next same : Stage) → (same ≡ next) × (last ≡ after) × (kept ≡ left) → WriteStep C a after log left write stage p (record write { stage = next }) → WriteStep C a last log kept write stage p (record write { stage = same })
+as_left C a after last log left kept write stage p next same (stages, tree, logs) step = subst (λ (st : Stage). WriteStep C a last log kept write stage p (record write { stage = st })) (sym stages)
+    (subst (λ (x : ArenaView). WriteStep C a x log kept write stage p (record write { stage = next })) (sym tree) (subst (λ (l : LogView). WriteStep C a after log l write stage p (record write { stage = next })) (sym logs) step))
+
+-- what it may do, and what it finds, is so of what is still the same
+pub as_may : (C : ℕ) (a same : ArenaView) (log kept : LogView) (write : Write) (stage : Stage) → (same ≡ a) × (kept ≡ log) → MayStage C a log write stage → MayStage C same kept write stage
+as_may C a same log kept write stage (tree, logs) may = subst (λ (x : ArenaView). MayStage C x kept write stage) (sym tree) (subst (λ (l : LogView). MayStage C a l write stage) (sym logs) may)
+
+pub as_none : (C : ℕ) (a same after : ArenaView) (log kept left : LogView) (write : Write) (there : There) → (same ≡ a) × (kept ≡ log) → FindsNone C same after kept left write there → FindsNone C a after log left write there
+as_none C a same after log kept left write there (tree, logs) none = subst (λ (x : ArenaView). FindsNone C x after log left write there) tree (subst (λ (l : LogView). FindsNone C same after l left write there) logs none)
+
+-- at the border that it has locked and read it has come to this stage, in so many steps
+pub record ReadiedAt (C : ℕ) (a : ArenaView) (log : LogView) (write : Write) (there : There) (between : ArenaView) (reserved : LogView) (stage : Stage) (steps : ℕ) : Type 0 where
+  pub running : Running C (state a log (record write { stage = Searched there })) steps 0 (state between reserved (record write { stage = stage }))
   pub may : MayRun C (state between reserved (record write { stage = stage }))
   pub trimmed : IsTrimmed reserved
   pub arena : IsArena between
 
--- ---- at the border that it has locked
-module _ (C : ℕ) (a : ArenaView) (log : LogView) (write : Write) (may : MayRun C (state a log (record write { stage = Locked }))) where
-  abbrev pub at_lock : Write
-  at_lock = record write { stage = Locked }
+-- ---- at the border that it has locked and read
+module _ (C : ℕ) (a : ArenaView) (log : LogView) (write : Write) (there : There) (may : MayRun C (state a log (record write { stage = Searched there }))) where
+  abbrev pub searched : Write
+  searched = record write { stage = Searched there }
 
   module _ (is_trimmed : IsTrimmed log) (arena : IsArena a) where
     -- ---- there is no row to remove
-    module _ (same : ArenaView) (left : LogView) (done : ArenaView) (none : FindsNone C a same log left write) (end : done ≡ with_border_changed same write.way.node.0 with_unlocked) (kept : KeepsTree same done) (arena_done : IsArena done) (sound_left : IsLog left) where
-      finds : WriteStep C a done log left at_lock Locked (Answered AbsentAnswer) write
-      finds = at_step C a done log left at_lock write.stage Locked (Answered AbsentAnswer) write refl
+    module _ (same : ArenaView) (left : LogView) (done : ArenaView) (none : FindsNone C a same log left write there) (end : done ≡ with_border_changed same write.way.node.0 with_unlocked) (kept : KeepsTree same done) (arena_done : IsArena done) (sound_left : IsLog left) where
+      finds : WriteStep C a done log left searched (Searched there) (Answered AbsentAnswer) write
+      finds = at_step C a done log left searched write.stage (Searched there) (Answered AbsentAnswer) write refl
           (none.1 done (subst (λ (x : ArenaView). done ≡ with_border_changed x write.way.node.0 with_unlocked) none.0 end) (subst (λ (x : ArenaView). KeepsTree x done) none.0 kept))
 
       pub trimmed_none : IsTrimmed left
-      trimmed_none = left_trimmed C (state a log at_lock) may done left (Answered AbsentAnswer) write finds is_trimmed refl
+      trimmed_none = left_trimmed C (state a log searched) may done left (Answered AbsentAnswer) write finds is_trimmed refl
 
-      pub ends_none : HasRun C (state a log at_lock) (record { steps = 1; commits = 0; last = Answered AbsentAnswer }) (state done left write)
-      ends_none = one_step C (state a log at_lock) (state done left write) 0 (Answered AbsentAnswer) (run_step C (state a log at_lock) may done left (Answered AbsentAnswer) write finds left (stays_trimmed left trimmed_none) sound_left arena arena_done) refl
+      pub ends_none : HasRun C (state a log searched) (record { steps = 1; commits = 0; last = Answered AbsentAnswer }) (state done left write)
+      ends_none = one_step C (state a log searched) (state done left write) 0 (Answered AbsentAnswer) (run_step C (state a log searched) may done left (Answered AbsentAnswer) write finds left (stays_trimmed left trimmed_none) sound_left arena arena_done) refl
 
     -- ---- it has made something ready
-    module _ (mid : ArenaView) (left : LogView) (stage : Stage) (ready : WriteStep C a mid log left write Locked Moved (record write { stage = stage })) where
+    module _ (mid : ArenaView) (left : LogView) (stage : Stage) (ready : WriteStep C a mid log left write (Searched there) Moved (record write { stage = stage })) where
       abbrev is_ready : Write
       is_ready = record write { stage = stage }
 
-      readies : WriteStep C a mid log left at_lock Locked Moved is_ready
-      readies = at_step C a mid log left at_lock write.stage Locked Moved is_ready refl ready
+      readies : WriteStep C a mid log left searched (Searched there) Moved is_ready
+      readies = at_step C a mid log left searched write.stage (Searched there) Moved is_ready refl ready
 
       pub trimmed_ready : IsTrimmed left
-      trimmed_ready = left_trimmed C (state a log at_lock) may mid left Moved is_ready readies is_trimmed refl
+      trimmed_ready = left_trimmed C (state a log searched) may mid left Moved is_ready readies is_trimmed refl
 
       pub may_go_on : MayRun C (state mid left is_ready)
-      may_go_on = may_again C (state a log at_lock) may mid left Moved is_ready readies tt left (stays_trimmed left trimmed_ready)
+      may_go_on = may_again C (state a log searched) may mid left Moved is_ready readies tt left (stays_trimmed left trimmed_ready)
 
       pub may_commit : MayStage C mid left write stage
       may_commit = may_be C mid left is_ready write.stage stage refl (may_step C (state mid left is_ready) may_go_on)
 
       module _ (arena_mid : IsArena mid) (sound_left : IsLog left) where
-        readies_step : RunStep C (state a log at_lock) Moved (state mid left is_ready)
-        readies_step = run_step C (state a log at_lock) may mid left Moved is_ready readies left (stays_trimmed left trimmed_ready) sound_left arena arena_mid
+        readies_step : RunStep C (state a log searched) Moved (state mid left is_ready)
+        readies_step = run_step C (state a log searched) may mid left Moved is_ready readies left (stays_trimmed left trimmed_ready) sound_left arena arena_mid
 
-        pub stops_ready : HasRun C (state a log at_lock) (record { steps = 1; commits = 0; last = Moved }) (state mid left is_ready)
-        stops_ready = one_step C (state a log at_lock) (state mid left is_ready) 0 Moved readies_step refl
+        pub stops_ready : HasRun C (state a log searched) (record { steps = 1; commits = 0; last = Moved }) (state mid left is_ready)
+        stops_ready = one_step C (state a log searched) (state mid left is_ready) 0 Moved readies_step refl
 
       module _ (arena_mid : IsArena mid) (sound_left : IsLog left) where
-        pub readied_one : ReadiedAt C a log write mid left stage 1
+        pub readied_one : ReadiedAt C a log write there mid left stage 1
         readied_one = record {
-          running = runs_further C (state a log at_lock) (state a log at_lock) (state mid left is_ready) 0 0 (record { steps = 1; commits = 0; last = Moved }) (runs_none C (state a log at_lock)) (stops_ready arena_mid sound_left) tt;
+          running = runs_further C (state a log searched) (state a log searched) (state mid left is_ready) 0 0 (record { steps = 1; commits = 0; last = Moved }) (runs_none C (state a log searched)) (stops_ready arena_mid sound_left) tt;
           may = may_go_on;
           trimmed = trimmed_ready;
           arena = arena_mid;
         }
 
     -- ---- it has committed
-    module _ (after : ArenaView) (left : LogView) (committed : AtCommit) (at : CommitsAt C a after log left write committed) (arena_after : IsArena after) where
+    module _ (after : ArenaView) (left : LogView) (committed : AtCommit) (at : CommitsAt C a after log left write there committed) (arena_after : IsArena after) where
       abbrev is_stored : Write
       is_stored = record write { stage = Stored committed.commit None }
 
@@ -133,15 +143,15 @@ module _ (C : ℕ) (a : ArenaView) (log : LogView) (write : Write) (may : MayRun
         stops : WriteStep C after done left left is_stored (Stored committed.commit None) (Answered answer) write
         stops = at_step C after done left left is_stored write.stage (Stored committed.commit None) (Answered answer) write refl (ends_stored after done write kept committed.commit None answer refl idle answer_is end C left)
 
-        pub ends_run_stored : HasRun C (state a log at_lock) (record { steps = committed.steps + 1; commits = 1; last = Answered answer }) (state done left write)
+        pub ends_run_stored : HasRun C (state a log searched) (record { steps = committed.steps + 1; commits = 1; last = Answered answer }) (state done left write)
         ends_run_stored =
             let count : 0 + committed.steps ≡ committed.steps = omega arith in
-            ends_run C (state a log at_lock) (state after left is_stored) (state done left write) committed.steps 1 (record { steps = 1; commits = 0; last = Answered answer })
-            (subst (λ (n : ℕ). Running C (state a log at_lock) n 1 (state after left is_stored)) count (runs_further C (state a log at_lock) (state a log at_lock) (state after left is_stored) 0 0 (record { steps = committed.steps; commits = 1; last = Committed committed.commit }) (runs_none C (state a log at_lock)) at.run tt))
+            ends_run C (state a log searched) (state after left is_stored) (state done left write) committed.steps 1 (record { steps = 1; commits = 0; last = Answered answer })
+            (subst (λ (n : ℕ). Running C (state a log searched) n 1 (state after left is_stored)) count (runs_further C (state a log searched) (state a log searched) (state after left is_stored) 0 0 (record { steps = committed.steps; commits = 1; last = Committed committed.commit }) (runs_none C (state a log searched)) at.run tt))
             (one_step C (state after left is_stored) (state done left write) 0 (Answered answer) (run_step C (state after left is_stored) at.may done left (Answered answer) write stops left (stays_trimmed left at.trimmed) sound_left arena_after arena_done) refl)
 
 -- ---- what it has made ready at the border that it has locked, step by step
-module _ (C : ℕ) (a : ArenaView) (log : LogView) (write : Write) (between : ArenaView) (reserved : LogView) (stage : Stage) (steps : ℕ) (ready : ReadiedAt C a log write between reserved stage steps) where
+module _ (C : ℕ) (a : ArenaView) (log : LogView) (write : Write) (there : There) (between : ArenaView) (reserved : LogView) (stage : Stage) (steps : ℕ) (ready : ReadiedAt C a log write there between reserved stage steps) where
   abbrev here : Write
   here = record write { stage = stage }
 
@@ -153,9 +163,9 @@ module _ (C : ℕ) (a : ArenaView) (log : LogView) (write : Write) (between : Ar
     moves : WriteStep C between next reserved reserved here stage Moved (record write { stage = then })
     moves = at_step C between next reserved reserved here write.stage stage Moved (record write { stage = then }) refl step
 
-    pub readied_more : ReadiedAt C a log write next reserved then (steps + 1)
+    pub readied_more : ReadiedAt C a log write there next reserved then (steps + 1)
     readied_more = record {
-      running = runs_further C (state a log (record write { stage = Locked })) (state between reserved here) (state next reserved (record write { stage = then })) steps 0 (record { steps = 1; commits = 0; last = Moved }) ready.running
+      running = runs_further C (state a log (record write { stage = Searched there })) (state between reserved here) (state next reserved (record write { stage = then })) steps 0 (record { steps = 1; commits = 0; last = Moved }) ready.running
           (one_step C (state between reserved here) (state next reserved (record write { stage = then })) 0 Moved (run_step C (state between reserved here) ready.may next reserved Moved (record write { stage = then }) moves reserved (stays_trimmed reserved ready.trimmed) sound ready.arena arena_next) refl) tt;
       may = may_again C (state between reserved here) ready.may next reserved Moved (record write { stage = then }) moves tt reserved (stays_trimmed reserved ready.trimmed);
       trimmed = ready.trimmed;
@@ -164,11 +174,11 @@ module _ (C : ℕ) (a : ArenaView) (log : LogView) (write : Write) (between : Ar
 
   -- the commit
   pub commits_ready : (after : ArenaView) (appended left : LogView) (number : ℕ) → WriteStep C between after reserved appended write stage (Committed number) (record write { stage = Stored number None }) → IsLog appended → IsArena after → left ≡ trimmed appended → newest left ≡ newest appended → steps + 1 ≤ 4
-      → CommitsAt C a after log left write (record { commit = number; steps = steps + 1 })
+      → CommitsAt C a after log left write there (record { commit = number; steps = steps + 1 })
   commits_ready after appended left number step sound arena_after trims same few =
       let stores = at_step C between after reserved appended here write.stage stage (Committed number) (record write { stage = Stored number None }) refl step in
       record {
-        run = ends_run C (state a log (record write { stage = Locked })) (state between reserved here) (state after left (record write { stage = Stored number None })) steps 0 (record { steps = 1; commits = 1; last = Committed number }) ready.running
+        run = ends_run C (state a log (record write { stage = Searched there })) (state between reserved here) (state after left (record write { stage = Stored number None })) steps 0 (record { steps = 1; commits = 1; last = Committed number }) ready.running
             (one_step C (state between reserved here) (state after left (record write { stage = Stored number None })) 1 (Committed number) (run_step C (state between reserved here) ready.may after appended (Committed number) (record write { stage = Stored number None }) stores left trims sound ready.arena arena_after) refl);
         may = may_again C (state between reserved here) ready.may after appended (Committed number) (record write { stage = Stored number None }) stores tt left trims;
         trimmed = subst IsTrimmed (sym trims) (twice_trimmed appended (subst (λ (l : LogView). newest l ≡ newest appended) trims same));
@@ -176,17 +186,17 @@ module _ (C : ℕ) (a : ArenaView) (log : LogView) (write : Write) (between : Ar
       }
 
 -- what it commits from a stage that is ready, it commits since the lock
-pub commits_since : (C : ℕ) (a : ArenaView) (log : LogView) (write : Write) (between : ArenaView) (reserved : LogView) (stage : Stage) → ReadiedAt C a log write between reserved stage 1 → (after : ArenaView) (appended left : LogView) (committed : AtCommit) → CommitsStage between after reserved appended write stage committed
-    → IsLog reserved → IsLog appended → IsArena after → left ≡ trimmed appended → newest left ≡ newest appended → CommitsAt C a after log left write committed
-commits_since C a log write between reserved stage ready after appended left committed c sound_reserved sound arena_after trims same = elim c.writes [
-  | inl (tree_is, stage_is, two) ↦ subst (λ (n : ℕ). CommitsAt C a after log left write (record { commit = committed.commit; steps = n })) (sym two)
-      (commits_ready C a log write between reserved stage 1 ready after appended left committed.commit
+pub commits_since : (C : ℕ) (a : ArenaView) (log : LogView) (write : Write) (there : There) (between : ArenaView) (reserved : LogView) (stage : Stage) → ReadiedAt C a log write there between reserved stage 1 → (after : ArenaView) (appended left : LogView) (committed : AtCommit) → CommitsStage between after reserved appended write stage committed
+    → IsLog reserved → IsLog appended → IsArena after → left ≡ trimmed appended → newest left ≡ newest appended → CommitsAt C a after log left write there committed
+commits_since C a log write there between reserved stage ready after appended left committed c sound_reserved sound arena_after trims same = elim c.writes [
+  | inl (tree_is, stage_is, two) ↦ subst (λ (n : ℕ). CommitsAt C a after log left write there (record { commit = committed.commit; steps = n })) (sym two)
+      (commits_ready C a log write there between reserved stage 1 ready after appended left committed.commit
       (subst (λ (x : ArenaView). WriteStep C x after reserved appended write stage (Committed committed.commit) (record write { stage = Stored committed.commit None })) tree_is (subst (λ (st : Stage). WriteStep C c.between after reserved appended write st (Committed committed.commit) (record write { stage = Stored committed.commit None })) stage_is (c.commits C)))
       sound arena_after trims same (omega arith))
-  | inr (i, four) ↦ (let keyed = readied_more C a log write between reserved stage 1 ready i.keyed i.between (i.key C reserved) sound_reserved i.arena in
-      let valued = readied_more C a log write i.keyed reserved i.between 2 keyed c.between c.then (i.value C reserved) sound_reserved c.arena in
-      subst (λ (n : ℕ). CommitsAt C a after log left write (record { commit = committed.commit; steps = n })) (sym four)
-      (commits_ready C a log write c.between reserved c.then 3 valued after appended left committed.commit (c.commits C) sound arena_after trims same (omega arith)))
+  | inr (i, four) ↦ (let keyed = readied_more C a log write there between reserved stage 1 ready i.keyed i.between (i.key C reserved) sound_reserved i.arena in
+      let valued = readied_more C a log write there i.keyed reserved i.between 2 keyed c.between c.then (i.value C reserved) sound_reserved c.arena in
+      subst (λ (n : ℕ). CommitsAt C a after log left write there (record { commit = committed.commit; steps = n })) (sym four)
+      (commits_ready C a log write there c.between reserved c.then 3 valued after appended left committed.commit (c.commits C) sound arena_after trims same (omega arith)))
 ]
 
 -- what a run may do, it may do at the stage
@@ -254,21 +264,3 @@ module _ (a between : ArenaView) (log : LogView) (write : Write) (stage : Stage)
     commits = λ C. subst (λ (s : Option Halves). WriteStep C between after log left write (Filled new.place new.key new.logged new.split) (Committed number) (record write { stage = Stored number s })) none
         (shows_row C between after log left write new.place new.key new.logged new.split number next shown shows appended may_filled.room);
   }
-
--- ---- the lock
-module _ (C : ℕ) (a locked : ArenaView) (log : LogView) (write : Write) (may : MayRun C (state a log write)) (is_trimmed : IsTrimmed log) (idle : write.stage ≡ Seeks) (visits : Visits a write.key write.way Here) (b : BorderView) (named : border_at a.nodes write.way.node.0 ≡ Some b) (sound_b : IsBorder b) (unlocked : b.version.locked ≡ false)
-    (value : locked ≡ with_border_changed a write.way.node.0 with_locked) (keeps : KeepsTree a locked) where
-  locks : WriteStep C a locked log log write write.stage Moved (record write { stage = Locked })
-  locks = subst (λ (st : Stage). WriteStep C a locked log log write st Moved (record write { stage = Locked })) (sym idle) (seek_ends a write Here visits idle locked b named sound_b unlocked refl value keeps C log)
-
-  pub may_act : MayRun C (state locked log (record write { stage = Locked }))
-  may_act = may_again C (state a log write) may locked log Moved (record write { stage = Locked }) locks tt log (stays_trimmed log is_trimmed)
-
-  module _ (arena : IsArena a) (arena_locked : IsArena locked) (sound : IsLog log) where
-    -- the run that begins with the lock, and continues so
-    pub after_lock : (run : WriteRun) (t : WriteState) → HasRun C (state locked log (record write { stage = Locked })) run t → HasRun C (state a log write) (record { steps = 1 + run.steps; commits = 0 + run.commits; last = run.last }) t
-    after_lock run t then =
-        let first = run_step C (state a log write) may locked log Moved (record write { stage = Locked }) locks log (stays_trimmed log is_trimmed) sound arena arena_locked in
-        ends_run C (state a log write) (state locked log (record write { stage = Locked })) t 1 0 run
-        (runs_further C (state a log write) (state a log write) (state locked log (record write { stage = Locked })) 0 0 (record { steps = 1; commits = 0; last = Moved }) (runs_none C (state a log write)) (one_step C (state a log write) (state locked log (record write { stage = Locked })) 0 Moved first refl) tt)
-        then

@@ -1,6 +1,8 @@
 pub mod CauseLemmas
 pub mod AbsentLemmas
 pub mod SpareLemmas
+pub mod EnterSteps
+pub mod ThereLemmas
 pub mod EntryLemmas
 pub mod WriteLemmas
 pub mod ReadyLemmas
@@ -14,10 +16,13 @@ pub mod StageSteps
 pub mod LaterSteps
 pub mod VersionLemmas
 pub mod FindLemmas
+pub mod ReadLemmas
 pub mod WorkLemmas
 pub mod WriteLasts
+pub mod LoneStands
 pub mod LoneWrite
 pub mod LoneWrites
 pub mod RunLemmas
+pub mod PassLemmas
 pub mod FinishLemmas
 pub mod UnreadLemmas

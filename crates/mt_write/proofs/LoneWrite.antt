@@ -1,28 +1,37 @@
 -- A put or remove that runs alone: it waits nowhere, and with each step that gets on what is left of it falls.
-use Rattle.std.proofs.Common.{ℕ, ◌≡◌, ◌<◌, ◌≤◌, ◌+◌, ◌*◌, ◌-◌, inl, inr, List, [], ◌∷◌, length, Option, Some, None, true, refl, sym, ap, subst, ◌∙◌, arith}
-use Rattle.std.specs.Prelude.{◌^◌, IsSomeAnd}
+use Rattle.std.proofs.Common.{ℕ, ◌≡◌, ◌≢◌, ◌<◌, ◌≤◌, ◌+◌, ◌-◌, inl, inr, List, [], ◌∷◌, length, Option, Some, None, true, refl, sym, ap, subst, ◌∙◌, arith}
+use Rattle.std.specs.Prelude.{IsSomeAnd}
 use Rattle.std.specs.Option.{option_and_then}
-use Rattle.std.proofs.Math.Nat.{mul-le-mul_left}
-use Rattle.mt_types.specs.declared.limits.TheConstants.{MAX_LAYER, MAX_KEY_BYTES}
+use Rattle.mt_types.specs.declared.limits.TheConstants.{MAX_KEY_BYTES}
 use Rattle.mt_types.specs.declared.numbers.NodeNo.{NodeNo}
 use Rattle.mt_types.specs.declared.event.Request.{Request}
 use Rattle.mt_types.specs.declared.event.Request.TheVariants.{Put as PutRequest, PutIf as PutIfRequest, Remove as RemoveRequest}
+use Rattle.mt_types.specs.declared.refusal.Refusal.TheVariants.{NoMemory}
 use Rattle.mt_slice.specs.Place.{AreBytes}
+use Rattle.mt_border.specs.Order.{IsBorder}
 use Rattle.mt_arena.specs.Node.{node_at, border_of}
-use Rattle.mt_arena.specs.Arena.{ArenaView}
+use Rattle.mt_arena.specs.Arena.{ArenaView, IsArena}
 use Rattle.mt_arena.specs.declared.node.Node.{Node}
 use Rattle.mt_arena.specs.declared.node.Node.TheVariants.{Head, Interior, Border}
-use Rattle.mt_chart.specs.Tree.{PlainNode, HeadNode, BorderNode, head as head_node, border as border_node, Among, first, later}
-use Rattle.mt_chart.specs.Chart.{Standing, Role, top, at_level, Spot, spot, on}
-use Rattle.mt_chart.specs.Walk.{all_heights, IsOn}
-use Rattle.mt_tree.specs.Seen.{arena_seen, border_seen}
+use Rattle.mt_chart.specs.Tree.{Among}
+use Rattle.mt_chart.specs.Chart.{Evolves, top}
+use Rattle.mt_chart.specs.Walk.{IsOn}
+use Rattle.mt_tree.specs.Seen.{border_seen}
 use Rattle.mt_tree.proofs.SeenLemmas.{seen-border}
 use Rattle.mt_steps.specs.declared.progress.Progress.{Progress}
 use Rattle.mt_steps.specs.declared.progress.Progress.TheVariants.{Moved, Waits, Committed, Answered, Refused}
 use Rattle.mt_steps.specs.declared.way.Way.{Way}
+use Rattle.mt_steps.specs.declared.entering.Entering.{Entering}
+use Rattle.mt_steps.specs.declared.entering.Entering.TheVariants.{Locked}
+use Rattle.mt_steps.specs.declared.entering.Entered.{Entered}
+use Rattle.mt_steps.specs.declared.entering.Entered.TheVariants.{Enters as EntersNext, Right as EntersRight, Below as EntersBelow, Here as EntersHere}
+use Rattle.mt_steps.specs.declared.entering.There.{There}
+use Rattle.mt_steps.specs.Entering.{EnteredIsTrue, HasFewerLeft, entered, entering_left, wants}
 use Rattle.mt_steps.specs.World.{World, IsWorld, IsTaken, IsLocked, NotAmong}
-use Rattle.mt_steps.specs.Way.{prefix_of, IsOnWay}
-use Rattle.mt_steps.proofs.LoneWay.{layer_height, height_in, way_left, layers_above, on_height, IsOnThere, stands_in, way_moves, not_marked, starts_on}
+use Rattle.mt_steps.specs.Way.{prefix_of, rest_of, IsOnWay}
+use Rattle.mt_steps.proofs.EnterLemmas.{entered_is, fewer_left}
+use Rattle.mt_steps.proofs.LoneWay.{way_left, IsOnThere, way_moves, not_marked, starts_on}
+use Rattle.mt_steps.proofs.PartLemmas.{lends_field}
 use Rattle.mt_post.specs.declared.posting.Posting.{Posting}
 use Rattle.mt_post.specs.declared.posting.Progressed.TheVariants.{Waits as PostAgain}
 use Rattle.mt_post.specs.Posting.{PostingIsTrue, owned as posting_owned}
@@ -34,28 +43,23 @@ use Rattle.mt_write.specs.declared.writing.Halves.{Halves}
 use Rattle.mt_write.specs.declared.writing.Ending.{Ending}
 use Rattle.mt_write.specs.declared.writing.Ending.TheVariants.{Stored as EndStored, Failed as EndFailed}
 use Rattle.mt_write.specs.declared.writing.Stage.{Stage}
-use Rattle.mt_write.specs.declared.writing.Stage.TheVariants.{Seeks, Locked, Spared, HalfFilled, Halved, Posts, LayerSpared, LayerFilled, LayerReady, Layered, Reserved, KeyWritten, Filled, Made, Taken, Stored, Failed}
+use Rattle.mt_write.specs.declared.writing.Stage.TheVariants.{Seeks, Enters, Rightward, Searched, Spared, HalfFilled, Halved, Posts, LayerSpared, LayerFilled, LayerReady, Layered, Reserved, KeyWritten, Filled, Made, Taken, Stored, Failed}
 use Rattle.mt_write.specs.Held.{edit_request, stage_held, write_held, ending_stage}
-use Rattle.mt_write.specs.Writing.{StageIsTrue, way_below}
+use Rattle.mt_write.specs.Writing.{StageIsTrue, entered_stage, way_below, way_right}
 use Rattle.mt_write.specs.Causes.{StageWaits, WriteWaits, IsPosting}
 use Rattle.mt_write.specs.Runs.{Advances}
+use Rattle.mt_write.specs.Follows.{IsMadeReady, IsReadyIn, IsReady, PostsOn, ReadsOn, StaysAt, halves_of, StageFollows, Follows, WriteFollows}
+use Rattle.mt_write.proofs.EnterSteps.{right_visits}
 use Rattle.mt_write.proofs.LinkLemmas.{linked_head_is_on}
-use Rattle.mt_write.specs.Follows.{IsMadeReady, IsReadyIn, IsReady, PostsOn, StaysAt, halves_of, StageFollows, Follows, WriteFollows}
+use Rattle.mt_write.proofs.LoneStands.{layer_left, times, more, above, locks_times, below_times, moves_times, ends_times, left_by_spot, same_left, still_on, more_left, head_apart, not_only, not_none, head_place}
 
 -- ---- what is left
--- what is left of a way, at most, at the head of the layer below
-abbrev pub layer_left : ℕ → ℕ
-layer_left layer = all_heights - layer_height (layer + 1) top 0
-
--- what is left of a way, multiplied by more than all the steps that a write takes at one node, if a posting takes at
--- most `most` steps
-abbrev pub times : ℕ → ℕ → ℕ
-times most left = (most + 64) * left
-
 -- WHAT IS LEFT of a put or remove at a stage, at most, given the steps that are left of a posting
 abbrev pub stage_left : (ArenaView → Posting → ℕ) → ℕ → ArenaView → Way → Stage → ℕ
 stage_left posting_left most a way Seeks = times most (way_left a way.layer way.node.0)
-stage_left posting_left most a way Locked = times most (layer_left way.layer) + (most + 40)
+stage_left posting_left most a way (Enters entering) = times most (way_left a way.layer way.node.0 - 1) + (most + 41 + entering_left entering)
+stage_left posting_left most a way (Rightward next) = times most (way_left a way.layer next.0) + 2
+stage_left posting_left most a way (Searched there) = times most (layer_left way.layer) + (most + 40)
 stage_left posting_left most a way (LayerSpared layer entries) = times most (layer_left way.layer) + 5
 stage_left posting_left most a way (LayerFilled layer) = times most (layer_left way.layer) + 4
 stage_left posting_left most a way (LayerReady layer) = times most (layer_left way.layer) + 3
@@ -80,6 +84,8 @@ write_left posting_left most a write = stage_left posting_left most a write.way 
 -- WHAT ELSE IS TRUE of a put or remove that runs alone, given what else is true of a posting
 abbrev pub stage_stands : (ArenaView → World → Posting → Type 0) → ArenaView → World → List ℕ → Way → Stage → Type 0
 stage_stands post_stands a w key way Seeks = IsOnThere w key way
+stage_stands post_stands a w key way (Enters entering) = IsOnThere w key way
+stage_stands post_stands a w key way (Rightward next) = IsOnThere w key (way_right way next) × (next.0 ≢ way.node.0)
 stage_stands post_stands a w key way (Posts posting ending) = post_stands a w posting
 stage_stands post_stands a w key way _ = Unit {0}
 
@@ -93,78 +99,6 @@ OnlyOwn a w owns = (number : ℕ) → IsTaken a w number → Among number owns
 -- what the call didn't own and doesn't own has the spot that it had
 abbrev pub KeepsSpots : World → World → List ℕ → List ℕ → Type 0
 KeepsSpots w next owned owns = (number : ℕ) → NotAmong number owned → NotAmong number owns → next.chart number ≡ w.chart number
-
--- ---- numbers
-more : (x n m : ℕ) → n < m → x + n < x + m
-more x n m h = omega arith
-
-above : (x n m : ℕ) → n < m → n < x + m
-above x n m h = omega arith
-
-falls_times : (most less left : ℕ) → less < left → times most less + (most + 63) < times most left
-falls_times most less left h = let up : (most + 64) * (less + 1) ≤ (most + 64) * left = mul-le-mul_left (most + 64) (omega arith) in omega (arith, up)
-
-locks_times : (most less left : ℕ) → less < left → times most less + (most + 40) < times most left
-locks_times most less left h = omega (arith, falls_times most less left h)
-
-moves_times : (most less left : ℕ) → less < left → times most less < times most left
-moves_times most less left h = omega (arith, falls_times most less left h)
-
-ends_times : (most here there : ℕ) → here ≡ there → times most here < times most there + 2
-ends_times most here there same = let both : times most here ≡ times most there = ap (times most) same in omega (arith, both)
-
--- a node of a layer is before the head of the layer below
-before_below : (layer : ℕ) (role : Role) (low : ℕ) → layer ≤ MAX_LAYER → low < 2 ^ 64 → layer_left layer < all_heights - layer_height layer role low
-before_below layer top low deep fits = omega arith
-before_below layer (at_level level) low deep fits = omega arith
-
--- ---- in a world: the spot of its node determines what is left of a way
-left_by_spot : (a : ArenaView) (now : ℕ) (w : World) → IsWorld a now w → (key : List ℕ) (way : Way) (there : IsOnThere w key way)
-    → way_left a way.layer way.node.0 ≡ all_heights - layer_height way.layer there.role there.low
-left_by_spot a now w world key way there =
-    ap (λ (n : ℕ). all_heights - n)
-    (subst (λ (n : ℕ). height_in n (arena_seen a way.node.0) ≡ layer_height n there.role there.low) (layers_above way.layer key)
-    (on_height (arena_seen a) w.chart world.index.tree way.node.0 there.role (prefix_of key way) there.low there.posted there.place))
-
--- so it stays where the spot does
-same_left : (a after : ArenaView) (now : ℕ) (w next : World) → IsWorld a now w → IsWorld after now next → (key : List ℕ) (way : Way)
-    → IsOnThere w key way → next.chart way.node.0 ≡ w.chart way.node.0
-    → IsOnThere next key way × (way_left after way.layer way.node.0 ≡ way_left a way.layer way.node.0)
-same_left a after now w next world then key way there same = (still, left_by_spot after now next then key way still ∙ sym (left_by_spot a now w world key way there))
-  where
-    still : IsOnThere next key way
-    still = record { posted = there.posted; role = there.role; low = there.low; place = same ∙ there.place }
-
--- at a node of a layer more is left than at the head of the layer below
-more_left : (a : ArenaView) (now begun : ℕ) (w : World) (key : List ℕ) (way : Way) → IsWorld a now w → AreBytes key → length key ≤ MAX_KEY_BYTES
-    → IsOnWay begun key way w → IsOnThere w key way → layer_left way.layer < way_left a way.layer way.node.0
-more_left a now begun w key way world bytes fits held there =
-    let within = held.layer.within in
-    let deep : way.layer ≤ MAX_LAYER = omega (arith, within, fits) in
-    let inside = stands_in w begun key way bytes held there in
-    let here : IsOnThere w key way = record { posted = inside.posted; role = inside.role; low = inside.low; place = inside.place } in
-    subst (λ (n : ℕ). layer_left way.layer < n) (sym (left_by_spot a now w world key way here)) (before_below way.layer inside.role inside.low deep inside.fits)
-
--- ---- a head is no border
-head_apart : (a : ArenaView) (one other : ℕ) (h : HeadNode) (b : BorderNode) → arena_seen a one ≡ Some (head_node h) → arena_seen a other ≡ Some (border_node b) → one ≡ other → ⊥
-head_apart a one other h b is_head is_border same =
-    let both : ◌≡◌ {A = Option PlainNode} (Some (head_node h)) (Some (border_node b)) = sym is_head ∙ (ap (arena_seen a) same ∙ is_border) in
-    cc
-
-not_only : (number other : ℕ) → (number ≡ other → ⊥) → NotAmong number (other ∷ [])
-not_only number other apart first = apart refl
-not_only number other apart (later i) = elim i [ ]
-
-not_none : (number : ℕ) → NotAmong number []
-not_none number i = elim i [ ]
-
--- what is on and known to a call as the head of a layer is on as that head
-pub head_place : (w : World) (number : ℕ) (prefix : List ℕ) (standing : Standing) → w.chart number ≡ Some (spot top prefix 0 standing) → (stands : IsOn w.chart number)
-    → w.chart number ≡ Some (spot top prefix 0 (on stands.posted))
-head_place w number prefix standing place stands = place ∙ ap (λ (s : Standing). Some (spot top prefix 0 s)) (same top stands.role 0 stands.low standing (on stands.posted) prefix stands.prefix (sym place ∙ stands.place))
-  where
-    same : (one other : Role) (low least : ℕ) (standing stands : Standing) (prefix layer : List ℕ) → ◌≡◌ {A = Option Spot} (Some (spot one prefix low standing)) (Some (spot other layer least stands)) → standing ≡ stands
-    same one other low least standing stands prefix layer e = cc
 
 -- ---- it waits not
 locked_node : (o : Option Node) → IsSomeAnd (option_and_then border_of o) (λ b. b.version.locked ≡ true) → IsLocked o
@@ -203,6 +137,7 @@ pub record IsLoneStep (post_stands : ArenaView → World → Posting → Type 0)
   pub gets_on : Advances p
   pub same_key : new.key ≡ write.key
   pub world : IsWorld after now next
+  pub evolves : Evolves 0 w.chart next.chart
   pub spots : (number : ℕ) → NotAmong number (write_held write).owns → NotAmong number (write_held new).owns → next.chart number ≡ w.chart number
   pub true : StageIsTrue C new.key new.edit new.way new.stage begun after next
   pub posts : PostingGoesOn post_stands posting_left most a after next write.stage new.stage
@@ -228,16 +163,16 @@ module _ (post_stands : ArenaView → World → Posting → Type 0) (posting_lef
   stays_at a after next key way goal stage new then (is, same) there =
       leads a after next key way goal stage new then is (stays a after next key way goal stage then same there)
 
-  -- from its lock on
-  readied : (a after : ArenaView) (next : World) (key : List ℕ) (way : Way) (new : Stage) → IsMadeReady a way new → Nearer a after next key way Locked way new
-  readied a after next key way (Spared half cut entries) ready = (tt, above _ _ _ (omega arith))
-  readied a after next key way (LayerSpared layer entries) ready = (tt, more _ _ _ (omega arith))
-  readied a after next key way (Reserved new slot_key row) ready = (tt, above _ _ _ (omega arith))
-  readied a after next key way (Made place stored columns logged) ready = (tt, above _ _ _ (omega arith))
-  readied a after next key way (Taken place stored before) ready = (tt, above _ _ _ (omega arith))
-  readied a after next key way (Failed refusal None) ready = (tt, above _ _ _ (omega arith))
-  readied a after next key way (Failed refusal (Some split)) ready = (tt, above _ _ _ (omega arith))
-  readied a after next key way _ ready = absurd ready
+  -- from what it has found on
+  readied : (a after : ArenaView) (next : World) (key : List ℕ) (way : Way) (there : There) (new : Stage) → IsMadeReady a way new → Nearer a after next key way (Searched there) way new
+  readied a after next key way there (Spared half cut entries) ready = (tt, above _ _ _ (omega arith))
+  readied a after next key way there (LayerSpared layer entries) ready = (tt, more _ _ _ (omega arith))
+  readied a after next key way there (Reserved new slot_key row) ready = (tt, above _ _ _ (omega arith))
+  readied a after next key way there (Made place stored columns logged) ready = (tt, above _ _ _ (omega arith))
+  readied a after next key way there (Taken place stored before) ready = (tt, above _ _ _ (omega arith))
+  readied a after next key way there (Failed refusal None) ready = (tt, above _ _ _ (omega arith))
+  readied a after next key way there (Failed refusal (Some split)) ready = (tt, above _ _ _ (omega arith))
+  readied a after next key way there _ ready = absurd ready
 
   half_readied : (a after : ArenaView) (next : World) (key : List ℕ) (way : Way) (split : Halves) (new : Stage) → IsReadyIn split new → Nearer a after next key way (Halved split) way new
   half_readied a after next key way split (Reserved insertion slot_key row) ready = (tt, omega arith)
@@ -267,17 +202,62 @@ module _ (post_stands : ArenaView → World → Posting → Type 0) (posting_lef
       (stands, omega (arith, within, left))
   ended a after next key way goal stage _ ending is left begins = absurd is
 
-  module _ (C now begun : ℕ) (a after : ArenaView) (w next : World) (key : List ℕ) (edit : Edit) (way goal : Way) (world : IsWorld a now w) (then_world : IsWorld after now next)
-      (bytes : AreBytes key) (fits : length key ≤ MAX_KEY_BYTES) where
+  -- at a border that it has locked
+  module _ (C now begun : ℕ) (a after : ArenaView) (w next : World) (key : List ℕ) (edit new_edit : Edit) (way : Way) (world : IsWorld a now w) (then_world : IsWorld after now next)
+      (evolves : Evolves 0 w.chart next.chart) (bytes : AreBytes key) (fits : length key ≤ MAX_KEY_BYTES) (entering : Entering) (truth : StageIsTrue C key edit way (Enters entering) begun a w) (there : IsOnThere w key way) where
+    -- after a field
+    has_read : IsBorder truth.0.b → IsArena a → (e : Entered) → EnteredIsTrue (rest_of key way) e truth.0.b → HasFewerLeft entering e → StageIsTrue C key new_edit way (entered_stage e) begun after next
+        → KeepsSpots w next (way.node.0 ∷ []) (stage_held way.node.0 (entered_stage e)).owns → Nearer a after next key way (Enters entering) way (entered_stage e)
+    has_read sound arena (EntersNext other) right fewer then spots =
+        let (still, left) = still_on a after now w next world then_world key way there evolves then.0 in
+        (still, subst (λ (n : ℕ). times most (n - 1) + (most + 41 + entering_left other) < times most (way_left a way.layer way.node.0 - 1) + (most + 41 + entering_left entering)) (sym left) (omega (arith, fewer)))
+    has_read sound arena (EntersRight to) right fewer then spots =
+        let (on_there, falls) = way_moves a now begun w key way (way_right way to) world bytes fits truth.1 there ((right_visits a w key way truth.0 sound arena to right).goes now w begun world truth.1) in
+        let apart : to.0 ≢ way.node.0 = λ same. (let one : way_left a way.layer to.0 ≡ way_left a way.layer way.node.0 = ap (way_left a way.layer) same in omega (arith, falls, one)) in
+        let (still, left) = same_left a after now w next world then_world key (way_right way to) on_there (spots to.0 (not_only to.0 way.node.0 apart) (not_only to.0 way.node.0 apart)) in
+        ((still, apart), subst (λ (n : ℕ). times most n + 2 < times most (way_left a way.layer way.node.0 - 1) + (most + 41 + entering_left entering)) (sym left) (omega (arith, below_times most _ _ falls)))
+    has_read sound arena (EntersBelow head) right fewer then spots = (tt, omega (arith, below_times most _ _ (more_left a now begun w key way world bytes fits truth.1 there)))
+    has_read sound arena (EntersHere found) right fewer then spots = (tt, omega (arith, below_times most _ _ (more_left a now begun w key way world bytes fits truth.1 there)))
+
+    reads_on : (new : Stage) → StageIsTrue C key new_edit way new begun after next → KeepsSpots w next (way.node.0 ∷ []) (stage_held way.node.0 new).owns → ReadsOn a key way entering new → Nearer a after next key way (Enters entering) way new
+    reads_on new then spots (inl (part, lent, is)) =
+        let (k, held, read) = truth in
+        let rest = rest_of key way in
+        let field = lends_field a way.node.0 (wants entering) part lent k.b k.named in
+        let e = entered rest entering part in
+        leads a after next key way way (Enters entering) new (entered_stage e) is
+        (has_read field.sound lent.arena e (entered_is rest k.b field.sound k.written entering read part field.is) (fewer_left rest k.b field.sound entering read part field.is)
+        (subst (λ (s : Stage). StageIsTrue C key new_edit way s begun after next) is then) (subst (λ (s : Stage). KeepsSpots w next (way.node.0 ∷ []) (stage_held way.node.0 s).owns) is spots))
+    reads_on new then spots (inr is) = leads a after next key way way (Enters entering) new (Failed NoMemory None) is (tt, above _ _ _ (omega arith))
+
+  module _ (C now begun : ℕ) (a after : ArenaView) (w next : World) (key : List ℕ) (edit new_edit : Edit) (way goal : Way) (world : IsWorld a now w) (then_world : IsWorld after now next)
+      (evolves : Evolves 0 w.chart next.chart) (bytes : AreBytes key) (fits : length key ≤ MAX_KEY_BYTES) where
     -- on its way
-    sought : IsOnWay begun key way w → IsOnThere w key way → (new : Stage) → KeepsSpots w next [] (stage_held goal.node.0 new).owns → StageFollows a key way Seeks goal new
-        → Nearer a after next key way Seeks goal new
-    sought held there new spots (inl at) = stays_at a after next key way goal Seeks new Locked at (tt, locks_times most _ _ (more_left a now begun w key way world bytes fits held there))
-    sought held there new spots (inr (is, visits)) =
+    sought : IsOnWay begun key way w → IsOnThere w key way → (new : Stage) → StageIsTrue C key new_edit goal new begun after next → KeepsSpots w next [] (stage_held goal.node.0 new).owns
+        → StageFollows a key way Seeks goal new → Nearer a after next key way Seeks goal new
+    sought held there new then spots (inl (is, to)) =
+        let locked : StageIsTrue C key new_edit way (Enters Locked) begun after next =
+        subst (λ (g : Way). StageIsTrue C key new_edit g (Enters Locked) begun after next) to (subst (λ (s : Stage). StageIsTrue C key new_edit goal s begun after next) is then) in
+        let (still, left) = still_on a after now w next world then_world key way there evolves locked.0 in
+        stays_at a after next key way goal Seeks new (Enters Locked) (is, to) (
+          still,
+          subst (λ (n : ℕ). times most (n - 1) + (most + 41 + entering_left Locked) < times most (way_left a way.layer way.node.0)) (sym left)
+              (omega (arith, locks_times most _ _ (more_left a now begun w key way world bytes fits held there))),
+        )
+    sought held there new then spots (inr (is, visits, no_border)) =
         let (on_there, falls) = way_moves a now begun w key way goal world bytes fits held there (visits.goes now w begun world held) in
         let free : NotAmong goal.node.0 (stage_held goal.node.0 new).owns = subst (λ (s : Stage). NotAmong goal.node.0 (stage_held goal.node.0 s).owns) (sym is) (not_none goal.node.0) in
         let (still, left) = same_left a after now w next world then_world key goal on_there (spots goal.node.0 (not_none goal.node.0) free) in
         leads a after next key way goal Seeks new Seeks is (still, subst (λ (n : ℕ). times most n < times most (way_left a way.layer way.node.0)) (sym left) (moves_times most _ _ falls))
+
+    -- to the right, when it has unlocked its border
+    went_right : (to : NodeNo) → IsOnThere w key (way_right way to) → to.0 ≢ way.node.0 → (new : Stage) → KeepsSpots w next (way.node.0 ∷ []) (stage_held goal.node.0 new).owns
+        → StageFollows a key way (Rightward to) goal new → Nearer a after next key way (Rightward to) goal new
+    went_right to there apart new spots (is, at) =
+        let free : NotAmong to.0 (stage_held goal.node.0 new).owns = subst (λ (s : Stage). NotAmong to.0 (stage_held goal.node.0 s).owns) (sym is) (not_none to.0) in
+        let (still, left) = same_left a after now w next world then_world key (way_right way to) there (spots to.0 (not_only to.0 way.node.0 apart) free) in
+        leads a after next key way goal (Rightward to) new Seeks is
+        (subst (λ (g : Way). Nearer a after next key way (Rightward to) g Seeks) (sym at) (still, ends_times most _ _ left))
 
     -- into the layer that it has linked
     went_below : (below : NodeNo) → StageIsTrue C key edit way (Layered below) begun a w → IsOn w.chart below.0 → (new : Stage)
@@ -303,49 +283,53 @@ module _ (post_stands : ArenaView → World → Posting → Type 0) (posting_lef
         (stays a after next key way goal (Posts posting ending) (ending_stage ending None) to (posted a after next key way posting ending))
 
     -- if it moves
-    moved : (stage new : Stage) → StageIsTrue C key edit way stage begun a w
+    moved : (stage new : Stage) → StageIsTrue C key edit way stage begun a w → StageIsTrue C key new_edit goal new begun after next
         → stage_stands post_stands a w key way stage → KeepsSpots w next (stage_held way.node.0 stage).owns (stage_held goal.node.0 new).owns
         → PostingGoesOn post_stands posting_left most a after next stage new → StageFollows a key way stage goal new → Nearer a after next key way stage goal new
-    moved Seeks new truth stands spots goes follows = sought truth stands new spots follows
-    moved Locked new truth stands spots goes (ready, to) = stays a after next key way goal Locked new to (readied a after next key way new ready)
-    moved (Spared half cut entries) new truth stands spots goes follows = stays_at a after next key way goal (Spared half cut entries) new (HalfFilled half cut) follows (tt, omega arith)
-    moved (HalfFilled half cut) new truth stands spots goes (is, layer) = leads a after next key way goal (HalfFilled half cut) new _ is (tt, omega arith)
-    moved (Halved split) new truth stands spots goes (ready, to) = stays a after next key way goal (Halved split) new to (half_readied a after next key way split new ready)
-    moved (LayerSpared layer entries) new truth stands spots goes follows =
+    moved Seeks new truth then stands spots goes follows = sought truth stands new then spots follows
+    moved (Enters entering) new truth then stands spots goes (reads, to) = stays a after next key way goal (Enters entering) new to
+        (reads_on C now begun a after w next key edit new_edit way world then_world evolves bytes fits entering truth stands new (subst (λ (g : Way). StageIsTrue C key new_edit g new begun after next) to then)
+        (subst (λ (g : Way). KeepsSpots w next (way.node.0 ∷ []) (stage_held g.node.0 new).owns) to spots) reads)
+    moved (Rightward right) new truth then stands spots goes follows = went_right right stands.0 stands.1 new spots follows
+    moved (Searched there) new truth then stands spots goes (ready, to) = stays a after next key way goal (Searched there) new to (readied a after next key way there new ready)
+    moved (Spared half cut entries) new truth then stands spots goes follows = stays_at a after next key way goal (Spared half cut entries) new (HalfFilled half cut) follows (tt, omega arith)
+    moved (HalfFilled half cut) new truth then stands spots goes (is, layer) = leads a after next key way goal (HalfFilled half cut) new _ is (tt, omega arith)
+    moved (Halved split) new truth then stands spots goes (ready, to) = stays a after next key way goal (Halved split) new to (half_readied a after next key way split new ready)
+    moved (LayerSpared layer entries) new truth then stands spots goes follows =
         stays_at a after next key way goal (LayerSpared layer entries) new (LayerFilled layer) follows (tt, more _ _ _ (omega arith))
-    moved (LayerFilled layer) new truth stands spots goes follows = stays_at a after next key way goal (LayerFilled layer) new (LayerReady layer) follows (tt, more _ _ _ (omega arith))
-    moved (LayerReady layer) new truth stands spots goes follows = stays_at a after next key way goal (LayerReady layer) new (Layered layer.head) follows (tt, more _ _ _ (omega arith))
-    moved (Layered below) new truth stands spots goes follows = went_below below truth (linked_head_is_on (prefix_of key way) a now w way.node.0 below world truth.0) new spots follows
-    moved (Posts posting ending) new truth stands spots goes (follows, to) = posts_on posting ending new goes follows to
-    moved (Stored commit None) new truth stands spots goes (is, split) = absurd (split refl)
-    moved (Stored commit (Some split)) new truth stands spots goes (is, some) = ended a after next key way goal (Stored commit (Some split)) new (EndStored commit) is refl
+    moved (LayerFilled layer) new truth then stands spots goes follows = stays_at a after next key way goal (LayerFilled layer) new (LayerReady layer) follows (tt, more _ _ _ (omega arith))
+    moved (LayerReady layer) new truth then stands spots goes follows = stays_at a after next key way goal (LayerReady layer) new (Layered layer.head) follows (tt, more _ _ _ (omega arith))
+    moved (Layered below) new truth then stands spots goes follows = went_below below truth (linked_head_is_on (prefix_of key way) a now w way.node.0 below world truth.0) new spots follows
+    moved (Posts posting ending) new truth then stands spots goes (follows, to) = posts_on posting ending new goes follows to
+    moved (Stored commit None) new truth then stands spots goes (is, split) = absurd (split refl)
+    moved (Stored commit (Some split)) new truth then stands spots goes (is, some) = ended a after next key way goal (Stored commit (Some split)) new (EndStored commit) is refl
         (λ posting other at. subst (λ (s : Stage). PostingGoesOn post_stands posting_left most a after next (Stored commit (Some split)) s) at goes)
-    moved (Failed refusal None) new truth stands spots goes (is, split) = absurd (split refl)
-    moved (Failed refusal (Some split)) new truth stands spots goes (is, some) = ended a after next key way goal (Failed refusal (Some split)) new (EndFailed refusal) is refl
+    moved (Failed refusal None) new truth then stands spots goes (is, split) = absurd (split refl)
+    moved (Failed refusal (Some split)) new truth then stands spots goes (is, some) = ended a after next key way goal (Failed refusal (Some split)) new (EndFailed refusal) is refl
         (λ posting other at. subst (λ (s : Stage). PostingGoesOn post_stands posting_left most a after next (Failed refusal (Some split)) s) at goes)
-    moved (Reserved insertion slot_key row) new truth stands spots goes follows = stays_at a after next key way goal (Reserved insertion slot_key row) new (KeyWritten insertion row) follows (tt, omega arith)
-    moved (KeyWritten insertion row) new truth stands spots goes follows = stays_at a after next key way goal (KeyWritten insertion row) new (Filled insertion.place insertion.key insertion.logged insertion.split) follows (tt, omega arith)
-    moved (Filled place stored logged split) new truth stands spots goes follows = absurd follows
-    moved (Made place stored columns logged) new truth stands spots goes follows = absurd follows
-    moved (Taken place stored before) new truth stands spots goes follows = absurd follows
+    moved (Reserved insertion slot_key row) new truth then stands spots goes follows = stays_at a after next key way goal (Reserved insertion slot_key row) new (KeyWritten insertion row) follows (tt, omega arith)
+    moved (KeyWritten insertion row) new truth then stands spots goes follows = stays_at a after next key way goal (KeyWritten insertion row) new (Filled insertion.place insertion.key insertion.logged insertion.split) follows (tt, omega arith)
+    moved (Filled place stored logged split) new truth then stands spots goes follows = absurd follows
+    moved (Made place stored columns logged) new truth then stands spots goes follows = absurd follows
+    moved (Taken place stored before) new truth then stands spots goes follows = absurd follows
 
     -- if it moves or commits
-    got_on : (stage new : Stage) (p : Progress) → StageIsTrue C key edit way stage begun a w
+    got_on : (stage new : Stage) (p : Progress) → StageIsTrue C key edit way stage begun a w → StageIsTrue C key new_edit goal new begun after next
         → stage_stands post_stands a w key way stage → KeepsSpots w next (stage_held way.node.0 stage).owns (stage_held goal.node.0 new).owns
         → PostingGoesOn post_stands posting_left most a after next stage new → Advances p → Follows a key way stage p goal new → Nearer a after next key way stage goal new
-    got_on stage new Moved truth stands spots goes gets follows = moved stage new truth stands spots goes follows
-    got_on stage new (Committed number) truth stands spots goes gets (ready, at) = stays_at a after next key way goal stage new (Stored number (halves_of stage)) at (committed a after next key way number stage ready)
-    got_on stage new Waits truth stands spots goes gets follows = absurd gets
-    got_on stage new (Answered answer) truth stands spots goes gets follows = absurd gets
-    got_on stage new (Refused refusal) truth stands spots goes gets follows = absurd gets
+    got_on stage new Moved truth then stands spots goes gets follows = moved stage new truth then stands spots goes follows
+    got_on stage new (Committed number) truth then stands spots goes gets (ready, at) = stays_at a after next key way goal stage new (Stored number (halves_of stage)) at (committed a after next key way number stage ready)
+    got_on stage new Waits truth then stands spots goes gets follows = absurd gets
+    got_on stage new (Answered answer) truth then stands spots goes gets follows = absurd gets
+    got_on stage new (Refused refusal) truth then stands spots goes gets follows = absurd gets
 
   -- WITH EACH STEP THAT GETS ON less is left
   pub lone_write_nearer : (C now begun : ℕ) (a after : ArenaView) (w next : World) (write new : Write) (p : Progress)
       → IsLoneWrite post_stands C now begun a w write → IsLoneStep post_stands posting_left most C now begun a after w next write p new
       → write_stands post_stands after next new × (write_left posting_left most after new < write_left posting_left most a write)
   lone_write_nearer C now begun a after w next write new p lone step =
-      let (stands, falls) = got_on C now begun a after w next write.key write.edit write.way new.way lone.world step.world lone.bytes lone.fits
-      write.stage new.stage p lone.true lone.stands step.spots step.posts step.gets_on step.follows in
+      let (stands, falls) = got_on C now begun a after w next write.key write.edit new.edit write.way new.way lone.world step.world step.evolves lone.bytes lone.fits
+      write.stage new.stage p lone.true (subst (λ (k : List ℕ). StageIsTrue C k new.edit new.way new.stage begun after next) step.same_key step.true) lone.stands step.spots step.posts step.gets_on step.follows in
       (subst (λ (k : List ℕ). stage_stands post_stands after next k new.way new.stage) (sym step.same_key) stands, falls)
 
 -- it begins at a node that is on

@@ -44,14 +44,15 @@ use Rattle.mt_write.specs.declared.writing.Halves.{Halves}
 use Rattle.mt_write.specs.declared.writing.Ending.{Ending}
 use Rattle.mt_chart.proofs.Basics.{same_number}
 use Rattle.mt_write.specs.declared.writing.Stage.{Stage}
-use Rattle.mt_write.specs.declared.writing.Stage.TheVariants.{Seeks, Locked, Spared, HalfFilled, Halved, Posts, LayerSpared, LayerFilled, LayerReady, Layered, Reserved, KeyWritten, Filled, Made, Taken, Stored, Failed}
+use Rattle.mt_write.specs.declared.writing.Stage.TheVariants.{Seeks, Enters, Rightward, Searched, Spared, HalfFilled, Halved, Posts, LayerSpared, LayerFilled, LayerReady, Layered, Reserved, KeyWritten, Filled, Made, Taken, Stored, Failed}
 use Rattle.mt_write.specs.Held.{stage_held, write_held, owned}
 use Rattle.mt_write.specs.Writing.{StageIsTrue, HasLocked, HasOthers}
 use Rattle.mt_write.specs.Causes.{WriteWaits}
 use Rattle.mt_write.specs.Follows.{Follows, WriteFollows, HeadGoes, HeadFollows, IsNewPosting, PostingSteps, PostsGo, PostsFollow}
 use Rattle.mt_write.proofs.LinkLemmas.{linked_head_stands}
 use Rattle.mt_write.specs.Runs.{Advances}
-use Rattle.mt_write.proofs.LoneWrite.{OnlyOwn, KeepsSpots, PostingGoesOn, stage_stands, write_stands, write_left, head_place, write_begins, lone_write_waits_not, lone_write_nearer, IsLoneWrite, IsLoneStep}
+use Rattle.mt_write.proofs.LoneStands.{head_place}
+use Rattle.mt_write.proofs.LoneWrite.{OnlyOwn, KeepsSpots, PostingGoesOn, stage_stands, write_stands, write_left, write_begins, lone_write_waits_not, lone_write_nearer, IsLoneWrite, IsLoneStep}
 
 -- ---- a head that the chart knows is never the write's own
 -- the number names no head, or the chart doesn't know it
@@ -125,7 +126,9 @@ module _ (a : ArenaView) (w : World) where
 
   stage_no_head : (C begun : ℕ) (key : List ℕ) (edit : Edit) (way : Way) (stage : Stage) → StageIsTrue C key edit way stage begun a w → (number : ℕ) → Among number (stage_held way.node.0 stage).owns → NoHead a w number
   stage_no_head C begun key edit way Seeks truth = no_others
-  stage_no_head C begun key edit way Locked (b, at) = one_more way.node.0 [] (of_border way.node.0 b at.named) no_others
+  stage_no_head C begun key edit way (Enters entering) (k, held, read) = one_more way.node.0 [] (of_border way.node.0 k.b k.named) no_others
+  stage_no_head C begun key edit way (Rightward next) (k, held) = one_more way.node.0 [] (of_border way.node.0 k.b k.named) no_others
+  stage_no_head C begun key edit way (Searched there) (b, at, found) = one_more way.node.0 [] (of_border way.node.0 b at.named) no_others
   stage_no_head C begun key edit way (Spared half cut entries) (b, at, c, spare, same, p) = one_more half.0 _ (of_border half.0 _ spare.named) (one_more way.node.0 [] (of_border way.node.0 b at.named) no_others)
   stage_no_head C begun key edit way (HalfFilled half cut) (b, at, c, spare, p) = one_more half.0 _ (of_border half.0 _ spare.named) (one_more way.node.0 [] (of_border way.node.0 b at.named) no_others)
   stage_no_head C begun key edit way (Halved split) (b, at, half, has, p) = halves_no_head (prefix_of key way) way.node.0 (Some split) has
@@ -305,6 +308,6 @@ nearer C now begun a after w next write new p world before truth stands bytes fi
     let then_head = head_follows C now begun a after w next write.key write.edit new.edit write.way new.way world then_world evolves bytes fits write.stage new.stage truth then_true spots p write.head new.head stands.0 stands.1 gets heads follows in
     let goes = posts_go now begun a after w next write.key write.way new.way write.head world then_world before evolves sound sound_after head_on C write.edit new.edit write.stage new.stage p truth stands.1 only then_true new_only gets follows posts in
     let lone : IsLoneWrite post_stands C now begun a w write = record { world = world; true = truth; stands = stands.1; bytes = bytes; fits = fits; only_own = only } in
-    let step : IsLoneStep post_stands steps_left most_steps C now begun a after w next write p new = record { follows = follows; gets_on = gets; same_key = same_key; world = then_world; spots = spots; true = new_truth; posts = goes } in
+    let step : IsLoneStep post_stands steps_left most_steps C now begun a after w next write p new = record { follows = follows; gets_on = gets; same_key = same_key; world = then_world; evolves = evolves; spots = spots; true = new_truth; posts = goes } in
     let (still, less) = lone_write_nearer post_stands steps_left most_steps C now begun a after w next write new p lone step in
     ((then_head, still), less)

@@ -23,10 +23,11 @@ use Rattle.mt_steps.specs.declared.way.Way.{Way}
 use Rattle.mt_write.specs.declared.writing.Edit.{Edit}
 use Rattle.mt_write.specs.declared.writing.Edit.TheVariants.{Put as PutEdit, Remove as RemoveEdit}
 use Rattle.mt_write.specs.declared.writing.Stage.{Stage}
-use Rattle.mt_write.specs.declared.writing.Stage.TheVariants.{Locked, Spared, Halved, LayerSpared, Reserved, Made, Failed}
+use Rattle.mt_write.specs.declared.writing.Stage.TheVariants.{Searched, Spared, Halved, LayerSpared, Reserved, Made, Failed}
 use Rattle.mt_write.specs.declared.writing.Halves.{Halves}
 use Rattle.mt_write.specs.declared.writing.Insertion.{Insertion}
 use Rattle.mt_border.specs.declared.unwritten.SlotKey.{SlotKey}
+use Rattle.mt_steps.specs.declared.entering.There.{There}
 use Rattle.mt_steps.specs.declared.progress.Progress.TheVariants.{Moved}
 use Rattle.mt_steps.specs.World.{World, IsWorld, Goes}
 use Rattle.mt_steps.specs.Way.{rest_of, prefix_of}
@@ -45,8 +46,8 @@ use Rattle.mt_write.proofs.WriteLemmas.{alone, as_put, fails_at, has_changed, ow
 
 -- ---- ready
 module _ (C : ℕ) (a : ArenaView) (log : LogView) (key : List ℕ) (sets : List (ℕ × List ℕ)) (only : Option ℕ) (way : Way) where
-  abbrev ReadyLaw : ArenaView → LogView → Stage → Type 0
-  ReadyLaw after left stage = StepLaw C a after log left (put_request key sets only) (stage_held way.node.0 Locked) Moved (stage_held way.node.0 stage) (λ begun moves past x w. StageIsTrue C key (PutEdit sets only) way Locked begun x w) (λ begun moves past x w. StageIsTrue C key (PutEdit sets only) way stage begun x w)
+  abbrev ReadyLaw : There → ArenaView → LogView → Stage → Type 0
+  ReadyLaw there after left stage = StepLaw C a after log left (put_request key sets only) (stage_held way.node.0 (Searched there)) Moved (stage_held way.node.0 stage) (λ begun moves past x w. StageIsTrue C key (PutEdit sets only) way (Searched there) begun x w) (λ begun moves past x w. StageIsTrue C key (PutEdit sets only) way stage begun x w)
 
   -- a new row is made, and the border is marked for it
   ready_reserve : version_fault only None ≡ None → (split : Option Halves) (new : Insertion) (slot_key : SlotKey) (row : Row) (after : ArenaView) (left : LogView) → new.split ≡ split → Reserves C key sets way a log new slot_key row after left → (now begun moves : ℕ) (past : List Arena) (w : World) → IsWorld a now w → (b : BorderView) → IsLockedAt a key way b w → HasLocked (prefix_of key way) a w way.node.0 split
@@ -97,18 +98,18 @@ module _ (C : ℕ) (a : ArenaView) (log : LogView) (key : List ℕ) (sets : List
   abbrev Agrees : Type 0
   Agrees = (b : BorderView) → border_at a.nodes way.node.0 ≡ Some b → version_fault only (row_found b.live (found_for (rest_of key way) b.live)) ≡ None
 
-  ready : Agrees → (stage : Stage) (after : ArenaView) (left : LogView) → Prepares C key sets way a log None stage after left → ReadyLaw after left stage
-  ready agrees (Reserved new slot_key row) after left (none, f) = record {
-    steps = λ now begun moves past w world before truth. let (b, at) = truth in ready_reserve (subst (λ (o : Found). version_fault only (row_found f.b.live o) ≡ None) f.made.absent (agrees f.b f.named)) None new slot_key row after left none f now begun moves past w world b at (alone a key way b w at);
+  ready : (there : There) → Agrees → (stage : Stage) (after : ArenaView) (left : LogView) → Prepares C key sets way a log None stage after left → ReadyLaw there after left stage
+  ready there agrees (Reserved new slot_key row) after left (none, f) = record {
+    steps = λ now begun moves past w world before truth. let (b, at, told) = truth in ready_reserve (subst (λ (o : Found). version_fault only (row_found f.b.live o) ≡ None) f.made.absent (agrees f.b f.named)) None new slot_key row after left none f now begun moves past w world b at (alone a key way b w at);
   }
-  ready agrees (Spared half cut entries) after left (none, f, same_log) = record {
+  ready there agrees (Spared half cut entries) after left (none, f, same_log) = record {
     steps = λ now begun moves past w world before truth.
-        let (b, was) = truth in
+        let (b, was, told) = truth in
         let same : f.b ≡ b = (let both : ◌≡◌ {A = Option BorderView} (Some f.b) (Some b) = sym f.named ∙ was.named in cc) in
         let at : IsLockedAt a key way f.b w = subst (λ (x : BorderView). IsLockedAt a key way x w) (sym same) was in
         let differ : way.node.0 ≢ half.0 = λ e. vacant_border a half.0 f.b f.occupied.vacant (ap (λ (m : ℕ). border_at a.nodes m) (sym e) ∙ at.named) in
         let now_is : border_at after.nodes half.0 ≡ Some (empty_half f.b f.cut_at.middle) = ap (option_and_then border_of) f.occupied.updates.changed in
-        subst (λ (l : LogView). Stepped C now moves past a after log l w (put_request key sets only) (stage_held way.node.0 Locked) Moved (stage_held way.node.0 (Spared half cut entries)) (λ m next. StageIsTrue C key (PutEdit sets only) way (Spared half cut entries) begun after next)) (sym same_log)
+        subst (λ (l : LogView). Stepped C now moves past a after log l w (put_request key sets only) (stage_held way.node.0 (Searched there)) Moved (stage_held way.node.0 (Spared half cut entries)) (λ m next. StageIsTrue C key (PutEdit sets only) way (Spared half cut entries) begun after next)) (sym same_log)
         (quiet_step key (PutEdit sets only)
         (goes_occupied now a after w half.0 (Border (empty_half f.b f.cut_at.middle)) (way.node.0 ∷ []) _ f.occupied.vacant f.occupied.updates f.occupied.retired f.occupied.unknown f.occupied.keeps world (
           f.b,
@@ -120,21 +121,21 @@ module _ (C : ℕ) (a : ArenaView) (log : LogView) (key : List ℕ) (sets : List
         ))
         ((f.occupied.keeps.keeps now w.twins w.chart world.index).content) refl refl (inl refl));
   }
-  ready agrees (LayerSpared layer entries) after left (none, f, same_log) = record {
+  ready there agrees (LayerSpared layer entries) after left (none, f, same_log) = record {
     steps = λ now begun moves past w world before truth.
-        let (b, was) = truth in
+        let (b, was, told) = truth in
         let same : f.b ≡ b = (let both : ◌≡◌ {A = Option BorderView} (Some f.b) (Some b) = sym f.named ∙ was.named in cc) in
         let at : IsLockedAt a key way f.b w = subst (λ (x : BorderView). IsLockedAt a key way x w) (sym same) was in
         let (goes, content) = spares_go now begun a after w key way layer entries f world at in
-        subst (λ (l : LogView). Stepped C now moves past a after log l w (put_request key sets only) (stage_held way.node.0 Locked) Moved (stage_held way.node.0 (LayerSpared layer entries)) (λ m next. StageIsTrue C key (PutEdit sets only) way (LayerSpared layer entries) begun after next)) (sym same_log) (quiet_step key (PutEdit sets only)
+        subst (λ (l : LogView). Stepped C now moves past a after log l w (put_request key sets only) (stage_held way.node.0 (Searched there)) Moved (stage_held way.node.0 (LayerSpared layer entries)) (λ m next. StageIsTrue C key (PutEdit sets only) way (LayerSpared layer entries) begun after next)) (sym same_log) (quiet_step key (PutEdit sets only)
         goes
         content refl refl (inl refl));
   }
-  ready agrees (Made place stored columns logged) after left (none, f) = record {
+  ready there agrees (Made place stored columns logged) after left (none, f) = record {
     steps = λ now begun moves past w world before truth.
-        let (b, at) = truth in
+        let (b, at, told) = truth in
         let same : f.b ≡ b = (let both : ◌≡◌ {A = Option BorderView} (Some f.b) (Some b) = sym f.named ∙ at.named in cc) in
-        subst (λ (x : ArenaView). Stepped C now moves past a x log left w (put_request key sets only) (stage_held way.node.0 Locked) Moved (stage_held way.node.0 (Made place stored columns logged)) (λ m next. StageIsTrue C key (PutEdit sets only) way (Made place stored columns logged) begun x next)) (sym f.same)
+        subst (λ (x : ArenaView). Stepped C now moves past a x log left w (put_request key sets only) (stage_held way.node.0 (Searched there)) Moved (stage_held way.node.0 (Made place stored columns logged)) (λ m next. StageIsTrue C key (PutEdit sets only) way (Made place stored columns logged) begun x next)) (sym f.same)
         (record {
           goes = goes_same now a w _ (way.node.0 ∷ []) (way.node.0 ∷ []) refl world (b, at, record { sets = sets; only = only; is_put = refl; agrees = subst (λ (x : BorderView). version_fault only (row_at place x.live) ≡ None) same (subst (λ (o : Found). version_fault only (row_found f.b.live o) ≡ None) f.made.there (agrees f.b f.named)) }, subst (λ (x : BorderView). IsMade C key sets way x place stored columns logged) same f.made);
           does = (record { content = λ k row. ((λ h. h), (λ h. h)); trimmed = ap (λ (l : LogView). l.held_after) f.reserved; deltas = ap (λ (l : LogView). l.deltas) f.reserved }, refl);
@@ -144,16 +145,16 @@ module _ (C : ℕ) (a : ArenaView) (log : LogView) (key : List ℕ) (sets : List
           may = λ get. absurd (no_get key (PutEdit sets only) get);
         });
   }
-  ready agrees (Failed refusal split) after left (none, may, same, same_log) = subst (λ (s : Option Halves). ReadyLaw after left (Failed refusal s)) (sym none) (record {
-    steps = λ now begun moves past w world before truth. let (b, at) = truth in ready_fail None refusal after left (may, same, same_log) now begun moves past w world (alone a key way b w at);
+  ready there agrees (Failed refusal split) after left (none, may, same, same_log) = subst (λ (s : Option Halves). ReadyLaw there after left (Failed refusal s)) (sym none) (record {
+    steps = λ now begun moves past w world before truth. let (b, at, told) = truth in ready_fail None refusal after left (may, same, same_log) now begun moves past w world (alone a key way b w at);
   })
-  ready agrees _ after left f = absurd f
+  ready there agrees _ after left f = absurd f
 
-  pub readies : (stage : Stage) (edit : Edit) (after : ArenaView) (left : LogView) → edit ≡ PutEdit sets only → Agrees → Prepares C key sets way a log None stage after left
-      → StepLaw C a after log left (edit_request key edit) (stage_held way.node.0 Locked) Moved (stage_held way.node.0 stage) (λ begun moves past x w. StageIsTrue C key edit way Locked begun x w) (λ begun moves past x w. StageIsTrue C key edit way stage begun x w)
-  readies stage edit after left is_put agrees p =
-      subst (λ (e : Edit). StepLaw C a after log left (edit_request key e) (stage_held way.node.0 Locked) Moved (stage_held way.node.0 stage) (λ begun moves past x w. StageIsTrue C key e way Locked begun x w) (λ begun moves past x w. StageIsTrue C key e way stage begun x w)) (sym is_put)
-      (ready agrees stage after left p)
+  pub readies : (there : There) (stage : Stage) (edit : Edit) (after : ArenaView) (left : LogView) → edit ≡ PutEdit sets only → Agrees → Prepares C key sets way a log None stage after left
+      → StepLaw C a after log left (edit_request key edit) (stage_held way.node.0 (Searched there)) Moved (stage_held way.node.0 stage) (λ begun moves past x w. StageIsTrue C key edit way (Searched there) begun x w) (λ begun moves past x w. StageIsTrue C key edit way stage begun x w)
+  readies there stage edit after left is_put agrees p =
+      subst (λ (e : Edit). StepLaw C a after log left (edit_request key e) (stage_held way.node.0 (Searched there)) Moved (stage_held way.node.0 stage) (λ begun moves past x w. StageIsTrue C key e way (Searched there) begun x w) (λ begun moves past x w. StageIsTrue C key e way stage begun x w)) (sym is_put)
+      (ready there agrees stage after left p)
 
 -- ---- ready in a half
 pub one_or_none : {x : Halves} → ◌≡◌ {A = Option Halves} (Some x) None → ⊥

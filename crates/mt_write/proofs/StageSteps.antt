@@ -1,5 +1,5 @@
 -- What a step does, whole, of a write that is at a stage: for each stage.
-use Rattle.std.proofs.Common.{ℕ, zero, suc, ◌≡◌, ◌≢◌, ◌≤◌, ◌<◌, ◌+◌, ◌⊎◌, inl, inr, List, [], ◌∷◌, length, slice_get, arith, Option, Some, None, IsSome, true, false, refl, sym, subst}
+use Rattle.std.proofs.Common.{ℕ, zero, suc, ◌≡◌, ◌≢◌, ◌≤◌, ◌<◌, ◌+◌, ◌⊎◌, inl, inr, List, [], ◌∷◌, length, slice_get, arith, Option, Some, None, IsSome, true, refl, sym, subst}
 use Rattle.std.specs.Prelude.{IsSomeAnd}
 use Rattle.mt_types.specs.declared.numbers.NodeNo.{NodeNo}
 use Rattle.mt_types.specs.declared.row.Row.{Row}
@@ -7,7 +7,7 @@ use Rattle.mt_types.specs.declared.refusal.Refusal.{Refusal}
 use Rattle.mt_types.specs.declared.event.Answer.TheVariants.{Absent as AbsentAnswer}
 use Rattle.mt_commit.specs.Log.{LogView, newest, with_delta}
 use Rattle.mt_border.specs.Cut.{IsBestCut}
-use Rattle.mt_border.specs.Border.{BorderView, row_at, with_hidden, with_locked, with_unlocked, with_shown, with_value}
+use Rattle.mt_border.specs.Border.{BorderView, row_at, with_hidden, with_unlocked, with_shown, with_value}
 use Rattle.mt_border.specs.Entry.{entry_row}
 use Rattle.mt_border.specs.declared.entry.Entry.{Entry}
 use Rattle.mt_border.specs.declared.found.Found.TheVariants.{Row as RowFound}
@@ -21,6 +21,7 @@ use Rattle.mt_border.specs.Order.{IsBorder}
 use Rattle.std.specs.Option.{IfSome, option_or}
 use Rattle.mt_tree.specs.BorderSteps.{AwaitsSome, MayWriteKey, HasLayerFor, HasRowAt, HidesRowAt, IsUpperHalf, MayShowAt, SetsRowAt, ShowsNext}
 use Rattle.mt_tree.proofs.RowLemmas.{stands_at}
+use Rattle.mt_steps.specs.declared.entering.There.{There}
 use Rattle.mt_steps.specs.declared.way.Way.{Way}
 use Rattle.mt_steps.specs.declared.way.Went.{Went}
 use Rattle.mt_steps.specs.declared.way.Went.TheVariants.{Again, To, Here}
@@ -40,13 +41,13 @@ use Rattle.mt_write.specs.declared.writing.Halves.{Halves}
 use Rattle.mt_write.specs.declared.writing.Layer.{Layer}
 use Rattle.mt_write.specs.declared.writing.Ending.{Ending}
 use Rattle.mt_write.specs.declared.writing.Stage.{Stage}
-use Rattle.mt_write.specs.declared.writing.Stage.TheVariants.{Seeks, Locked, Spared, HalfFilled, Posts, LayerSpared, LayerFilled, LayerReady, Layered, Reserved, KeyWritten, Filled, Made, Taken, Stored, Failed}
+use Rattle.mt_write.specs.declared.writing.Stage.TheVariants.{Seeks, Searched, Spared, HalfFilled, Posts, LayerSpared, LayerFilled, LayerReady, Layered, Reserved, KeyWritten, Filled, Made, Taken, Stored, Failed}
 use Rattle.mt_write.specs.Held.{edit_request, write_held, stage_held, ending_stage}
 use Rattle.mt_write.specs.Writing.{HasLocked, StageIsTrue, WriteIsTrue, MayStage}
 use Rattle.mt_write.specs.Ready.{Prepares, PreparesRemove, put_delta, remove_delta}
 use Rattle.mt_write.specs.Causes.{StageWaits, StageFails, FailsBy, RemoveFailsBy, edit_fault, version_fault, put_fault, remove_fault}
 use Rattle.mt_write.specs.Follows.{WriteStep, TreeStep, MayBeAt, FindsNone, Follows, HeadGoes, PostsGo, IsMadeReady}
-use Rattle.mt_write.proofs.WriteLemmas.{seek_waits, seek_locks, may_at}
+use Rattle.mt_write.proofs.WriteLemmas.{seek_waits, may_at}
 use Rattle.mt_write.proofs.ReadyLemmas.{readies}
 use Rattle.mt_write.proofs.CommitLemmas.{differs, takes, lacks, shows, writes, hides}
 use Rattle.mt_write.proofs.HalfLemmas.{spared_fill, filled_link}
@@ -193,13 +194,13 @@ module _ (a : ArenaView) (write : Write) (went : Went) (visits : Visits a write.
     posts = tt;
   })
 
-  pub seeks_on : (next : Way) (head : NodeNo) → went ≡ To next → ((next.layer ≡ write.way.layer) × (head ≡ write.head)) ⊎ ((next.layer ≢ write.way.layer) × (head ≡ next.node)) → TreeStep a a write Seeks Moved (record write { way = next; head = head })
-  seeks_on next head is either = λ C log. subst (λ (s : Stage). WriteStep C a a log log write Seeks Moved (record { key = write.key; edit = write.edit; way = next; head = head; stage = s })) (sym idle) (record {
+  pub seeks_on : (next : Way) (head : NodeNo) → went ≡ To next → border_at a.nodes write.way.node.0 ≡ None → ((next.layer ≡ write.way.layer) × (head ≡ write.head)) ⊎ ((next.layer ≢ write.way.layer) × (head ≡ next.node)) → TreeStep a a write Seeks Moved (record write { way = next; head = head })
+  seeks_on next head is no_border either = λ C log. subst (λ (s : Stage). WriteStep C a a log log write Seeks Moved (record { key = write.key; edit = write.edit; way = next; head = head; stage = s })) (sym idle) (record {
     request = refl;
     law = moves_on C a write.key write.edit write.way write.head log went visits next head is either;
     waits = tt;
     fails = (tt, tt);
-    follows = inr (refl, subst (λ (w : Went). Visits a write.key write.way w) is visits);
+    follows = inr (refl, subst (λ (w : Went). Visits a write.key write.way w) is visits, no_border);
     head = either;
     posts = tt;
   })
@@ -210,25 +211,20 @@ module _ (a : ArenaView) (write : Write) (went : Went) (visits : Visits a write.
       subst (λ (s : Stage). WriteStep C a a log log write Seeks Waits (record { key = write.key; edit = write.edit; way = write.way; head = write.head; stage = s })) (sym idle)
       (leads C a a log log write Seeks Waits Seeks write.way refl (seek_waits C a write.key write.edit write.way log) (inr locked) (tt, tt) (refl, inr (locked, refl)) tt tt)
 
-  pub seek_ends : (after : ArenaView) (b : BorderView) → border_at a.nodes write.way.node.0 ≡ Some b → IsBorder b → b.version.locked ≡ false → went ≡ Here → after ≡ with_border_changed a write.way.node.0 with_locked → KeepsTree a after → TreeStep a after write Seeks Moved (record write { stage = Locked })
-  seek_ends after b named sound unlocked is value keeps = λ C log. subst (λ (x : ArenaView). WriteStep C a x log log write Seeks Moved (record write { stage = Locked })) (sym value)
-      (leads C a (with_border_changed a write.way.node.0 with_locked) log log write Seeks Moved Locked write.way refl
-      (seek_locks C a write.key write.edit write.way went visits b named sound unlocked is (subst (λ (x : ArenaView). KeepsTree a x) value keeps) log) tt (tt, tt) (inl (refl, refl)) (inl (refl, refl)) tt)
-
 -- where a visit leads that doesn't end at its border
-pub seeks_led : (a : ArenaView) (write : Write) (went : Went) (p : Progress) (then : Write) → Visits a write.key write.way went → write.stage ≡ Seeks → went ≢ Here → (went ≡ Again → IsMarkedAt a write.way.node.0)
+pub seeks_led : (a : ArenaView) (write : Write) (went : Went) (p : Progress) (then : Write) → Visits a write.key write.way went → write.stage ≡ Seeks → went ≢ Here → (went ≢ Again → border_at a.nodes write.way.node.0 ≡ None) → (went ≡ Again → IsMarkedAt a write.way.node.0)
     → (went ≡ Again → (p ≡ Waits) × (then ≡ record write { way = start; head = start.node }))
     → ((next : Way) → went ≡ To next → (p ≡ Moved) × (then ≡ record write { way = next; head = then.head }) × (((next.layer ≡ write.way.layer) × (then.head ≡ write.head)) ⊎ ((next.layer ≢ write.way.layer) × (then.head ≡ next.node))))
     → TreeStep a a write Seeks p then
-seeks_led a write Again p then visits idle on marked again to =
+seeks_led a write Again p then visits idle on no_border marked again to =
     let (waits, is) = again refl in
     subst (λ (q : Progress). TreeStep a a write Seeks q then) (sym waits)
     (turned_tree a a write Seeks Waits (record write { way = start; head = start.node }) then is (seeks_again a write Again visits idle (marked refl)))
-seeks_led a write (To next) p then visits idle on marked again to =
+seeks_led a write (To next) p then visits idle on no_border marked again to =
     let (moved, is, either) = to next refl in
     subst (λ (q : Progress). TreeStep a a write Seeks q then) (sym moved)
-    (turned_tree a a write Seeks Moved (record write { way = next; head = then.head }) then is (seeks_on a write (To next) visits idle next then.head refl either))
-seeks_led a write Here p then visits idle on marked again to = absurd (on refl)
+    (turned_tree a a write Seeks Moved (record write { way = next; head = then.head }) then is (seeks_on a write (To next) visits idle next then.head refl (no_border (λ e. cc)) either))
+seeks_led a write Here p then visits idle on no_border marked again to = absurd (on refl)
 
 -- ---- at its border
 -- what a put makes ready, which has split no border
@@ -265,11 +261,11 @@ module _ (C : ℕ) (a after : ArenaView) (log left : LogView) (write : Write) wh
       (subst (λ (o : Option BorderView). IsSomeAnd o (λ b. FailsBy (fault_at (PutEdit sets only) b) None stage)) (sym named)
       (subst (λ (r : Option Refusal). FailsBy (option_or r (put_fault a log b (found_for (rest_of write.key write.way) b.live))) None stage) told.1 f))
 
-  pub readies_put : (sets : List (ℕ × List ℕ)) (only : Option ℕ) (stage : Stage) → write.edit ≡ PutEdit sets only → Faults only None → Prepares C write.key sets write.way a log None stage after left
-      → IsSomeAnd (border_at a.nodes write.way.node.0) (λ b. FailsBy (put_fault a log b (found_for (rest_of write.key write.way) b.live)) None stage) → WriteStep C a after log left write Locked Moved (record write { stage = stage })
-  readies_put sets only stage is agrees ready fault =
-      leads C a after log left write Locked Moved stage write.way refl
-      (readies C a log write.key sets only write.way stage write.edit after left is (λ b named. sym (some_at _ (border_at a.nodes write.way.node.0) b agrees named).1) ready) tt
+  pub readies_put : (there : There) (sets : List (ℕ × List ℕ)) (only : Option ℕ) (stage : Stage) → write.edit ≡ PutEdit sets only → Faults only None → Prepares C write.key sets write.way a log None stage after left
+      → IsSomeAnd (border_at a.nodes write.way.node.0) (λ b. FailsBy (put_fault a log b (found_for (rest_of write.key write.way) b.live)) None stage) → WriteStep C a after log left write (Searched there) Moved (record write { stage = stage })
+  readies_put there sets only stage is agrees ready fault =
+      leads C a after log left write (Searched there) Moved stage write.way refl
+      (readies C a log write.key sets only write.way there stage write.edit after left is (λ b named. sym (some_at _ (border_at a.nodes write.way.node.0) b agrees named).1) ready) tt
       (tt, faults_at sets only None stage agrees fault is)
       (put_ready C a after log left write.key sets write.way stage ready, refl) refl tt
 
@@ -313,40 +309,40 @@ module _ (C : ℕ) (a after : ArenaView) (log left : LogView) (write : Write) (s
   commits_hidden place stored before number is next hidden keeps appended may = subst (λ (st : Stage). WriteStep C a after log left write st (Committed number) (record write { stage = Stored number None })) (sym is)
       (hides_row C a after log left write place stored before number next hidden keeps appended (at_stage (Taken place stored before) is may).1.room)
 
-module _ (C : ℕ) (a : ArenaView) (log left : LogView) (write : Write) (is : write.edit ≡ RemoveEdit) (made : Option Stage) (ready : PreparesRemove write.key write.way a log made left)
+module _ (C : ℕ) (a : ArenaView) (log left : LogView) (write : Write) (there : There) (is : write.edit ≡ RemoveEdit) (made : Option Stage) (ready : PreparesRemove write.key write.way a log made left)
     (fault : IsSomeAnd (border_at a.nodes write.way.node.0) (λ b. RemoveFailsBy (remove_fault log (found_for (rest_of write.key write.way) b.live)) made)) where
-  pub readies_remove : (stage : Stage) → made ≡ Some stage → WriteStep C a a log left write Locked Moved (record write { stage = stage })
+  pub readies_remove : (stage : Stage) → made ≡ Some stage → WriteStep C a a log left write (Searched there) Moved (record write { stage = stage })
   readies_remove stage made_is =
       let prepared = subst (λ (s : Option Stage). PreparesRemove write.key write.way a log s left) made_is ready in
-      leads C a a log left write Locked Moved stage write.way refl (takes C a log write.key write.edit write.way stage left is prepared) tt (
+      leads C a a log left write (Searched there) Moved stage write.way refl (takes C a log write.key write.edit write.way there stage left is prepared) tt (
         tt,
         subst (λ (e : Edit). IsSomeAnd (border_at a.nodes write.way.node.0) (λ b. FailsBy (edit_fault a log e b (found_for (rest_of write.key write.way) b.live)) None stage)) (sym is)
             (subst (λ (s : Option Stage). IsSomeAnd (border_at a.nodes write.way.node.0) (λ b. RemoveFailsBy (remove_fault log (found_for (rest_of write.key write.way) b.live)) s)) made_is fault),
       )
       (remove_ready a log left write.key write.way stage prepared, refl) refl tt
 
-  pub finds_none : (after : ArenaView) → made ≡ None → after ≡ with_border_changed a write.way.node.0 with_unlocked → KeepsTree a after → WriteStep C a after log left write Locked (Answered AbsentAnswer) write
+  pub finds_none : (after : ArenaView) → made ≡ None → after ≡ with_border_changed a write.way.node.0 with_unlocked → KeepsTree a after → WriteStep C a after log left write (Searched there) (Answered AbsentAnswer) write
   finds_none after none value keeps =
       let (lacking, same) = subst (λ (s : Option Stage). PreparesRemove write.key write.way a log s left) none ready in
-      closes C a after log left write Locked (Answered AbsentAnswer) (lacks C a log write.key write.edit write.way (write_held write) (WriteIsTrue C write) after is value keeps lacking left same) tt
+      closes C a after log left write (Searched there) (Answered AbsentAnswer) (lacks C a log write.key write.edit write.way there (write_held write) (WriteIsTrue C write) after is value keeps lacking left same) tt
       (subst (λ (e : Edit). IsSomeAnd (border_at a.nodes write.way.node.0) (λ b. edit_fault a log e b (found_for (rest_of write.key write.way) b.live) ≡ None)) (sym is)
       (subst (λ (s : Option Stage). IsSomeAnd (border_at a.nodes write.way.node.0) (λ b. RemoveFailsBy (remove_fault log (found_for (rest_of write.key write.way) b.live)) s)) none fault)) tt refl tt
 
-pub removes_some : (C : ℕ) (a : ArenaView) (log left : LogView) (write : Write) → write.edit ≡ RemoveEdit → (made : Option Stage) → PreparesRemove write.key write.way a log made left
-    → IsSomeAnd (border_at a.nodes write.way.node.0) (λ b. RemoveFailsBy (remove_fault log (found_for (rest_of write.key write.way) b.live)) made) → IfSome made (λ stage. WriteStep C a a log left write Locked Moved (record write { stage = stage }))
-removes_some C a log left write is None ready fault = tt
-removes_some C a log left write is (Some stage) ready fault = readies_remove C a log left write is (Some stage) ready fault stage refl
+pub removes_some : (C : ℕ) (a : ArenaView) (log left : LogView) (write : Write) (there : There) → write.edit ≡ RemoveEdit → (made : Option Stage) → PreparesRemove write.key write.way a log made left
+    → IsSomeAnd (border_at a.nodes write.way.node.0) (λ b. RemoveFailsBy (remove_fault log (found_for (rest_of write.key write.way) b.live)) made) → IfSome made (λ stage. WriteStep C a a log left write (Searched there) Moved (record write { stage = stage }))
+removes_some C a log left write there is None ready fault = tt
+removes_some C a log left write there is (Some stage) ready fault = readies_remove C a log left write there is (Some stage) ready fault stage refl
 
-pub removes_none : (C : ℕ) (a : ArenaView) (log left : LogView) (write : Write) → write.edit ≡ RemoveEdit → (made : Option Stage) → PreparesRemove write.key write.way a log made left
-    → IsSomeAnd (border_at a.nodes write.way.node.0) (λ b. RemoveFailsBy (remove_fault log (found_for (rest_of write.key write.way) b.live)) made) → made ≡ None → FindsNone C a a log left write
-removes_none C a log left write is made ready fault none = (refl, λ after value keeps. finds_none C a log left write is made ready fault after none value keeps)
+pub removes_none : (C : ℕ) (a : ArenaView) (log left : LogView) (write : Write) (there : There) → write.edit ≡ RemoveEdit → (made : Option Stage) → PreparesRemove write.key write.way a log made left
+    → IsSomeAnd (border_at a.nodes write.way.node.0) (λ b. RemoveFailsBy (remove_fault log (found_for (rest_of write.key write.way) b.live)) made) → made ≡ None → FindsNone C a a log left write there
+removes_none C a log left write there is made ready fault none = (refl, λ after value keeps. finds_none C a log left write there is made ready fault after none value keeps)
 
 -- a put that asks for another version than its key's row is of
-module _ (C : ℕ) (a : ArenaView) (log : LogView) (write : Write) where
-  pub turns_away : (sets : List (ℕ × List ℕ)) (only : Option ℕ) (refusal : Refusal) → write.edit ≡ PutEdit sets only → AreBytes write.key → Faults C a a log log write only (Some refusal) → WriteStep C a a log log write Locked Moved (record write { stage = Failed refusal None })
+module _ (C : ℕ) (a : ArenaView) (log : LogView) (write : Write) (there : There) where
+  pub turns_away : (sets : List (ℕ × List ℕ)) (only : Option ℕ) (refusal : Refusal) → write.edit ≡ PutEdit sets only → AreBytes write.key → Faults C a a log log write only (Some refusal) → WriteStep C a a log log write (Searched there) Moved (record write { stage = Failed refusal None })
   turns_away sets only refusal is bytes fault =
       let (b, named, here) = some_and _ (border_at a.nodes write.way.node.0) fault in
       let fails = subst (λ (o : Option BorderView). IsSomeAnd o (λ b. FailsBy (option_or (Some refusal) (put_fault a log b (found_for (rest_of write.key write.way) b.live))) None (Failed refusal None))) (sym named) refl in
-      leads C a a log log write Locked Moved (Failed refusal None) write.way refl (differs C a log write.key write.edit write.way sets only refusal is bytes fault) tt
+      leads C a a log log write (Searched there) Moved (Failed refusal None) write.way refl (differs C a log write.key write.edit write.way there sets only refusal is bytes fault) tt
       (tt, faults_at C a a log log write sets only (Some refusal) (Failed refusal None) fault fails is)
       (refl, refl) refl tt

@@ -24,11 +24,12 @@ use Rattle.mt_tree.specs.Descent.{IsFoundAt, found_for, row_found}
 use Rattle.mt_tree.specs.BorderSteps.{HidesRowAt, MayShowAt, SetsRowAt, ShowsNext}
 use Rattle.mt_steps.specs.Way.{Finds, rest_of}
 use Rattle.mt_steps.specs.Step.{MayFail, columns_after}
+use Rattle.mt_steps.specs.declared.entering.There.{There}
 use Rattle.mt_steps.specs.declared.progress.Progress.TheVariants.{Committed, Moved}
 use Rattle.mt_write.specs.declared.writing.Write.{Write}
 use Rattle.mt_write.specs.declared.writing.Edit.TheVariants.{Put as PutEdit, Remove as RemoveEdit}
 use Rattle.mt_write.specs.declared.writing.Stage.{Stage}
-use Rattle.mt_write.specs.declared.writing.Stage.TheVariants.{Failed, Filled, KeyWritten, Locked, Made, Reserved, Stored, Taken}
+use Rattle.mt_write.specs.declared.writing.Stage.TheVariants.{Failed, Filled, KeyWritten, Searched, Made, Reserved, Stored, Taken}
 use Rattle.mt_write.specs.Ready.{Inserts, Prepares, Reserves, put_delta, remove_delta, with_room}
 use Rattle.mt_write.specs.Causes.{FailsBy, IsNotFailed, ReadyFor, RemoveFailsBy, fill_fault, put_fault, remove_fault, version_fault}
 use Rattle.mt_write.specs.Follows.{WriteStep}
@@ -76,12 +77,12 @@ room_fails T log key false true refusal is =
 room_fails T log key false false refusal is = subst (λ (r : Refusal). MayFail log (RemoveRequest key) r) (sym is) (tt, tt)
 
 -- ---- its commit, which appends a delta that doesn't stay
-module _ (C : ℕ) (a between after : ArenaView) (log left last : LogView) (write : Write) (stage : Stage) (steps number : ℕ) (delta : Delta) where
-  passes : ReadiedAt C a log write between left stage steps → WriteStep C between after left (with_delta left delta) write stage (Committed number) (record write { stage = Stored number None })
-      → delta.number ≡ newest left + 1 → 1 ≤ left.reserved → last ≡ trimmed (with_delta left delta) → newest last ≡ newest left + 1 → IsLog left → IsArena after → steps + 1 ≤ 4 → CommitsAt C a after log last write (record { commit = number; steps = steps + 1 })
+module _ (C : ℕ) (a between after : ArenaView) (log left last : LogView) (write : Write) (there : There) (stage : Stage) (steps number : ℕ) (delta : Delta) where
+  passes : ReadiedAt C a log write there between left stage steps → WriteStep C between after left (with_delta left delta) write stage (Committed number) (record write { stage = Stored number None })
+      → delta.number ≡ newest left + 1 → 1 ≤ left.reserved → last ≡ trimmed (with_delta left delta) → newest last ≡ newest left + 1 → IsLog left → IsArena after → steps + 1 ≤ 4 → CommitsAt C a after log last write there (record { commit = number; steps = steps + 1 })
   passes ready commits next room passed newest_is sound arena few =
       let long = length-append left.deltas (delta ∷ []) in
-      commits_ready C a log write between left stage steps ready after (with_delta left delta) last number commits (appended_log left delta (left.deltas ++ delta ∷ []) sound room next refl) arena passed (omega (arith, newest_is, long)) few
+      commits_ready C a log write there between left stage steps ready after (with_delta left delta) last number commits (appended_log left delta (left.deltas ++ delta ∷ []) sound room next refl) arena passed (omega (arith, newest_is, long)) few
 
 -- there is room for the delta
 pub has_room : (log left : LogView) → left ≡ with_room log → 1 ≤ left.reserved
@@ -92,43 +93,43 @@ some_for place (Some x) may version = may version
 some_for place None may version = may
 
 -- ---- a put
-module _ (C : ℕ) (a : ArenaView) (log left : LogView) (write : Write) (sets : List (ℕ × List ℕ)) (only : Option ℕ) (is : write.edit ≡ PutEdit sets only) (found : Found) (f : Finds a write.key write.way found)
+module _ (C : ℕ) (a : ArenaView) (log left : LogView) (write : Write) (there : There) (sets : List (ℕ × List ℕ)) (only : Option ℕ) (is : write.edit ≡ PutEdit sets only) (found : Found) (f : Finds a write.key write.way found)
     (b : BorderView) (named : border_at a.nodes write.way.node.0 ≡ Some b) (sound : IsBorder b) (agrees : None ≡ version_fault only (row_found b.live found)) where
-  there : (at : Found) → found ≡ at → found_for (rest_of write.key write.way) b.live ≡ at
-  there at is_at = sym (found_is a write.key write.way found f b named) ∙ is_at
+  as_found : (at : Found) → found ≡ at → found_for (rest_of write.key write.way) b.live ≡ at
+  as_found at is_at = sym (found_is a write.key write.way found f b named) ∙ is_at
 
   -- a stage fails at the border by the fault of what was found
   by_fault : (at : Found) → found ≡ at → (stage : Stage) → FailsBy (put_fault a log b at) None stage → IsSomeAnd (border_at a.nodes write.way.node.0) (λ x. FailsBy (put_fault a log x (found_for (rest_of write.key write.way) x.live)) None stage)
   by_fault at is_at stage fails = subst (λ (o : Option BorderView). IsSomeAnd o (λ x. FailsBy (put_fault a log x (found_for (rest_of write.key write.way) x.live)) None stage)) (sym named)
-      (subst (λ (at : Found). FailsBy (put_fault a log b at) None stage) (sym (there at is_at)) fails)
+      (subst (λ (at : Found). FailsBy (put_fault a log b at) None stage) (sym (as_found at is_at)) fails)
 
-  readies : (at : Found) → found ≡ at → (after : ArenaView) (stage : Stage) → Prepares C write.key sets write.way a log None stage after left → ReadyFor (put_fault a log b at) (Ok stage) → WriteStep C a after log left write Locked Moved (record write { stage = stage })
-  readies at is_at after stage ready fault = readies_put C a after log left write sets only stage is
+  readies : (at : Found) → found ≡ at → (after : ArenaView) (stage : Stage) → Prepares C write.key sets write.way a log None stage after left → ReadyFor (put_fault a log b at) (Ok stage) → WriteStep C a after log left write (Searched there) Moved (record write { stage = stage })
+  readies at is_at after stage ready fault = readies_put C a after log left write there sets only stage is
       (faults_told a write.key write.way found f b named only None sound agrees)
       ready (by_fault at is_at stage (ready_ok (put_fault a log b at) (Ok stage) stage None fault refl))
 
-  fails : (at : Found) → found ≡ at → (after : ArenaView) → after ≡ a → (refusal : Refusal) → MayFail log (PutRequest write.key sets) refusal → left ≡ log → ReadyFor (put_fault a log b at) (Err refusal) → WriteStep C a after log left write Locked Moved (record write { stage = Failed refusal None })
-  fails at is_at after same refusal may kept fault = readies_put C a after log left write sets only (Failed refusal None) is
+  fails : (at : Found) → found ≡ at → (after : ArenaView) → after ≡ a → (refusal : Refusal) → MayFail log (PutRequest write.key sets) refusal → left ≡ log → ReadyFor (put_fault a log b at) (Err refusal) → WriteStep C a after log left write (Searched there) Moved (record write { stage = Failed refusal None })
+  fails at is_at after same refusal may kept fault = readies_put C a after log left write there sets only (Failed refusal None) is
       (faults_told a write.key write.way found f b named only None sound agrees)
       (refl, may, inl same, kept) (by_fault at is_at (Failed refusal None) (ready_err (put_fault a log b at) (Err refusal) refusal None fault refl))
 
   -- ---- over a row
-  pub over_fails : (place : ℕ) → found ≡ RowFound place → (refusal : Refusal) → MayFail log (PutRequest write.key sets) refusal × (left ≡ log) → MadeFor (List (List ℕ)) (reserve_fault log) (Err refusal) → WriteStep C a a log left write Locked Moved (record write { stage = Failed refusal None })
+  pub over_fails : (place : ℕ) → found ≡ RowFound place → (refusal : Refusal) → MayFail log (PutRequest write.key sets) refusal × (left ≡ log) → MadeFor (List (List ℕ)) (reserve_fault log) (Err refusal) → WriteStep C a a log left write (Searched there) Moved (record write { stage = Failed refusal None })
   over_fails place row refusal (may, kept) fault = fails (RowFound place) row a refl refusal may kept (made_refused (List (List ℕ)) (reserve_fault log) refusal fault)
 
   module _ (place : ℕ) (row : found ≡ RowFound place) (bytes : AreBytes write.key) (fits : length write.key ≤ MAX_KEY_BYTES) (made : List (List ℕ)) (ready : (made ≡ columns_after C sets (row_at place b.live)) × (left ≡ with_room log)) (fault : MadeFor (List (List ℕ)) (reserve_fault log) (Ok made)) where
-    readies_over : WriteStep C a a log left write Locked Moved (record write { stage = Made place write.key made made })
+    readies_over : WriteStep C a a log left write (Searched there) Moved (record write { stage = Made place write.key made made })
     readies_over = readies (RowFound place) row a (Made place write.key made made)
-        (refl, record { b = b; named = named; made = record { bytes = bytes; fits = fits; sound = sound; stored_is = refl; there = there (RowFound place) row; made = ready.0; copied = refl }; same = refl; reserved = ready.1 })
+        (refl, record { b = b; named = named; made = record { bytes = bytes; fits = fits; sound = sound; stored_is = refl; there = as_found (RowFound place) row; made = ready.0; copied = refl }; same = refl; reserved = ready.1 })
         (made_ready (List (List ℕ)) (reserve_fault log) made (Made place write.key made made) tt fault)
 
-    pub passes_over : MayAct C a log write found → (after : ArenaView) (last : LogView) (number : ℕ) → number ≡ newest last → after ≡ with_border_changed a write.way.node.0 (λ x. with_value x place (record { version = number; columns = made }))
-        → SetsRowAt a after write.way.node.0 place (record { version = number; columns = made }) → ((delta : Delta) → last ≡ trimmed (with_delta left delta)) → newest last ≡ newest left + 1 → IsLog left → IsArena after → CommitsAt C a after log last write (record { commit = number; steps = 2 })
+    pub passes_over : MayAct C a log write found there → (after : ArenaView) (last : LogView) (number : ℕ) → number ≡ newest last → after ≡ with_border_changed a write.way.node.0 (λ x. with_value x place (record { version = number; columns = made }))
+        → SetsRowAt a after write.way.node.0 place (record { version = number; columns = made }) → ((delta : Delta) → last ≡ trimmed (with_delta left delta)) → newest last ≡ newest left + 1 → IsLog left → IsArena after → CommitsAt C a after log last write there (record { commit = number; steps = 2 })
     passes_over act after last number is_last written sets_row passed newest_is sound_left arena =
         let next : number ≡ newest left + 1 = is_last ∙ newest_is in
         let delta : Delta = put_delta (newest left + 1) write.key (row_at place b.live) made in
         let room = has_room log left ready.1 in
-        passes C a a after log left last write (Made place write.key made made) 1 number delta (readied_one C a log write act.may act.trimmed act.arena a left (Made place write.key made made) readies_over act.arena sound_left)
+        passes C a a after log left last write there (Made place write.key made made) 1 number delta (readied_one C a log write there act.may act.trimmed act.arena a left (Made place write.key made made) readies_over act.arena sound_left)
         (writes_row C a after left (with_delta left delta) write place write.key made made number next
         (subst (λ (n : ℕ). after ≡ with_border_changed a write.way.node.0 (λ x. with_value x place (record { version = n; columns = made }))) next written)
         (subst (λ (n : ℕ). SetsRowAt a after write.way.node.0 place (record { version = n; columns = made })) next sets_row)
@@ -137,10 +138,10 @@ module _ (C : ℕ) (a : ArenaView) (log left : LogView) (write : Write) (sets : 
 
   -- ---- of a new key
   pub new_fails : (T : Type 0) (place : ℕ) → found ≡ AbsentFound place → length b.live < SLOTS → (after : ArenaView) (refusal : Refusal) → MayFail log (PutRequest write.key sets) refusal × (after ≡ a) × (left ≡ log) → MadeFor T (fill_fault log b) (Err refusal)
-      → WriteStep C a after log left write Locked Moved (record write { stage = Failed refusal None })
+      → WriteStep C a after log left write (Searched there) Moved (record write { stage = Failed refusal None })
   new_fails T place none room after refusal (may, same, kept) fault = fails (AbsentFound place) none after same refusal may kept (room_ready a log b place (Err refusal) room (made_refused T (fill_fault log b) refusal fault))
 
-  module _ (T : Type 0) (done : T) (place : ℕ) (none : found ≡ AbsentFound place) (room : length b.live < SLOTS) (between : ArenaView) (i : Inserts C write.key sets write.way a between) (reserved : left ≡ with_room log) (fault : MadeFor T (fill_fault log b) (Ok done)) (act : MayAct C a log write found) (sound_left : IsLog left) (arena_between : IsArena between) where
+  module _ (T : Type 0) (done : T) (place : ℕ) (none : found ≡ AbsentFound place) (room : length b.live < SLOTS) (between : ArenaView) (i : Inserts C write.key sets write.way a between) (reserved : left ≡ with_room log) (fault : MadeFor T (fill_fault log b) (Ok done)) (act : MayAct C a log write found there) (sound_left : IsLog left) (arena_between : IsArena between) where
     abbrev new : Insertion
     new = record { place = place; key = write.key; logged = columns_after C sets None; split = None }
 
@@ -157,7 +158,7 @@ module _ (C : ℕ) (a : ArenaView) (log left : LogView) (write : Write) (sets : 
     reserves = record {
       b = b;
       named = named;
-      made = record { bytes = i.bytes; fits = i.fits; sound = sound; stored_is = refl; absent = there (AbsentFound place) none; columns = refl; row_is = refl };
+      made = record { bytes = i.bytes; fits = i.fits; sound = sound; stored_is = refl; absent = as_found (AbsentFound place) none; columns = refl; row_is = refl };
       room = room;
       key_is = refl;
       whole = i.whole;
@@ -167,29 +168,29 @@ module _ (C : ℕ) (a : ArenaView) (log left : LogView) (write : Write) (sets : 
       reserved = reserved;
     }
 
-    readies_new : WriteStep C a i.marked log left write Locked Moved (record write { stage = Reserved new slot_key row })
+    readies_new : WriteStep C a i.marked log left write (Searched there) Moved (record write { stage = Reserved new slot_key row })
     readies_new = readies (AbsentFound place) none i.marked (Reserved new slot_key row) (refl, reserves) (room_ready a log b place (Ok (Reserved new slot_key row)) room (made_ready T (fill_fault log b) done (Reserved new slot_key row) tt fault))
 
-    readied_new : ReadiedAt C a log write between left filled 3
+    readied_new : ReadiedAt C a log write there between left filled 3
     readied_new =
         let w = i.writes in
-        let one = readied_one C a log write act.may act.trimmed act.arena i.marked left (Reserved new slot_key row) readies_new i.arena sound_left in
-        let two = readied_more C a log write i.marked left (Reserved new slot_key row) 1 one w.keyed (KeyWritten new row) (writes_key i.marked w.keyed write new slot_key row w.key w.key_keeps w.key_sound C left) sound_left w.arena in
-        readied_more C a log write w.keyed left (KeyWritten new row) 2 two between filled (writes_value w.keyed between write new row (λ own is. subst (λ (k : SlotKey). between ≡ with_border_changed w.keyed write.way.node.0 (λ x. with_filled x (entry_with k row))) (own_key own is) w.value) w.value_keeps w.value_sound C left) sound_left arena_between
+        let one = readied_one C a log write there act.may act.trimmed act.arena i.marked left (Reserved new slot_key row) readies_new i.arena sound_left in
+        let two = readied_more C a log write there i.marked left (Reserved new slot_key row) 1 one w.keyed (KeyWritten new row) (writes_key i.marked w.keyed write new slot_key row w.key w.key_keeps w.key_sound C left) sound_left w.arena in
+        readied_more C a log write there w.keyed left (KeyWritten new row) 2 two between filled (writes_value w.keyed between write new row (λ own is. subst (λ (k : SlotKey). between ≡ with_border_changed w.keyed write.way.node.0 (λ x. with_filled x (entry_with k row))) (own_key own is) w.value) w.value_keeps w.value_sound C left) sound_left arena_between
       where
         own_key : (own : SlotKey) → IsSomeAnd (border_at i.writes.keyed.nodes write.way.node.0) (λ x. x.unwritten ≡ Value own) → slot_key ≡ own
         own_key own is = key_there i.marked i.writes.keyed write.way.node.0 (with_inserting b) slot_key (subst (λ (x : ArenaView). border_at x.nodes write.way.node.0 ≡ Some (with_inserting b)) (sym i.marks) (now_named a write.way.node.0 b with_inserting named)) i.writes.key own is
 
     pub may_show_new : (version : ℕ) → IsSomeAnd (border_at between.nodes write.way.node.0) (λ x. MayShowAt x place version)
-    may_show_new version = some_for place (border_at between.nodes write.way.node.0) (may_show between write left place write.key (columns_after C sets None) None (C, may_next C a log write between left filled 3 readied_new)) version
+    may_show_new version = some_for place (border_at between.nodes write.way.node.0) (may_show between write left place write.key (columns_after C sets None) None (C, may_next C a log write there between left filled 3 readied_new)) version
 
     pub passes_new : (after : ArenaView) (last : LogView) (number : ℕ) → number ≡ newest last → after ≡ with_border_changed between write.way.node.0 (λ x. with_shown x place number)
-        → ShowsNext between after write.way.node.0 number → ((delta : Delta) → last ≡ trimmed (with_delta left delta)) → newest last ≡ newest left + 1 → IsArena after → CommitsAt C a after log last write (record { commit = number; steps = 4 })
+        → ShowsNext between after write.way.node.0 number → ((delta : Delta) → last ≡ trimmed (with_delta left delta)) → newest last ≡ newest left + 1 → IsArena after → CommitsAt C a after log last write there (record { commit = number; steps = 4 })
     passes_new after last number is_last shown shows passed newest_is arena =
         let next : number ≡ newest left + 1 = is_last ∙ newest_is in
         let delta : Delta = put_delta (newest left + 1) write.key None (columns_after C sets None) in
         let room = has_room log left reserved in
-        passes C a between after log left last write filled 3 number delta readied_new
+        passes C a between after log left last write there filled 3 number delta readied_new
         (shows_row C between after left (with_delta left delta) write place write.key (columns_after C sets None) None number next
         (subst (λ (n : ℕ). after ≡ with_border_changed between write.way.node.0 (λ x. with_shown x place n)) next shown) (subst (λ (n : ℕ). ShowsNext between after write.way.node.0 n) next shows) refl room)
         refl room (passed delta) newest_is sound_left arena (omega arith)
@@ -199,7 +200,7 @@ row_is : (o : Option Row) → IsSome o → (row : Row) × (o ≡ Some row)
 row_is None has = absurd (let clash : false ≡ true = has in cc)
 row_is (Some row) has = (row, refl)
 
-module _ (C : ℕ) (a : ArenaView) (log left : LogView) (write : Write) (is : write.edit ≡ RemoveEdit) (found : Found) (f : Finds a write.key write.way found) (place : ℕ) (row : found ≡ RowFound place) (b : BorderView) (named : border_at a.nodes write.way.node.0 ≡ Some b) where
+module _ (C : ℕ) (a : ArenaView) (log left : LogView) (write : Write) (there : There) (is : write.edit ≡ RemoveEdit) (found : Found) (f : Finds a write.key write.way found) (place : ℕ) (row : found ≡ RowFound place) (b : BorderView) (named : border_at a.nodes write.way.node.0 ≡ Some b) where
   has_row : IsSome (row_at place b.live)
   has_row =
       let at = subst (λ (x : Found). IsFoundAt (rest_of write.key write.way) b.live x) row (found_stands a write.key write.way found f b named) in
@@ -213,24 +214,24 @@ module _ (C : ℕ) (a : ArenaView) (log left : LogView) (write : Write) (is : wr
   by_log stage fails = subst (λ (o : Option BorderView). IsSomeAnd o (λ x. RemoveFailsBy (remove_fault log (found_for (rest_of write.key write.way) x.live)) (Some stage))) (sym named)
       (subst (λ (at : Found). FailsBy (remove_fault log at) None stage) (sym there_is) fails)
 
-  pub remove_fails : (T : Type 0) (refusal : Refusal) → left ≡ log → MadeFor T (reserve_fault log) (Err refusal) → WriteStep C a a log left write Locked Moved (record write { stage = Failed refusal None })
-  remove_fails T refusal kept fault = readies_remove C a log left write is (Some (Failed refusal None)) (refl, room_fails T log write.key _ _ refusal fault, kept)
+  pub remove_fails : (T : Type 0) (refusal : Refusal) → left ≡ log → MadeFor T (reserve_fault log) (Err refusal) → WriteStep C a a log left write (Searched there) Moved (record write { stage = Failed refusal None })
+  remove_fails T refusal kept fault = readies_remove C a log left write there is (Some (Failed refusal None)) (refl, room_fails T log write.key _ _ refusal fault, kept)
       (by_log (Failed refusal None) (ready_err (reserve_fault log) (Err refusal) refusal None (made_refused T (reserve_fault log) refusal fault) refl)) (Failed refusal None) refl
 
   module _ (sound : IsBorder b) (bytes : AreBytes write.key) (fits : length write.key ≤ MAX_KEY_BYTES) (T : Type 0) (done : T) (reserved : left ≡ with_room log) (fault : MadeFor T (reserve_fault log) (Ok done)) where
-    readies_found : (before : Row) → row_at place b.live ≡ Some before → WriteStep C a a log left write Locked Moved (record write { stage = Taken place write.key before })
-    readies_found before copied = readies_remove C a log left write is (Some (Taken place write.key before))
+    readies_found : (before : Row) → row_at place b.live ≡ Some before → WriteStep C a a log left write (Searched there) Moved (record write { stage = Taken place write.key before })
+    readies_found before copied = readies_remove C a log left write there is (Some (Taken place write.key before))
         (record { b = b; named = named; found = record { bytes = bytes; fits = fits; sound = sound; stored_is = refl; there = there_is; is_remove = refl; copied = copied }; reserved = reserved })
         (by_log (Taken place write.key before) (ready_ok (reserve_fault log) (Ok (Taken place write.key before)) (Taken place write.key before) None (made_ready T (reserve_fault log) done (Taken place write.key before) tt fault) refl))
         (Taken place write.key before) refl
 
-    pub passes_found : MayAct C a log write found → (after : ArenaView) (last : LogView) (number : ℕ) → number ≡ newest last → after ≡ with_border_changed a write.way.node.0 (λ x. with_hidden x place) → HidesRowAt a after write.way.node.0 place
-        → ((delta : Delta) → last ≡ trimmed (with_delta left delta)) → newest last ≡ newest left + 1 → IsLog left → IsArena after → CommitsAt C a after log last write (record { commit = number; steps = 2 })
+    pub passes_found : MayAct C a log write found there → (after : ArenaView) (last : LogView) (number : ℕ) → number ≡ newest last → after ≡ with_border_changed a write.way.node.0 (λ x. with_hidden x place) → HidesRowAt a after write.way.node.0 place
+        → ((delta : Delta) → last ≡ trimmed (with_delta left delta)) → newest last ≡ newest left + 1 → IsLog left → IsArena after → CommitsAt C a after log last write there (record { commit = number; steps = 2 })
     passes_found act after last number is_last hidden hides passed newest_is sound_left arena =
         let next : number ≡ newest left + 1 = is_last ∙ newest_is in
         let (before, copied) = row_is (row_at place b.live) has_row in
         let delta : Delta = remove_delta (newest left + 1) write.key before in
         let room = has_room log left reserved in
-        passes C a a after log left last write (Taken place write.key before) 1 number delta (readied_one C a log write act.may act.trimmed act.arena a left (Taken place write.key before) (readies_found before copied) act.arena sound_left)
+        passes C a a after log left last write there (Taken place write.key before) 1 number delta (readied_one C a log write there act.may act.trimmed act.arena a left (Taken place write.key before) (readies_found before copied) act.arena sound_left)
         (hides_row C a after left (with_delta left delta) write place write.key before number next hidden hides refl room)
         refl room (passed delta) newest_is sound_left arena (omega arith)

@@ -12,10 +12,11 @@ use Rattle.mt_chart.specs.Chart.{Spot, Evolves}
 use Rattle.mt_chart.proofs.HeldNodes.{holds_kept}
 use Rattle.mt_tree.specs.Seen.{arena_seen, node_seen}
 use Rattle.mt_steps.specs.declared.way.Way.{Way}
+use Rattle.mt_steps.specs.declared.entering.Entering.{Entering}
 use Rattle.mt_write.specs.declared.writing.Write.{Write}
 use Rattle.mt_write.specs.declared.writing.Edit.{Edit}
 use Rattle.mt_write.specs.declared.writing.Stage.{Stage}
-use Rattle.mt_write.specs.declared.writing.Stage.TheVariants.{Seeks, Locked, Spared, HalfFilled, Halved, Posts, LayerSpared, LayerFilled, LayerReady, Layered, Reserved, KeyWritten, Filled, Made, Taken, Stored, Failed}
+use Rattle.mt_write.specs.declared.writing.Stage.TheVariants.{Seeks, Enters, Rightward, Searched, Spared, HalfFilled, Halved, Posts, LayerSpared, LayerFilled, LayerReady, Layered, Reserved, KeyWritten, Filled, Made, Taken, Stored, Failed}
 use Rattle.mt_write.specs.declared.writing.Halves.{Halves}
 use Rattle.mt_write.specs.declared.writing.Layer.{Layer}
 use Rattle.mt_chart.proofs.Basics.{same_number}
@@ -25,7 +26,7 @@ use Rattle.mt_chart.specs.Chart.{top}
 use Rattle.mt_chart.proofs.Walk.{known_kept}
 use Rattle.mt_post.proofs.PostingLasts.{posting_stays, posting_taken}
 use Rattle.mt_write.specs.Held.{stage_held, owned, layer_owned, write_held}
-use Rattle.mt_write.specs.Writing.{StageIsTrue, IsLockedAt, IsOwnedAt, HasLocked, HasOthers, AreHalves, HasLayer, HasLink, IsSpare, way_below, WriteIsTrue, Tells}
+use Rattle.mt_write.specs.Writing.{StageIsTrue, IsLockedAt, IsOwnedAt, HasLocked, HasOthers, AreHalves, HasLayer, HasLink, IsSpare, way_below, way_right, WriteIsTrue, Tells}
 use Rattle.mt_types.specs.declared.refusal.Refusal.{Refusal}
 use Rattle.mt_types.specs.declared.refusal.Refusal.TheVariants.{OtherVersion}
 use Rattle.mt_steps.specs.World.{IsLockedBorder}
@@ -136,9 +137,15 @@ module _ (a after : ArenaView) (w next : World) where
     tells_stays key way (OtherVersion found) (Some split) same tells = tells
     tells_stays key way _ split same tells = tells
 
+    enters_stays : (key : List ℕ) (edit : Edit) (way : Way) (entering : Entering) → IsSame a after w next way.node.0 → StageIsTrue C key edit way (Enters entering) begun a w → StageIsTrue C key edit way (Enters entering) begun after next
+    unfolding locked_stays
+    enters_stays key edit way entering same truth = (locked_stays way.node.0 same truth.0, way_stays begun key way evolves truth.1, truth.2)
+
     stage_stays : (key : List ℕ) (edit : Edit) (way : Way) (stage : Stage) → ((number : ℕ) → Among number (stage_held way.node.0 stage).owns → IsSame a after w next number) → StageIsTrue C key edit way stage begun a w → StageIsTrue C key edit way stage begun after next
     stage_stays key edit way Seeks same truth = way_stays begun key way evolves truth
-    stage_stays key edit way Locked same truth = let (b, at) = truth in (b, locked_at_stays key way b (same way.node.0 first) at)
+    stage_stays key edit way (Enters entering) same truth = enters_stays key edit way entering (same way.node.0 first) truth
+    stage_stays key edit way (Rightward next) same truth = (locked_stays way.node.0 (same way.node.0 first) truth.0, way_stays begun key (way_right way next) evolves truth.1)
+    stage_stays key edit way (Searched there) same truth = let (b, at, found) = truth in (b, locked_at_stays key way b (same way.node.0 first) at, found)
     stage_stays key edit way (Spared half cut entries) same truth = let (b, at, c, s, e, p) = truth in (b, locked_at_stays key way b (same way.node.0 (later first)) at, c, spare_stays half.0 _ (same half.0 first) s, e, p)
     stage_stays key edit way (HalfFilled half cut) same truth = let (b, at, c, s, p) = truth in (b, locked_at_stays key way b (same way.node.0 (later first)) at, c, spare_stays half.0 _ (same half.0 first) s, p)
     stage_stays key edit way (Halved split) same truth = let (b, at, h, has, p) = truth in (b, locked_at_stays key way b (same way.node.0 has.own) at, h, has_locked_stays (prefix_of key way) way.node.0 (Some split) same has, p)
@@ -185,7 +192,9 @@ module _ (C begun moves : ℕ) (past : List Arena) (a : ArenaView) (w : World) w
 
   stage_taken : (key : List ℕ) (edit : Edit) (way : Way) (stage : Stage) → StageIsTrue C key edit way stage begun a w → (number : ℕ) → Among number (stage_held way.node.0 stage).owns → IsTaken a w number
   stage_taken key edit way Seeks truth number i = elim i [ ]
-  stage_taken key edit way Locked truth number i = let (b, at) = truth in border_taken a w way.node.0 number b at.named at.locked i
+  stage_taken key edit way (Enters entering) truth number i = border_taken a w way.node.0 number truth.0.b truth.0.named truth.0.locked i
+  stage_taken key edit way (Rightward next) truth number i = border_taken a w way.node.0 number truth.0.b truth.0.named truth.0.locked i
+  stage_taken key edit way (Searched there) truth number i = let (b, at, found) = truth in border_taken a w way.node.0 number b at.named at.locked i
   stage_taken key edit way (Spared half cut entries) truth number i = let (b, at, c, s, e, p) = truth in spare_taken half.0 way.node.0 number _ s b at.named at.locked i
   stage_taken key edit way (HalfFilled half cut) truth number i = let (b, at, c, s, p) = truth in spare_taken half.0 way.node.0 number _ s b at.named at.locked i
   stage_taken key edit way (Halved split) truth number i = let (b, at, h, has, p) = truth in all_taken (prefix_of key way) way.node.0 (Some split) has number i

@@ -11,7 +11,7 @@ use Rattle.mt_post.proofs.PostingLasts.{posting_since}
 use Rattle.mt_write.specs.declared.writing.Write.{Write}
 use Rattle.mt_write.specs.declared.writing.Edit.{Edit}
 use Rattle.mt_write.specs.declared.writing.Stage.{Stage}
-use Rattle.mt_write.specs.declared.writing.Stage.TheVariants.{Seeks, Locked, Spared, HalfFilled, Halved, Posts, LayerSpared, LayerFilled, LayerReady, Layered, Reserved, KeyWritten, Filled, Made, Taken, Stored, Failed}
+use Rattle.mt_write.specs.declared.writing.Stage.TheVariants.{Seeks, Enters, Rightward, Searched, Spared, HalfFilled, Halved, Posts, LayerSpared, LayerFilled, LayerReady, Layered, Reserved, KeyWritten, Filled, Made, Taken, Stored, Failed}
 use Rattle.mt_write.specs.declared.writing.Halves.{Halves}
 use Rattle.mt_write.specs.declared.writing.Layer.{Layer}
 use Rattle.mt_chart.proofs.Basics.{same_number}
@@ -41,7 +41,9 @@ module _ (C : ℕ) (a : ArenaView) (now begun : ℕ) (w : World) (world : IsWorl
 
   stage_since : (key : List ℕ) (edit : Edit) (way : Way) (stage : Stage) → StageIsTrue C key edit way stage begun a w → GoneSince begun w (stage_held way.node.0 stage).owns
   stage_since key edit way Seeks truth = λ number i. elim i [ ]
-  stage_since key edit way Locked truth = let (b, at) = truth in border_since way.node.0 b at.named
+  stage_since key edit way (Enters entering) truth = border_since way.node.0 truth.0.b truth.0.named
+  stage_since key edit way (Rightward next) truth = border_since way.node.0 truth.0.b truth.0.named
+  stage_since key edit way (Searched there) truth = let (b, at, found) = truth in border_since way.node.0 b at.named
   stage_since key edit way (Spared half cut entries) truth = let (b, at, c, s, e, p) = truth in both_since half.0 _ (border_since half.0 _ s.named) (border_since way.node.0 b at.named)
   stage_since key edit way (HalfFilled half cut) truth = let (b, at, c, s, p) = truth in both_since half.0 _ (border_since half.0 _ s.named) (border_since way.node.0 b at.named)
   stage_since key edit way (Halved split) truth = let (b, at, h, has, p) = truth in locked_since _ way.node.0 (Some split) has

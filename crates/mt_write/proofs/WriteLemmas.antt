@@ -1,5 +1,5 @@
 -- The steps of a put or remove.
-use Rattle.std.proofs.Common.{ℕ, ◌≡◌, ◌≢◌, ◌≤◌, ◌+◌, ◌⊎◌, inl, inr, List, [], ◌∷◌, Option, Some, None, IsSome, true, false, refl, sym, ap, subst, ◌∙◌}
+use Rattle.std.proofs.Common.{ℕ, ◌≡◌, ◌≢◌, ◌≤◌, ◌+◌, ◌⊎◌, inl, inr, List, [], Option, Some, None, IsSome, true, false, refl, sym, ap, subst, ◌∙◌}
 use Rattle.std.specs.Option.{option_map}
 use Rattle.mt_types.specs.declared.row.Row.{Row}
 use Rattle.mt_types.specs.declared.event.Request.TheVariants.{Put as PutRequest, Remove as RemoveRequest}
@@ -9,7 +9,7 @@ use Rattle.mt_types.specs.declared.refusal.Refusal.TheVariants.{NoMemory, ArenaF
 use Rattle.mt_types.specs.declared.numbers.NodeNo.{NodeNo}
 use Rattle.mt_slice.specs.Place.{place_of, first_slice}
 use Rattle.mt_commit.specs.Log.{LogView, slowest}
-use Rattle.mt_border.specs.Border.{BorderView, with_locked}
+use Rattle.mt_border.specs.Border.{BorderView}
 use Rattle.mt_border.specs.declared.entry.Entry.{Entry}
 use Rattle.mt_border.specs.declared.entry.RightLink.{RightLink}
 use Rattle.mt_border.specs.declared.found.Found.{Found}
@@ -17,29 +17,24 @@ use Rattle.mt_border.specs.declared.found.Found.TheVariants.{Absent, Row as RowF
 use Rattle.std.specs.Option.{option_and_then}
 use Rattle.mt_arena.specs.Node.{border_at, border_of}
 use Rattle.mt_chart.proofs.Basics.{same_number}
-use Rattle.mt_border.specs.Order.{IsBorder}
 use Rattle.mt_border.specs.declared.unwritten.Unwritten.TheVariants.{Nothing}
-use Rattle.mt_border.proofs.BorderLemmas.{unlocked_written}
 use Rattle.mt_arena.specs.Arena.{ArenaView, with_border_changed}
 use Rattle.mt_chart.specs.Tree.{first, Arena, BorderNode, Below}
 use Rattle.mt_chart.specs.Chart.{Chart, OnBorder, spot, Spot, at_level, on}
 use Rattle.mt_chart.specs.Steps.{SameContent}
 use Rattle.mt_chart.specs.TreeLaws.{IsWhere}
 use Rattle.mt_tree.specs.Seen.{arena_seen, border_seen, right_seen}
-use Rattle.mt_tree.specs.Keeping.{KeepsTree}
 use Rattle.mt_tree.specs.Descent.{IsLast, found_for, row_found}
 use Rattle.mt_tree.proofs.SeenLemmas.{seen-border}
 use Rattle.mt_steps.specs.declared.way.Way.{Way}
-use Rattle.mt_steps.specs.declared.way.Went.{Went}
-use Rattle.mt_steps.specs.declared.way.Went.TheVariants.{Here}
 use Rattle.mt_write.specs.declared.writing.Edit.{Edit}
 use Rattle.mt_write.specs.declared.writing.Edit.TheVariants.{Put as PutEdit, Remove as RemoveEdit}
 use Rattle.mt_write.specs.declared.writing.Stage.{Stage}
-use Rattle.mt_write.specs.declared.writing.Stage.TheVariants.{Seeks, Locked}
+use Rattle.mt_write.specs.declared.writing.Stage.TheVariants.{Seeks}
 use Rattle.mt_write.specs.declared.writing.Halves.{Halves}
 use Rattle.mt_steps.specs.declared.progress.Progress.TheVariants.{Moved, Waits}
 use Rattle.mt_steps.specs.World.{World, NotAmong, Goes}
-use Rattle.mt_steps.specs.Way.{rest_of, prefix_of, IsLayerOf, IsAtPlace, GoesTo, Visits}
+use Rattle.mt_steps.specs.Way.{rest_of, prefix_of, IsLayerOf}
 use Rattle.mt_steps.specs.Step.{Held, Stepped, StepLaw, MayStep, put_row, Blocks, Commits, Changes, blocked_by, IsOfLog, MayRefuse, IsRight}
 use Rattle.mt_write.specs.Causes.{version_fault}
 use Rattle.mt_write.specs.Held.{put_request, edit_request, written_answer, stage_held}
@@ -48,9 +43,8 @@ use Rattle.mt_steps.specs.World.{IsLockedBorder}
 use Rattle.mt_steps.proofs.FrameLemmas.{goes_same, quiet_same}
 use Rattle.std.specs.Prelude.{IsTrue}
 use Rattle.mt_write.proofs.VersionLemmas.{same_version}
-use Rattle.mt_tree.proofs.AgeLemmas.{ages_locked}
 use Rattle.mt_steps.proofs.WayLemmas.{starts}
-use Rattle.mt_steps.proofs.BorderLemmas.{alive_changed, now_named, others_named, keys_same, goes_border, on_kept, unlocked_root, unlocked_free, among_one}
+use Rattle.mt_steps.proofs.BorderLemmas.{now_named, others_named, among_one}
 
 -- no write is a get
 pub no_get : (key : List ℕ) (edit : Edit) → IsTrue (is_get (edit_request key edit)) → ⊥
@@ -140,30 +134,6 @@ owned_at-changed a key way b w change named layer stands ends low right live ali
 -- a border that is on is known
 pub known_on : (arena : Arena) (chart : Chart) (number : ℕ) (prefix : List ℕ) (node : BorderNode) → OnBorder arena chart number prefix node → IsSome (chart number)
 known_on arena chart number prefix node stands = subst (λ (x : Option Spot). IsSome x) (sym stands.place) refl
-
--- ---- the lock
-module _ (C : ℕ) (a : ArenaView) (key : List ℕ) (edit : Edit) (way : Way) (went : Went) (visits : Visits a key way went) where
-  abbrev lock : BorderView → BorderView
-  lock b = with_locked b
-
-  pub seek_locks : (b : BorderView) → border_at a.nodes way.node.0 ≡ Some b → IsBorder b → b.version.locked ≡ false → went ≡ Here → KeepsTree a (with_border_changed a way.node.0 lock) → (log : LogView)
-      → StepLaw C a (with_border_changed a way.node.0 lock) log log (edit_request key edit) (stage_held way.node.0 Seeks) Moved (stage_held way.node.0 Locked) (λ begun moves past x w. StageIsTrue C key edit way Seeks begun x w) (λ begun moves past x w. StageIsTrue C key edit way Locked begun x w)
-  seek_locks b named sound unlocked is keeps log = record {
-    steps = λ now begun moves past w world before truth.
-        let at : IsAtPlace a key way w = subst (λ (t : Went). GoesTo a begun key way w t) is (visits.goes now w begun world truth) in
-        let same : at.here.border ≡ b = (let both : ◌≡◌ {A = Option BorderView} (Some at.here.border) (Some b) = sym at.here.named ∙ named in cc) in
-        let stands = subst (λ (x : BorderView). IsWhere (arena_seen a) w.chart way.node.0 (prefix_of key way) (border_seen x) (place_of (rest_of key way))) same at.here.stands in
-        let kept = keeps.keeps now w.twins w.chart world.index in
-        quiet_step key edit
-        (goes_border a way.node.0 b lock named now w [] (way.node.0 ∷ []) _ world (λ known. (ages_locked b, inr refl)) kept.index (keys_same a (with_border_changed a way.node.0 lock) kept.content world.keys)
-        (unlocked_free a way.node.0 b lock named w [] unlocked (known_on (arena_seen a) w.chart way.node.0 (prefix_of key way) (border_seen b) stands.stands))
-        (λ other i. inr (among_one other way.node.0 i)) (λ other ne i. elim i [ ]) (λ locked. first) (on_kept a now w.chart way.node.0 (at_level 0) (prefix_of key way) b.low stands.stands.posted stands.stands.place world.retired, λ i. refl, alive_changed a way.node.0 b lock named w.chart (inl refl)) (
-          lock b,
-          written_at _ key way (lock b) w (unlocked_written b sound unlocked) (owned_at-changed a key way b w lock named at.layer stands (subst (λ (x : BorderView). IsLast (found_for (rest_of key way) x.live)) same at.last) refl refl refl
-              (ap (λ (x : BorderView). x.version.deleted) (sym same) ∙ at.alive) refl (unlocked_root a w.closing w.chart way.node.0 b named unlocked world.heads)),
-        ))
-        (kept.content) refl refl (inl refl);
-  }
 
 -- what a write answers is right
 pub answer_right : (past : List Arena) (a : ArenaView) (key : List ℕ) (edit : Edit) (number : ℕ) → IsRight past a (edit_request key edit) (Some number) (written_answer edit number)

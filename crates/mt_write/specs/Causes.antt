@@ -16,6 +16,8 @@ use Rattle.mt_border.specs.declared.found.Found.TheVariants.{Absent, Row, OtherS
 use Rattle.mt_arena.specs.Node.{border_at, occupied}
 use Rattle.mt_tree.specs.Descent.{found_for, row_found}
 use Rattle.mt_arena.specs.Arena.{ArenaView}
+use Rattle.mt_steps.specs.Entering.{TakesMemory}
+use Rattle.mt_steps.specs.declared.entering.Entering.{Entering}
 use Rattle.mt_steps.specs.declared.progress.Progress.{Progress}
 use Rattle.mt_steps.specs.declared.progress.Progress.TheVariants.{Waits, Answered, Refused}
 use Rattle.mt_steps.specs.declared.way.Way.{Way}
@@ -26,7 +28,7 @@ use Rattle.mt_write.specs.declared.writing.Edit.{Edit}
 use Rattle.mt_write.specs.declared.writing.Edit.TheVariants.{Put, Remove}
 use Rattle.mt_write.specs.declared.writing.Halves.{Halves}
 use Rattle.mt_write.specs.declared.writing.Stage.{Stage}
-use Rattle.mt_write.specs.declared.writing.Stage.TheVariants.{Seeks, Locked, Halved, Posts, Failed}
+use Rattle.mt_write.specs.declared.writing.Stage.TheVariants.{Seeks, Enters, Searched, Halved, Posts, Failed}
 use Rattle.mt_write.specs.declared.writing.Ending.{Ending}
 use Rattle.mt_write.specs.declared.writing.Ending.TheVariants.{Stored as EndStored, Failed as EndFailed}
 use Rattle.mt_post.specs.declared.posting.Posting.{Posting}
@@ -127,13 +129,19 @@ EndsWith (EndStored commit) stage = IsNotFailed stage
 EndsWith (EndFailed refusal) (Failed failed split) = failed ≡ refusal
 EndsWith (EndFailed refusal) _ = Unit {0}
 
--- WHY A PUT OR REMOVE FAILS. It fails only in the step that makes ready at the border that it has locked, or at the
--- half to which its key belongs: for a fault there, or, if there is none, only if out of memory. It is refused only if
--- it had failed, for the same reason.
+-- a write that reads a border fails only when it is out of memory, at a field that takes some
+abbrev pub FailsReading : Entering → Stage → Type 0
+FailsReading entering (Failed refusal split) = (refusal ≡ NoMemory) × TakesMemory entering
+FailsReading entering _ = Unit {0}
+
+-- WHY A PUT OR REMOVE FAILS. It fails in a step that reads a key or a value of a border that it has locked, if it is out
+-- of memory; or in the step that makes ready at its key's border, or at the half to which its key belongs: for a fault
+-- there, or, if there is none, only if out of memory. It is refused only if it had failed, for the same reason.
 abbrev pub StageFails : ArenaView → LogView → List ℕ → Edit → Way → Stage → Progress → Stage → Type 0
-StageFails a log key edit way Locked (Answered answer) new =
+StageFails a log key edit way (Enters entering) p new = IsNotRefused p × FailsReading entering new
+StageFails a log key edit way (Searched there) (Answered answer) new =
     IsSomeAnd (border_at a.nodes way.node.0) (λ b. edit_fault a log edit b (found_for (rest_of key way) b.live) ≡ None)
-StageFails a log key edit way Locked p new = IsNotRefused p
+StageFails a log key edit way (Searched there) p new = IsNotRefused p
     × IsSomeAnd (border_at a.nodes way.node.0)
     (λ b. FailsBy (edit_fault a log edit b (found_for (rest_of key way) b.live)) None new)
 StageFails a log key edit way (Halved split) p new = IsNotRefused p

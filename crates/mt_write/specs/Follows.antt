@@ -1,17 +1,25 @@
 -- Which stage of a put or remove follows which: said of the nodes before the step, and of the call before and after it.
-use Rattle.std.specs.Prelude.{ℕ, ◌≡◌, ◌≢◌, ◌⊎◌, ◌+◌, List, [], Option, Some, None, IsSomeAnd}
+use Rattle.std.specs.Prelude.{ℕ, ◌≡◌, ◌≢◌, ◌⊎◌, ◌+◌, List, [], Option, Some, None, IsSomeAnd, false}
 use Rattle.mt_border.specs.Cut.{IsBestCut}
 use Rattle.mt_arena.specs.Node.{border_at}
 use Rattle.mt_arena.specs.Arena.{ArenaView, with_border_changed}
+use Rattle.mt_arena.specs.declared.part.Part.{Part}
+use Rattle.mt_border.specs.Order.{IsBorder}
 use Rattle.mt_border.specs.Border.{with_unlocked}
 use Rattle.mt_tree.specs.Keeping.{KeepsTree}
 use Rattle.mt_types.specs.declared.event.Answer.TheVariants.{Absent}
 use Rattle.mt_types.specs.declared.numbers.NodeNo.{NodeNo}
+use Rattle.mt_types.specs.declared.refusal.Refusal.TheVariants.{NoMemory}
 use Rattle.mt_steps.specs.declared.progress.Progress.{Progress}
 use Rattle.mt_steps.specs.declared.progress.Progress.TheVariants.{Moved, Waits, Committed, Answered, Refused}
 use Rattle.mt_steps.specs.declared.way.Way.{Way}
 use Rattle.mt_steps.specs.declared.way.Went.TheVariants.{To}
-use Rattle.mt_steps.specs.Way.{Visits, start}
+use Rattle.mt_steps.specs.Standing.{Lends}
+use Rattle.mt_steps.specs.Entering.{entered, wants}
+use Rattle.mt_steps.specs.declared.entering.Entering.{Entering}
+use Rattle.mt_steps.specs.declared.entering.Entering.TheVariants.{Locked}
+use Rattle.mt_steps.specs.declared.entering.There.{There}
+use Rattle.mt_steps.specs.Way.{Visits, rest_of, start}
 use Rattle.mt_steps.specs.Causes.{IsMarkedAt, IsLockedAlready}
 use Rattle.mt_post.specs.declared.posting.Posting.{Posting}
 use Rattle.mt_post.specs.declared.posting.PostEnd.{PostEnd}
@@ -26,11 +34,11 @@ use Rattle.mt_write.specs.declared.writing.Halves.{Halves}
 use Rattle.mt_write.specs.declared.writing.Ending.{Ending}
 use Rattle.mt_write.specs.declared.writing.Ending.TheVariants.{Stored as EndStored, Failed as EndFailed}
 use Rattle.mt_write.specs.declared.writing.Stage.{Stage}
-use Rattle.mt_write.specs.declared.writing.Stage.TheVariants.{Seeks, Locked, Spared, HalfFilled, Halved, Posts, LayerSpared, LayerFilled, LayerReady, Layered, Reserved, KeyWritten, Filled, Made, Taken, Stored, Failed}
+use Rattle.mt_write.specs.declared.writing.Stage.TheVariants.{Seeks, Enters, Rightward, Searched, Spared, HalfFilled, Halved, Posts, LayerSpared, LayerFilled, LayerReady, Layered, Reserved, KeyWritten, Filled, Made, Taken, Stored, Failed}
 use Rattle.mt_write.specs.declared.writing.Write.{Write as WriteView}
 use Rattle.mt_commit.specs.Log.{LogView}
 use Rattle.mt_write.specs.Held.{write_request, ending_stage}
-use Rattle.mt_write.specs.Writing.{MayStage, StageLaw}
+use Rattle.mt_write.specs.Writing.{MayStage, StageLaw, entered_stage, way_right}
 use Rattle.mt_write.specs.Causes.{IsPosting, StageWaits, StageFails}
 
 -- it is at this stage, and at the node at which it was
@@ -40,6 +48,16 @@ StaysAt way next new stage = (new ≡ stage) × (next ≡ way)
 -- a full border is to be cut before the place nearest to the middle at which it may be, the lower of two that are as near
 abbrev pub IsCutBest : ArenaView → Way → ℕ → Type 0
 IsCutBest a way cut = IsSomeAnd (border_at a.nodes way.node.0) (λ b. IsBestCut b.live cut)
+
+-- the number names a border that a write may lock: one that is neither locked nor marked deleted
+abbrev pub MayLock : ArenaView → ℕ → Type 0
+MayLock a number = IsSomeAnd (border_at a.nodes number)
+    (λ b. IsBorder b × (b.version.locked ≡ false) × (b.version.deleted ≡ false))
+
+-- at a border that it has locked it is lent the one field that it wants, and does what follows from it; or it has failed
+abbrev pub ReadsOn : ArenaView → List ℕ → Way → Entering → Stage → Type 0
+ReadsOn a key way entering new = ((part : Part) × Lends a way.node.0 (wants entering) part
+    × (new ≡ entered_stage (entered (rest_of key way) entering part))) ⊎ (new ≡ Failed NoMemory None)
 
 -- at its border, which it has locked, it has made something ready, or failed
 abbrev pub IsMadeReady : ArenaView → Way → Stage → Type 0
@@ -62,10 +80,14 @@ abbrev pub PostsOn : ArenaView → Posting → Ending → Stage → Type 0
 PostsOn a posting ending (Posts then other) = (other ≡ ending) × PostFollows a posting PostMoved then
 PostsOn a posting ending new = new ≡ ending_stage ending None
 
--- if it moves: on its way it goes to the next node, or locks its border; each other stage leads to the next one
+-- if it moves: on its way it locks a border, and continues from a head or an interior node to the next one; each other
+-- stage leads to the next one
 abbrev pub StageFollows : ArenaView → List ℕ → Way → Stage → Way → Stage → Type 0
-StageFollows a key way Seeks next new = StaysAt way next new Locked ⊎ ((new ≡ Seeks) × Visits a key way (To next))
-StageFollows a key way Locked next new = IsMadeReady a way new × (next ≡ way)
+StageFollows a key way Seeks next new = StaysAt way next new (Enters Locked)
+    ⊎ ((new ≡ Seeks) × Visits a key way (To next) × (border_at a.nodes way.node.0 ≡ None))
+StageFollows a key way (Enters entering) next new = ReadsOn a key way entering new × (next ≡ way)
+StageFollows a key way (Rightward right) next new = (new ≡ Seeks) × (next ≡ way_right way right)
+StageFollows a key way (Searched there) next new = IsMadeReady a way new × (next ≡ way)
 StageFollows a key way (Spared half cut entries) next new = StaysAt way next new (HalfFilled half cut)
 StageFollows a key way (HalfFilled half cut) next new = (new ≡ Halved (record { left = way.node; half = half }))
     × (next.layer ≡ way.layer)
@@ -102,10 +124,10 @@ IsReady (Made place stored columns logged) = Unit {0}
 IsReady (Taken place stored before) = Unit {0}
 IsReady _ = ⊥
 
--- it answers when it has locked its border and there is no row to remove; or when it has stored, and nothing is to be
+-- it answers when it has read its border and there is no row to remove; or when it has stored, and nothing is to be
 -- posted
 abbrev pub MayAnswer : Stage → Type 0
-MayAnswer Locked = Unit {0}
+MayAnswer (Searched there) = Unit {0}
 MayAnswer (Stored commit split) = split ≡ None
 MayAnswer _ = ⊥
 
@@ -194,7 +216,7 @@ abbrev pub MayBeAt : ArenaView → WriteView → Stage → Type 0
 MayBeAt a write stage = (C : ℕ) × (log : LogView) × MayStage C a log write stage
 
 -- there is no row to remove: the write has changed nothing, and with the unlock of its border it answers
-abbrev pub FindsNone : ℕ → ArenaView → ArenaView → LogView → LogView → WriteView → Type 0
-FindsNone C a same log left write = (same ≡ a) × ((after : ArenaView)
+abbrev pub FindsNone : ℕ → ArenaView → ArenaView → LogView → LogView → WriteView → There → Type 0
+FindsNone C a same log left write there = (same ≡ a) × ((after : ArenaView)
     → after ≡ with_border_changed a write.way.node.0 with_unlocked → KeepsTree a after
-    → WriteStep C a after log left write Locked (Answered Absent) write)
+    → WriteStep C a after log left write (Searched there) (Answered Absent) write)

@@ -8,7 +8,7 @@ use Rattle.mt_write.specs.declared.writing.Write.{Write}
 use Rattle.mt_write.specs.declared.writing.Edit.{Edit}
 use Rattle.mt_write.specs.declared.writing.Edit.TheVariants.{Put as PutEdit, Remove as RemoveEdit}
 use Rattle.mt_write.specs.declared.writing.Stage.{Stage}
-use Rattle.mt_write.specs.declared.writing.Stage.TheVariants.{Seeks, Locked, Spared, HalfFilled, Halved, Posts, LayerSpared, LayerFilled, LayerReady, Layered, Reserved, KeyWritten, Filled, Made, Taken, Stored, Failed}
+use Rattle.mt_write.specs.declared.writing.Stage.TheVariants.{Seeks, Enters, Rightward, Searched, Spared, HalfFilled, Halved, Posts, LayerSpared, LayerFilled, LayerReady, Layered, Reserved, KeyWritten, Filled, Made, Taken, Stored, Failed}
 use Rattle.mt_write.specs.declared.writing.Halves.{Halves}
 use Rattle.mt_write.specs.declared.writing.Ending.{Ending}
 use Rattle.mt_write.specs.declared.writing.Ending.TheVariants.{Stored as EndStored, Failed as EndFailed}
@@ -59,7 +59,9 @@ ending_stage (EndFailed refusal) split = Failed refusal split
 -- what a write has: from the lock on its border, and from a stage that is ready on room in the log
 abbrev pub stage_held : ℕ → Stage → Held
 stage_held number Seeks = nothing
-stage_held number Locked = record { owns = number ∷ []; reserves = 0; committed = None; blocked = None }
+stage_held number (Enters entering) = record { owns = number ∷ []; reserves = 0; committed = None; blocked = None }
+stage_held number (Rightward next) = record { owns = number ∷ []; reserves = 0; committed = None; blocked = None }
+stage_held number (Searched there) = record { owns = number ∷ []; reserves = 0; committed = None; blocked = None }
 stage_held number (Spared half cut entries) =
     record { owns = half.0 ∷ number ∷ []; reserves = 0; committed = None; blocked = None }
 stage_held number (HalfFilled half cut) =

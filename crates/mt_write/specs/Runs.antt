@@ -2,21 +2,26 @@
 use Rattle.std.specs.Prelude.{ℕ, ◌≡◌, ◌≤◌, ◌+◌, ◌-◌, ◌⊎◌, min, List, [], ◌∷◌, length, sum_by, All, Option, Some, None, Result, Ok, Err}
 use Rattle.mt_types.specs.declared.refusal.Refusal.{Refusal}
 use Rattle.mt_border.specs.declared.found.Found.{Found}
+use Rattle.mt_border.specs.declared.found.Found.TheVariants.{Absent as AbsentFound}
+use Rattle.mt_border.specs.declared.entry.Entry.{Entry}
 use Rattle.mt_commit.specs.Log.{LogView, IsLog, newest, slowest, trimmed}
 use Rattle.mt_arena.specs.Arena.{ArenaView, IsArena}
 use Rattle.mt_chart.specs.Tree.{Arena}
+use Rattle.mt_tree.specs.declared.visit.Visit.{Visit}
+use Rattle.mt_tree.specs.declared.visit.Visit.TheVariants.{Below}
 use Rattle.mt_steps.specs.declared.progress.Progress.{Progress}
 use Rattle.mt_steps.specs.declared.progress.Progress.TheVariants.{Moved, Committed}
 use Rattle.mt_steps.specs.World.{World, IsWorld}
 use Rattle.mt_steps.specs.Step.{bounds}
 use Rattle.mt_steps.specs.Way.{Finds}
+use Rattle.mt_steps.specs.declared.entering.There.{There}
 use Rattle.mt_write.specs.declared.running.WriteRun.{WriteRun}
 use Rattle.mt_write.specs.declared.finishing.Committed.{Committed as AtCommit}
 use Rattle.mt_write.specs.declared.finishing.AtBorder.{AtBorder}
 use Rattle.mt_write.specs.declared.finishing.AtBorder.TheVariants.{Absent, Commits, Ready}
 use Rattle.mt_write.specs.declared.writing.Write.{Write}
 use Rattle.mt_write.specs.declared.writing.Stage.{Stage}
-use Rattle.mt_write.specs.declared.writing.Stage.TheVariants.{Locked, Stored, Failed}
+use Rattle.mt_write.specs.declared.writing.Stage.TheVariants.{Searched, Stored, Failed}
 use Rattle.mt_write.specs.Held.{write_held}
 use Rattle.mt_write.specs.Writing.{WriteIsTrue}
 use Rattle.mt_write.specs.Follows.{FindsNone, TreeStep, WriteStep}
@@ -83,17 +88,33 @@ pub record HasRun (C : ℕ) (s : WriteState) (run : WriteRun) (t : WriteState) :
   pub many : run.steps ≡ length steps + 1
   pub commits : run.commits ≡ sum_by commits_in steps + commits_in run.last
 
--- what a write asks at the border that it has locked, where it has found this
-pub record MayAct (C : ℕ) (a : ArenaView) (log : LogView) (write : Write) (found : Found) : Type 0 where
-  pub may : MayRun C (state a log (record write { stage = Locked }))
+-- how many values a write reads of its border, if it finds this there
+abbrev pub values_read : Found → ℕ
+values_read (AbsentFound place) = 0
+values_read _ = 1
+
+-- and of a border that it only passes, by where a visit of it leads: the right link; or that, the order, each key, and
+-- the link to the layer below
+abbrev pub passed_fields : Visit → List Entry → ℕ
+passed_fields (Below head) live = length live + 3
+passed_fields _ live = 1
+
+-- AT A BORDER THAT IT ONLY PASSES it makes this run, after which it continues
+pub record PassesAt (C : ℕ) (a after : ArenaView) (log : LogView) (write : Write) (run : WriteRun) (then : Write) : Type 0 where
+  pub runs : HasRun C (state a log write) run (state after log then)
+  pub may : MayRun C (state after log then)
+
+-- what a write asks at the border that it has locked and read, if it has found this
+pub record MayAct (C : ℕ) (a : ArenaView) (log : LogView) (write : Write) (found : Found) (there : There) : Type 0 where
+  pub may : MayRun C (state a log (record write { stage = Searched there }))
   pub trimmed : IsTrimmed log
   pub arena : IsArena a
   pub sound : IsLog log
   pub finds : Finds a write.key write.way found
 
--- AT ITS BORDER, which it has locked, a write makes ready and commits, in this many steps
-pub record CommitsAt (C : ℕ) (a after : ArenaView) (log left : LogView) (write : Write) (committed : AtCommit) : Type 0 where
-  pub run : HasRun C (state a log (record write { stage = Locked }))
+-- AT ITS BORDER, which it has locked and read, a write makes ready and commits, in this many steps
+pub record CommitsAt (C : ℕ) (a after : ArenaView) (log left : LogView) (write : Write) (there : There) (committed : AtCommit) : Type 0 where
+  pub run : HasRun C (state a log (record write { stage = Searched there }))
       (record { steps = committed.steps; commits = 1; last = Committed committed.commit })
       (state after left (record write { stage = Stored committed.commit None }))
   pub may : MayRun C (state after left (record write { stage = Stored committed.commit None }))
@@ -101,10 +122,10 @@ pub record CommitsAt (C : ℕ) (a after : ArenaView) (log left : LogView) (write
   pub few : committed.steps ≤ 4
 
 -- without a delta it has made the commit of a number there, or none, or has failed
-abbrev pub CommitsUnread : ℕ → ArenaView → ArenaView → LogView → LogView → Write → Result (Option AtCommit) Refusal → Type 0
-CommitsUnread C a after log left write (Ok None) = (after ≡ a) × (left ≡ log)
-CommitsUnread C a after log left write (Ok (Some committed)) = CommitsAt C a after log left write committed
-CommitsUnread C a after log left write (Err refusal) = WriteStep C a after log left write Locked Moved
+abbrev pub CommitsUnread : ℕ → ArenaView → ArenaView → LogView → LogView → Write → There → Result (Option AtCommit) Refusal → Type 0
+CommitsUnread C a after log left write there (Ok None) = (after ≡ a) × (left ≡ log)
+CommitsUnread C a after log left write there (Ok (Some committed)) = CommitsAt C a after log left write there committed
+CommitsUnread C a after log left write there (Err refusal) = WriteStep C a after log left write (Searched there) Moved
     (record write { stage = Failed refusal None })
 
 -- the key and the row of a new key are written, one after the other
@@ -126,8 +147,8 @@ pub record CommitsStage (a after : ArenaView) (log left : LogView) (write : Writ
       (record write { stage = Stored committed.commit None })
 
 -- so much it has done there: it has found no row to remove, or committed, or made another stage ready
-abbrev pub ComesTo : ℕ → ArenaView → ArenaView → LogView → LogView → Write → AtBorder → Type 0
-ComesTo C a after log left write Absent = FindsNone C a after log left write
-ComesTo C a after log left write (Commits committed) = CommitsAt C a after log left write committed
-ComesTo C a after log left write (Ready stage) = WriteStep C a after log left write Locked Moved
+abbrev pub ComesTo : ℕ → ArenaView → ArenaView → LogView → LogView → Write → There → AtBorder → Type 0
+ComesTo C a after log left write there Absent = FindsNone C a after log left write there
+ComesTo C a after log left write there (Commits committed) = CommitsAt C a after log left write there committed
+ComesTo C a after log left write there (Ready stage) = WriteStep C a after log left write (Searched there) Moved
     (record write { stage = stage })

@@ -32,13 +32,18 @@ use Rattle.mt_tree.specs.Seen.{arena_seen, border_seen}
 use Rattle.mt_tree.specs.Keeping.{IsOnIn}
 use Rattle.mt_tree.specs.Descent.{IsLast, HasOtherSuffix, found_for, row_found}
 use Rattle.mt_tree.specs.BorderSteps.{MayShowAt}
+use Rattle.mt_steps.specs.Entering.{EnteringIsTrue, ThereIsTrue}
+use Rattle.mt_steps.specs.declared.entering.Entered.{Entered}
+use Rattle.mt_steps.specs.declared.entering.Entered.TheVariants.{Enters as EntersNext, Right as EntersRight, Below as EntersBelow, Here as EntersHere}
+use Rattle.mt_steps.specs.declared.entering.There.{There}
+use Rattle.mt_steps.specs.declared.entering.There.TheVariants.{Absent as AbsentThere, Row as RowThere, Other as OtherThere}
 use Rattle.mt_steps.specs.declared.way.Way.{Way}
 use Rattle.mt_write.specs.declared.writing.Write.{Write}
 use Rattle.mt_write.specs.Causes.{version_fault}
 use Rattle.mt_write.specs.declared.writing.Edit.{Edit}
 use Rattle.mt_write.specs.declared.writing.Edit.TheVariants.{Put as PutEdit, Remove as RemoveEdit}
 use Rattle.mt_write.specs.declared.writing.Stage.{Stage}
-use Rattle.mt_write.specs.declared.writing.Stage.TheVariants.{Seeks, Locked, Spared, HalfFilled, Halved, Posts, LayerSpared, LayerFilled, LayerReady, Layered, Reserved, KeyWritten, Filled, Made, Taken, Stored, Failed}
+use Rattle.mt_write.specs.declared.writing.Stage.TheVariants.{Seeks, Enters, Rightward, Searched, Spared, HalfFilled, Halved, Posts, LayerSpared, LayerFilled, LayerReady, Layered, Reserved, KeyWritten, Filled, Made, Taken, Stored, Failed}
 use Rattle.mt_write.specs.declared.writing.Halves.{Halves}
 use Rattle.mt_write.specs.declared.writing.Ending.{Ending}
 use Rattle.mt_write.specs.declared.writing.Ending.TheVariants.{Stored as EndStored, Failed as EndFailed}
@@ -202,6 +207,23 @@ pub record HasLink (prefix : List ℕ) (a : ArenaView) (w : World) (number : ℕ
 abbrev pub way_below : Way → NodeNo → Way
 way_below way head = record { node = head; layer = way.layer + 1 }
 
+-- and to the right
+abbrev pub way_right : Way → NodeNo → Way
+way_right way next = record { node = next; layer = way.layer }
+
+-- what a write does after it has read a field of the border that it has locked
+abbrev pub entered_stage : Entered → Stage
+entered_stage (EntersNext entering) = Enters entering
+entered_stage (EntersRight next) = Rightward next
+entered_stage (EntersBelow head) = Layered head
+entered_stage (EntersHere there) = Searched there
+
+-- the row that it has found
+abbrev pub there_row : There → Option Row
+there_row (AbsentThere place) = None
+there_row (RowThere place row) = Some row
+there_row (OtherThere place suffix row) = None
+
 -- the entry of a key with these columns, before its commit
 abbrev pub new_entry : List ℕ → Way → List (List ℕ) → Entry
 new_entry key way columns = entry_of_row (rest_of key way) (record { version = 0; columns = columns })
@@ -291,7 +313,12 @@ MayEnd key edit (EndFailed refusal) = FailsOtherwise key edit refusal
 
 abbrev pub StageIsTrue : ℕ → List ℕ → Edit → Way → Stage → ℕ → ArenaView → World → Type 0
 StageIsTrue C key edit way Seeks begun a w = IsOnWay begun key way w
-StageIsTrue C key edit way Locked begun a w = (b : BorderView) × IsLockedAt a key way b w
+StageIsTrue C key edit way (Enters entering) begun a w = (k : IsLockedBorder a w way.node.0) × IsOnWay begun key way w
+    × EnteringIsTrue (rest_of key way) entering k.b
+StageIsTrue C key edit way (Rightward next) begun a w = IsLockedBorder a w way.node.0
+    × IsOnWay begun key (way_right way next) w
+StageIsTrue C key edit way (Searched there) begun a w = (b : BorderView) × IsLockedAt a key way b w
+    × ThereIsTrue (rest_of key way) there b
 StageIsTrue C key edit way (Spared half cut entries) begun a w = (b : BorderView) × IsLockedAt a key way b w
     × (c : IsCutAt key way b cut) × IsSpare a w half.0 (empty_half b c.middle) × (entries ≡ drop cut b.live)
     × PutsNew edit

@@ -1,25 +1,31 @@
-//! What a run does at the border of its key: it locks the border, makes ready, commits and unlocks it, and stores no stage
-//! between.
+//! What a run does at the border of its key: it locks the border, reads it, makes ready, commits and unlocks it, and stores
+//! no stage between.
 
-ghost use Rattle.std.specs.Prelude.{◌≡◌, ℕ, ◌<◌, ◌≤◌, IfOk, IfErr, IsSomeAnd, None, true, false};
+ghost use Rattle.std.specs.Prelude.{◌≡◌, ℕ, ◌<◌, ◌≤◌, ◌+◌, length, IfOk, IfErr, IsSomeAnd, None, true};
+ghost use Rattle.std.specs.Option.{IfSome};
 ghost use Rattle.mt_border.specs.Border.{with_unlocked};
-ghost use Rattle.mt_border.specs.Order.{IsBorder};
 ghost use Rattle.mt_arena.specs.Node.{border_at};
 ghost use Rattle.mt_arena.specs.Arena.{IsArena, with_border_changed};
 ghost use Rattle.mt_tree.specs.Keeping.{KeepsTree};
-ghost use Rattle.mt_steps.specs.Way.{Finds, Visits};
-ghost use Rattle.mt_steps.specs.declared.way.Went.{Went};
+ghost use Rattle.mt_tree.specs.Descent.{visit_border};
+ghost use Rattle.mt_tree.specs.declared.visit.Visit.{Visit};
+ghost use Rattle.mt_steps.specs.Way.{Finds, rest_of};
 ghost use Rattle.mt_border.specs.declared.unwritten.Unwritten.TheVariants.{Nothing};
-ghost use Rattle.mt_write.specs.Runs.{Advances, ComesTo, HasRun, IsTrimmed, MayAct, MayRun, CommitsStage, state};
+ghost use Rattle.mt_steps.specs.declared.entering.There.{There};
+ghost use Rattle.mt_write.specs.Writing.{MayStage};
+ghost use Rattle.mt_write.specs.Follows.{WriteStep, FindsNone, MayLock};
+ghost use Rattle.mt_write.specs.Runs.{values_read, Advances, ComesTo, HasRun, IsTrimmed, MayAct, MayRun, CommitsStage, state};
 
 use crate::commit::{hide, overwrite, show};
 use crate::ending::written;
 use crate::inserting::write_slot;
+use crate::ready::{NewRow, other_version, prepare, prepare_remove};
 use crate::running::WriteRun;
-use crate::writing::{Insertion, Stage, Write};
-use mt_border::Found;
+use crate::writing::{Edit, Insertion, Stage, Write};
+use mt_border::{Border, Found};
 use mt_commit::log::Log;
 use mt_steps::progress::Progress;
+use mt_steps::way::rest_of;
 use mt_tree::Tree;
 use mt_types::event::Answer;
 use std::alloc::Global;
@@ -40,6 +46,19 @@ pub enum AtBorder {
     Commits(Committed),
     /// It has made this stage ready, and no commit.
     Ready(Stage),
+}
+
+// How many fields of its border a write reads that finds this there: the right link, the order, each key, and the value of
+// the slot that has its slice and class, if there is one.
+fn found_fields(border: &Border, found: Found) -> u64
+    ensures fields { result ≡ 2 + length border.now.live + values_read found }
+    ensures few { result ≤ 18 }
+{
+    let keys = border.len() as u64;
+    match found {
+        Found::Absent(_) => keys + 2,
+        Found::Row(_) | Found::OtherSuffix(_) | Found::Link(_, _) => keys + 3,
+    }
 }
 
 impl Write {
@@ -91,6 +110,42 @@ impl Write {
         }
     }
 
+    // At its border, which it has locked: makes ready with what was found there, and returns the next stage, or none if
+    // there is no row to remove.
+    fn ready_found(
+        &self,
+        alloc: Global,
+        columns: u8,
+        tree: &mut Tree,
+        log: &mut Log,
+        found: Found,
+    ) -> Option<Stage>
+        requires may { (there : There) × MayStage columns tree.old log.old self.now (Stage.Searched there) }
+        requires finds { Finds tree.old self.now.key self.now.way found }
+        ensures some { (there : There) → IfSome result (λ stage. WriteStep columns tree.old tree.new log.old log.new self.now
+            (Stage.Searched there) Progress.Moved (record self.now { stage = stage })) }
+        ensures none { (there : There) → result ≡ None
+            → FindsNone columns tree.old tree.new log.old log.new self.now there }
+    {
+        let _bytes = rest_of(&self.key, self.way.layer);
+        match &self.edit {
+            Edit::Put { sets, only } => {
+                let border = tree.border(self.way.node);
+                if let Some(refusal) = other_version(border, found, *only) {
+                    return Some(Stage::Failed(refusal, None));
+                }
+                let row = NewRow {
+                    columns,
+                    key: &self.key,
+                    sets,
+                    way: self.way,
+                };
+                Some(prepare(alloc, tree, log, &row, found))
+            }
+            Edit::Remove => prepare_remove(alloc, tree, log, self.way, &self.key, found),
+        }
+    }
+
     // At its border, which it has locked: makes ready with what was found there, and commits if that is next.
     fn act(
         &self,
@@ -100,15 +155,16 @@ impl Write {
         log: &mut Log,
         found: Found,
     ) -> AtBorder
-        requires { MayAct columns tree.old log.old self.now found }
-        ensures { ComesTo columns tree.old tree.new log.old log.new self.now result }
+        requires { (there : There) × MayAct columns tree.old log.old self.now found there }
+        ensures { (there : There) → MayAct columns tree.old log.old self.now found there
+            → ComesTo columns tree.old tree.new log.old log.new self.now there result }
     {
         match self.commit_unread(alloc, columns, tree, log, found) {
             Ok(Some(committed)) => return AtBorder::Commits(committed),
             Ok(None) => {}
             Err(refusal) => return AtBorder::Ready(Stage::Failed(refusal, None)),
         }
-        let Some(stage) = self.ready(alloc, columns, tree, log, found) else {
+        let Some(stage) = self.ready_found(alloc, columns, tree, log, found) else {
             return AtBorder::Absent;
         };
         let _arena = tree.free_numbers();
@@ -142,7 +198,7 @@ impl Write {
         }
     }
 
-    // At the border of its key, which is not locked: locks it, makes ready with what was found there, commits, and
+    // At the border of its key, which is not locked: locks it, reads it, makes ready with what was found there, commits, and
     // unlocks it. If it is to split the border or to make a layer, or has failed, it stops before that.
     pub(crate) fn finish(
         &mut self,
@@ -155,33 +211,34 @@ impl Write {
         requires may { MayRun columns (state tree.old log.old self.old) }
         requires trimmed { IsTrimmed log.old }
         requires idle { self.old.stage ≡ Stage.Seeks }
-        requires here { Visits tree.old self.old.key self.old.way Went.Here }
+        requires here { IsSomeAnd (border_at tree.old.nodes self.old.way.node.0)
+            (λ b. visit_border (rest_of self.old.key self.old.way) b ≡ Visit.Here) }
         requires finds { Finds tree.old self.old.key self.old.way found }
-        requires sound { IsSomeAnd (border_at tree.old.nodes self.old.way.node.0) IsBorder }
-        requires unlocked { IsSomeAnd (border_at tree.old.nodes self.old.way.node.0) (λ b. b.version.locked ≡ false) }
+        requires lock { MayLock tree.old self.old.way.node.0 }
         ensures runs { HasRun columns (state tree.old log.old self.old) result (state tree.new log.new self.new) }
         ensures some { 0 < result.steps }
-        ensures most { result.steps ≤ 6 }
+        ensures most { result.steps ≤ 24 }
         ensures next { Advances result.last → MayRun columns (state tree.new log.new self.new) }
         ensures trimmed { IsTrimmed log.new }
     {
         let _before = tree.free_numbers();
         let _trimmed = log.number();
+        let fields = found_fields(tree.border(self.way.node), found);
         tree.lock_border(self.way.node);
         let _locked = tree.free_numbers();
         let came_to = self.act(alloc, columns, tree, log, found);
         let _acted = tree.free_numbers();
         let _sound = log.number();
         match came_to {
-            AtBorder::Absent => self.unlock(tree, 2, 0, Answer::Absent),
+            AtBorder::Absent => self.unlock(tree, fields + 2, 0, Answer::Absent),
             AtBorder::Commits(committed) => {
                 let answer = written(&self.edit, committed.commit);
-                self.unlock(tree, committed.steps + 2, 1, answer)
+                self.unlock(tree, fields + committed.steps + 2, 1, answer)
             }
             AtBorder::Ready(stage) => {
                 self.turn_to(stage);
                 WriteRun {
-                    steps: 2,
+                    steps: fields + 2,
                     commits: 0,
                     last: Progress::Moved,
                 }

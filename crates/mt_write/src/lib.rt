@@ -7,6 +7,8 @@ mod ending;
 mod finishing;
 mod inserting;
 mod layering;
+mod passing;
+mod reading;
 mod ready;
 pub mod running;
 mod splitting;

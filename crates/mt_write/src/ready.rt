@@ -1,6 +1,6 @@
 //! Making ready at the border that a put or remove has locked: the new row, the columns of the row, or the row's copy.
 
-ghost use Rattle.std.specs.Prelude.{◌≡◌, ℕ, List, ◌≤◌, ◌<◌, ◌-◌, ◌*◌, length, MatchOption, MatchResult, Err, IfOk, IfErr, IsSome, IsSomeAnd, Some, None, true};
+ghost use Rattle.std.specs.Prelude.{◌≡◌, ℕ, List, ◌≤◌, ◌<◌, ◌-◌, ◌*◌, length, Option, MatchOption, MatchResult, Err, IfOk, IfErr, IsSome, IsSomeAnd, Some, None, true};
 ghost use Rattle.mt_border.specs.Border.{row_at};
 ghost use Rattle.mt_commit.specs.Log.{IsLog, reserve_fault};
 ghost use Rattle.mt_types.specs.declared.event.Request.TheVariants.{Put as PutRequest, Remove as RemoveRequest};
@@ -11,6 +11,8 @@ ghost use Rattle.mt_border.specs.Order.{IsBorder};
 ghost use Rattle.mt_tree.specs.Descent.{IsFoundAt, IsLast, found_for, row_found};
 ghost use Rattle.mt_steps.specs.Way.{Finds, rest_of};
 ghost use Rattle.mt_steps.specs.Step.{MayFail, columns_after};
+ghost use Rattle.mt_types.specs.Rows.{version_of};
+ghost use Rattle.mt_types.specs.declared.row.Row.{Row as RowView};
 ghost use Rattle.mt_write.specs.Causes.{version_fault, put_fault, remove_fault, ReadyFor, FailsBy, RemoveFailsBy};
 ghost use Rattle.mt_write.specs.Ready.{with_room, Prepares, PreparesRemove};
 
@@ -39,20 +41,50 @@ pub struct NewRow<'a> {
     pub way: Way,
 }
 
-// Why a put is refused that asks for a version, by what was found at the border that its call has locked: the row is of
-// another one.
+// Why a put is refused that asks for a version: the row of its key is of another one. The version is 0 if it has no row.
+pub fn refused_version(version: u64, only: Option<u64>) -> Option<Refusal>
+    ensures { (row : Option RowView) → version ≡ version_of row → result ≡ version_fault only row }
+{
+    let only = only?;
+    (version != only).then_some(Refusal::OtherVersion(version))
+}
+
+// The same, by what was found at the border that its call has locked.
 pub fn other_version(border: &Border, found: Found, only: Option<u64>) -> Option<Refusal>
     requires { (rest : List ℕ) × IsFoundAt rest border.now.live found }
     ensures fault { result ≡ version_fault only (row_found border.now.live found) }
     ensures sound { IsBorder border.now }
 {
     let _sound = border.len();
-    let only = only?;
     let version = match found {
         Found::Row(place) => row_at(border, place).version,
         Found::Absent(_) | Found::OtherSuffix(_) | Found::Link(_, _) => 0,
     };
-    (version != only).then_some(Refusal::OtherVersion(version))
+    refused_version(version, only)
+}
+
+// Reserves room in the log, and makes the columns that a row is to have.
+fn make_columns_of(
+    alloc: Global,
+    log: &mut Log,
+    row: &NewRow<'_>,
+    old: &Row,
+) -> Result<Columns, Refusal>
+    ensures ready { MatchResult result
+        (λ made. (made ≡ columns_after row.now.columns row.now.sets.now (Some old.now)) × (log.new ≡ with_room log.old))
+        (λ refusal. MayFail log.old (PutRequest row.now.key.now row.now.sets.now) refusal × (log.new ≡ log.old)) }
+    ensures fault { MatchOption (reserve_fault log.old) (IfErr result (λ refusal. refusal ≡ Refusal.NoMemory))
+        (λ fault. result ≡ Err fault) }
+    ensures sound { IsLog log.new }
+{
+    log.reserve()?;
+    match made_columns(alloc, row.columns, Some(old), row.sets) {
+        Ok(made) => Ok(made),
+        Err(_) => {
+            log.unreserve();
+            Err(Refusal::NoMemory)
+        }
+    }
 }
 
 // Reserves room in the log, and makes the columns that the row at a place is to have.
@@ -73,14 +105,7 @@ pub fn make_columns(
         (λ fault. result ≡ Err fault) }
     ensures sound { IsLog log.new }
 {
-    log.reserve()?;
-    match made_columns(alloc, row.columns, Some(row_at(border, place)), row.sets) {
-        Ok(made) => Ok(made),
-        Err(_) => {
-            log.unreserve();
-            Err(Refusal::NoMemory)
-        }
-    }
+    make_columns_of(alloc, log, row, row_at(border, place))
 }
 
 // The key and the columns once more, for the log.
@@ -90,7 +115,42 @@ pub fn copy_for_log(alloc: Global, key: &Key, columns: &Columns) -> Result<(Key,
     Ok((key.copy(alloc)?, columns.copy(alloc)?))
 }
 
-// Reserves room in the log, and makes the columns that the row at a place is to have.
+// Reserves room in the log, and makes the columns that the row at a place, which is this, is to have.
+fn make_over(
+    alloc: Global,
+    tree: &Tree,
+    log: &mut Log,
+    row: &NewRow<'_>,
+    place: usize,
+    old: &Row,
+) -> Result<Stage, Refusal>
+    requires within { 8 * row.now.way.layer ≤ length row.now.key.now - 1 }
+    requires there { IsSomeAnd (border_at tree.now.nodes row.now.way.node.0) (λ b.
+        (found_for (rest_of row.now.key.now row.now.way) b.live ≡ RowFound place) × (row_at place b.live ≡ Some old.now)) }
+    ensures ready { MatchResult result
+        (λ stage. Prepares row.now.columns row.now.key.now row.now.sets.now row.now.way tree.now log.old None stage tree.now log.new)
+        (λ refusal. MayFail log.old (PutRequest row.now.key.now row.now.sets.now) refusal × (log.new ≡ log.old)) }
+    ensures fault { ReadyFor (reserve_fault log.old) result }
+{
+    let border = tree.border(row.way.node);
+    let _sound = border.len();
+    let _bytes = rest_of(row.key, row.way.layer);
+    let columns = make_columns_of(alloc, log, row, old)?;
+    match copy_for_log(alloc, row.key, &columns) {
+        Ok((key, logged)) => Ok(Stage::Made {
+            place,
+            key,
+            columns,
+            logged,
+        }),
+        Err(_) => {
+            log.unreserve();
+            Err(Refusal::NoMemory)
+        }
+    }
+}
+
+// The same of the row that is there.
 fn make(
     alloc: Global,
     tree: &Tree,
@@ -106,21 +166,30 @@ fn make(
         (λ refusal. MayFail log.old (PutRequest row.now.key.now row.now.sets.now) refusal × (log.new ≡ log.old)) }
     ensures fault { ReadyFor (reserve_fault log.old) result }
 {
-    let border = tree.border(row.way.node);
-    let _sound = border.len();
-    let _bytes = rest_of(row.key, row.way.layer);
-    let columns = make_columns(alloc, log, row, border, place)?;
-    match copy_for_log(alloc, row.key, &columns) {
-        Ok((key, logged)) => Ok(Stage::Made {
-            place,
-            key,
-            columns,
-            logged,
-        }),
-        Err(_) => {
-            log.unreserve();
-            Err(Refusal::NoMemory)
-        }
+    let old = row_at(tree.border(row.way.node), place);
+    make_over(alloc, tree, log, row, place, old)
+}
+
+// Makes a put ready that writes over the row at a place, or it fails.
+pub fn prepare_over(
+    alloc: Global,
+    tree: &Tree,
+    log: &mut Log,
+    row: &NewRow<'_>,
+    place: usize,
+    old: &Row,
+) -> Stage
+    requires within { 8 * row.now.way.layer ≤ length row.now.key.now - 1 }
+    requires there { IsSomeAnd (border_at tree.now.nodes row.now.way.node.0) (λ b.
+        (found_for (rest_of row.now.key.now row.now.way) b.live ≡ RowFound place) × (row_at place b.live ≡ Some old.now)) }
+    ensures ready { Prepares row.now.columns row.now.key.now row.now.sets.now row.now.way tree.now log.old None result tree.now
+        log.new }
+    ensures fault { IsSomeAnd (border_at tree.now.nodes row.now.way.node.0)
+        (λ b. FailsBy (put_fault tree.now log.old b (found_for (rest_of row.now.key.now row.now.way) b.live)) None result) }
+{
+    match make_over(alloc, tree, log, row, place, old) {
+        Ok(stage) => stage,
+        Err(refusal) => Stage::Failed(refusal, None),
     }
 }
 
@@ -164,13 +233,11 @@ pub fn prepare(
     }
 }
 
-// A copy of the row at a place, and of the key.
-fn copy_row(alloc: Global, border: &Border, place: usize, key: &Key) -> Result<(Key, Row), NoMemory>
-    requires within { place < length border.now.live }
-    requires row { IsSome (row_at place border.now.live) }
-    ensures { IfOk result (λ made. (made.0 ≡ key.now) × (row_at place border.now.live ≡ Some made.1)) }
+// A copy of a row, and of its key.
+fn copy_row(alloc: Global, old: &Row, key: &Key) -> Result<(Key, Row), NoMemory>
+    ensures { IfOk result (λ made. (made.0 ≡ key.now) × (made.1 ≡ old.now)) }
 {
-    let before = row_at(border, place).copy(alloc)?;
+    let before = old.copy(alloc)?;
     Ok((key.copy(alloc)?, before))
 }
 
@@ -182,10 +249,11 @@ fn take(
     way: Way,
     place: usize,
     key: &Key,
+    old: &Row,
 ) -> Result<Stage, Refusal>
     requires within { 8 * way.layer ≤ length key.now - 1 }
     requires there { IsSomeAnd (border_at tree.now.nodes way.node.0)
-        (λ b. found_for (rest_of key.now way) b.live ≡ RowFound place) }
+        (λ b. (found_for (rest_of key.now way) b.live ≡ RowFound place) × (row_at place b.live ≡ Some old.now)) }
     ensures ready { MatchResult result (λ stage. PreparesRemove key.now way tree.now log.old (Some stage) log.new)
         (λ refusal. MayFail log.old (RemoveRequest key.now) refusal × (log.new ≡ log.old)) }
     ensures fault { ReadyFor (reserve_fault log.old) result }
@@ -194,12 +262,35 @@ fn take(
     let _sound = border.len();
     let _bytes = rest_of(key, way.layer);
     log.reserve()?;
-    match copy_row(alloc, border, place, key) {
+    match copy_row(alloc, old, key) {
         Ok((key, before)) => Ok(Stage::Taken { place, key, before }),
         Err(_) => {
             log.unreserve();
             Err(Refusal::NoMemory)
         }
+    }
+}
+
+// Makes a remove of the row at a place ready, or it fails.
+pub fn take_row(
+    alloc: Global,
+    tree: &Tree,
+    log: &mut Log,
+    way: Way,
+    place: usize,
+    key: &Key,
+    old: &Row,
+) -> Stage
+    requires within { 8 * way.layer ≤ length key.now - 1 }
+    requires there { IsSomeAnd (border_at tree.now.nodes way.node.0)
+        (λ b. (found_for (rest_of key.now way) b.live ≡ RowFound place) × (row_at place b.live ≡ Some old.now)) }
+    ensures ready { PreparesRemove key.now way tree.now log.old (Some result) log.new }
+    ensures fault { IsSomeAnd (border_at tree.now.nodes way.node.0)
+        (λ b. FailsBy (remove_fault log.old (found_for (rest_of key.now way) b.live)) None result) }
+{
+    match take(alloc, tree, log, way, place, key, old) {
+        Ok(stage) => stage,
+        Err(refusal) => Stage::Failed(refusal, None),
     }
 }
 
@@ -222,10 +313,10 @@ pub fn prepare_remove(
     let _sound = tree.border(way.node).len();
     let _bytes = rest_of(key, way.layer);
     match found {
-        Found::Row(place) => match take(alloc, tree, log, way, place, key) {
-            Ok(stage) => Some(stage),
-            Err(refusal) => Some(Stage::Failed(refusal, None)),
-        },
+        Found::Row(place) => {
+            let old = row_at(tree.border(way.node), place);
+            Some(take_row(alloc, tree, log, way, place, key, old))
+        }
         Found::Absent(_) | Found::OtherSuffix(_) | Found::Link(_, _) => None,
     }
 }

@@ -7,7 +7,8 @@ ghost use Rattle.mt_write.specs.Runs.{Advances, HasRun, IsTrimmed, MayRun, commi
 use crate::writing::Write;
 use mt_commit::log::Log;
 use mt_steps::progress::Progress;
-use mt_tree::Tree;
+use mt_steps::way::rest_of;
+use mt_tree::{Tree, arrive};
 use std::alloc::Global;
 
 /// What a run of a put or remove came to.
@@ -21,9 +22,9 @@ pub struct WriteRun {
     pub last: Progress,
 }
 
-// How many steps a put or remove makes at most at the border of its key, if it need not split it or make a layer: it
-// locks the border, makes ready, writes the key and the row of a new key, commits and unlocks.
-const STEPS_AT_BORDER: u64 = 6;
+// How many steps a put or remove makes at most at a border, if it need not split it or make a layer: it locks the border,
+// reads at most eighteen fields of it, makes ready, writes the key and the row of a new key, commits and unlocks.
+const STEPS_AT_BORDER: u64 = 24;
 
 // Returns whether the call continues after a step, and has not waited.
 fn advances(progress: &Progress) -> bool
@@ -58,7 +59,7 @@ fn one_step(last: Progress) -> WriteRun
 }
 
 impl Write {
-    // Makes one step. At the border of its key, if six are left, it makes all from the lock to the unlock.
+    // Makes one step. At a border, if twenty-four are left, it makes all from the lock to the unlock.
     fn advance(
         &mut self,
         alloc: Global,
@@ -88,17 +89,20 @@ impl Write {
                 last,
             };
         }
-        match self.way.arrive(tree, &self.key) {
-            Ok(_) if tree.border(self.way.node).version().is_locked() => one_step(Progress::Waits),
+        if let Some(last) = self.visit(tree) {
+            return one_step(last);
+        }
+        let border = tree.border(self.way.node);
+        match arrive(border, rest_of(&self.key, self.way.layer)) {
             Ok(found) => self.finish(alloc, columns, tree, log, found),
-            Err(went) => one_step(self.follow(went)),
+            Err(visit) => self.pass(tree, visit),
         }
     }
 
     /// Makes steps, one after the other, until one of them ends the call or waits, or `most` are made. At least one is
     /// made, also if `most` is 0. After each the log is trimmed.
     ///
-    /// Costs what the steps cost. The border of the key is searched once, if six steps are left when it is reached.
+    /// Costs what the steps cost. A border is searched once, if twenty-four steps are left when it is reached.
     pub fn run(
         &mut self,
         alloc: Global,

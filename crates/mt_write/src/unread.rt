@@ -3,6 +3,7 @@
 
 ghost use Rattle.std.specs.Prelude.{ℕ};
 ghost use Rattle.mt_commit.specs.Log.{IsUnread};
+ghost use Rattle.mt_steps.specs.declared.entering.There.{There};
 ghost use Rattle.mt_write.specs.Runs.{CommitsUnread, MayAct};
 
 use crate::finishing::Committed;
@@ -25,10 +26,10 @@ impl Write {
         log: &mut Log,
         found: Found,
     ) -> Result<Option<Committed>, Refusal>
-        requires may { (C : ℕ) × MayAct C tree.old log.old self.now found }
+        requires may { (C : ℕ) × (there : There) × MayAct C tree.old log.old self.now found there }
         requires unread { IsUnread log.old }
-        ensures { (C : ℕ) → MayAct C tree.old log.old self.now found
-            → CommitsUnread C tree.old tree.new log.old log.new self.now result }
+        ensures { (C : ℕ) (there : There) → MayAct C tree.old log.old self.now found there
+            → CommitsUnread C tree.old tree.new log.old log.new self.now there result }
     {
         let _bytes = rest_of(&self.key, self.way.layer);
         let (Edit::Remove, Found::Row(place)) = (&self.edit, found) else {
@@ -56,8 +57,9 @@ impl Write {
         log: &mut Log,
         found: Found,
     ) -> Result<Option<Committed>, Refusal>
-        requires { MayAct columns tree.old log.old self.now found }
-        ensures { CommitsUnread columns tree.old tree.new log.old log.new self.now result }
+        requires { (there : There) × MayAct columns tree.old log.old self.now found there }
+        ensures { (there : There) → MayAct columns tree.old log.old self.now found there
+            → CommitsUnread columns tree.old tree.new log.old log.new self.now there result }
     {
         let _bytes = rest_of(&self.key, self.way.layer);
         if !log.is_unread() {

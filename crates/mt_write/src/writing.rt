@@ -1,24 +1,24 @@
-//! A put or a remove: it goes to its key's border, locks it, makes ready there, commits, and unlocks it.
+//! A put or a remove: it goes to its key's border, locks and reads it, makes ready there, commits, and unlocks it.
 
 ghost use Rattle.std.specs.Prelude.{◌≡◌, ◌≢◌, ◌⊎◌, ◌↔◌, None, IsTrue};
 ghost use Rattle.std.specs.Option.{IfSome};
 ghost use Rattle.mt_steps.specs.Step.{StepLaw, MayStep};
-ghost use Rattle.mt_steps.specs.Way.{Finds, start};
+ghost use Rattle.mt_steps.specs.Way.{start};
 ghost use Rattle.mt_steps.specs.declared.way.Way.{Way as WayView};
 ghost use Rattle.mt_write.specs.Held.{write_request, write_held};
-ghost use Rattle.mt_write.specs.Writing.{WriteIsTrue, MayStage};
+ghost use Rattle.mt_write.specs.Writing.{WriteIsTrue};
 ghost use Rattle.mt_write.specs.Causes.{WriteWaits, WriteFails};
 ghost use Rattle.mt_write.specs.Runs.{commits_in};
-ghost use Rattle.mt_write.specs.Follows.{WriteStep, TreeStep, MayBeAt, WriteFollows, HeadFollows, PostsFollow, FindsNone};
+ghost use Rattle.mt_write.specs.Follows.{WriteStep, TreeStep, MayBeAt, MayLock, WriteFollows, HeadFollows, PostsFollow};
 
-use crate::ready::{NewRow, other_version, prepare, prepare_remove};
-use mt_border::{Entry, Found, SlotKey};
+use mt_arena::Node;
+use mt_border::{Entry, SlotKey};
 use mt_commit::log::Log;
 use mt_post::Posting;
+use mt_steps::entering::{Entering, There};
 use mt_steps::progress::Progress;
-use mt_steps::way::{START, Way, Went, rest_of};
+use mt_steps::way::{START, Way, Went};
 use mt_tree::Tree;
-use mt_types::event::Answer;
 use mt_types::items::Items;
 use mt_types::key::Key;
 use mt_types::numbers::NodeNo;
@@ -75,8 +75,12 @@ pub enum Ending {
 pub enum Stage {
     /// It is on its way.
     Seeks,
-    /// It has locked its key's border.
-    Locked,
+    /// It has locked a border on its way, and reads it, one field a step.
+    Enters(Entering),
+    /// The slice of its key is in this border, to the right of the one that it has locked, or beyond.
+    Rightward(NodeNo),
+    /// It has read its key's border, and has found this there.
+    Searched(There),
     /// The border is full. A border is spared for its upper half, whose entries are copied.
     Spared {
         half: NodeNo,
@@ -174,23 +178,40 @@ impl Write {
         matches!(self.stage, Stage::Seeks)
     }
 
-    // On its way to the border, and its lock there.
+    // Visits the node at which it is, unless that is a border that it may lock. At a border it looks at the version alone.
+    pub(crate) fn visit(&mut self, tree: &Tree) -> Option<Progress>
+        requires may { MayBeAt tree.now self.old Stage.Seeks }
+        requires idle { self.old.stage ≡ Stage.Seeks }
+        ensures visits { IfSome result (λ progress. TreeStep tree.now tree.now self.old Stage.Seeks progress self.new) }
+        ensures quiet { IfSome result (λ progress. commits_in progress ≡ 0) }
+        ensures at { result ≡ None → MayLock tree.now self.old.way.node.0 × (self.new ≡ self.old) }
+    {
+        let Node::Border(border) = tree.node(self.way.node) else {
+            let went = self.way.visit(tree, &self.key);
+            return Some(self.follow(went));
+        };
+        let version = border.version();
+        if version.deleted() {
+            return Some(self.follow(Went::Again));
+        }
+        if version.is_locked() {
+            return Some(Progress::Waits);
+        }
+        None
+    }
+
+    // On its way: visits a head or an interior node, or locks a border, whether its key is there or not.
     fn seek(&mut self, tree: &mut Tree) -> Progress
         requires may { MayBeAt tree.old self.old Stage.Seeks }
         requires idle { self.old.stage ≡ Stage.Seeks }
         ensures { TreeStep tree.old tree.new self.old Stage.Seeks result self.new }
     {
-        match self.way.arrive(tree, &self.key) {
-            Ok(_) => {
-                if tree.border(self.way.node).version().is_locked() {
-                    return Progress::Waits;
-                }
-                tree.lock_border(self.way.node);
-                self.turn_to(Stage::Locked);
-                Progress::Moved
-            }
-            Err(went) => self.follow(went),
+        if let Some(progress) = self.visit(tree) {
+            return progress;
         }
+        tree.lock_border(self.way.node);
+        self.turn_to(Stage::Enters(Entering::Locked));
+        Progress::Moved
     }
 
     // Continues where a visit on its way leads.
@@ -219,55 +240,6 @@ impl Write {
         }
     }
 
-    // At its border, which it has locked: makes ready with what was found there, and returns the next stage, or none if
-    // there is no row to remove.
-    pub(crate) fn ready(
-        &self,
-        alloc: Global,
-        columns: u8,
-        tree: &mut Tree,
-        log: &mut Log,
-        found: Found,
-    ) -> Option<Stage>
-        requires may { MayStage columns tree.old log.old self.now Stage.Locked }
-        requires finds { Finds tree.old self.now.key self.now.way found }
-        ensures some { IfSome result (λ stage. WriteStep columns tree.old tree.new log.old log.new self.now Stage.Locked
-            Progress.Moved (record self.now { stage = stage })) }
-        ensures none { result ≡ None → FindsNone columns tree.old tree.new log.old log.new self.now }
-    {
-        let _bytes = rest_of(&self.key, self.way.layer);
-        match &self.edit {
-            Edit::Put { sets, only } => {
-                let border = tree.border(self.way.node);
-                if let Some(refusal) = other_version(border, found, *only) {
-                    return Some(Stage::Failed(refusal, None));
-                }
-                let row = NewRow {
-                    columns,
-                    key: &self.key,
-                    sets,
-                    way: self.way,
-                };
-                Some(prepare(alloc, tree, log, &row, found))
-            }
-            Edit::Remove => prepare_remove(alloc, tree, log, self.way, &self.key, found),
-        }
-    }
-
-    // At its border, which it has locked: makes ready, or ends if there is no row to remove.
-    fn make_ready(&mut self, alloc: Global, columns: u8, tree: &mut Tree, log: &mut Log) -> Progress
-        requires { MayStage columns tree.old log.old self.old Stage.Locked }
-        ensures { WriteStep columns tree.old tree.new log.old log.new self.old Stage.Locked result self.new }
-    {
-        let found = tree.find(self.way.node, rest_of(&self.key, self.way.layer));
-        let Some(stage) = self.ready(alloc, columns, tree, log, found) else {
-            tree.unlock_border(self.way.node);
-            return Progress::Answered(Answer::Absent);
-        };
-        self.turn_to(stage);
-        Progress::Moved
-    }
-
     // At each stage, which it takes out of the write: the stage's function puts the next one in.
     pub(crate) fn go(
         &mut self,
@@ -285,7 +257,9 @@ impl Write {
         }
         match mem::replace(&mut self.stage, Stage::Seeks) {
             Stage::Seeks => self.seek(tree),
-            Stage::Locked => self.make_ready(alloc, columns, tree, log),
+            Stage::Enters(entering) => self.enter(alloc, tree, entering),
+            Stage::Rightward(next) => self.go_right(tree, next),
+            Stage::Searched(there) => self.make_ready(alloc, columns, tree, log, there),
             Stage::Spared { half, cut, entries } => self.fill_spared(tree, half, cut, entries),
             Stage::HalfFilled { half, cut } => self.link(tree, half, cut),
             Stage::Halved(split) => self.reserve_in_half(alloc, columns, tree, log, split),

@@ -15,10 +15,22 @@ pub returns-in-Seeks : goal.returns-in-Seeks
 returns-in-Seeks c = at_step c.args.columns c.args.tree.now c.seek-in-Seeks.new.tree c.args.log.now c.args.log.now c.args.self.now c.replace.new.dest _ c.seek-in-Seeks.result c.seek-in-Seeks.new.self (sym c.replace.ensures.value ∙ c.in-Seeks.is) (c.seek-in-Seeks.ensures c.args.columns c.args.log.now)
 
 pub make_ready-requires : goal.make_ready-requires
-make_ready-requires c = may_be c.args.columns c.args.tree.now c.args.log.now c.args.self.now c.replace.new.dest _ (sym c.replace.ensures.value ∙ c.in-Locked.is) c.requires
+make_ready-requires c = may_be c.args.columns c.args.tree.now c.args.log.now c.args.self.now c.replace.new.dest _ (sym c.replace.ensures.value ∙ c.in-Searched.is) c.requires
 
-pub returns-in-Locked : goal.returns-in-Locked
-returns-in-Locked c = at_step c.args.columns c.args.tree.now c.make_ready.new.tree c.args.log.now c.make_ready.new.log c.args.self.now c.replace.new.dest _ c.make_ready.result c.make_ready.new.self (sym c.replace.ensures.value ∙ c.in-Locked.is) c.make_ready.ensures
+pub returns-in-Searched : goal.returns-in-Searched
+returns-in-Searched c = at_step c.args.columns c.args.tree.now c.make_ready.new.tree c.args.log.now c.make_ready.new.log c.args.self.now c.replace.new.dest _ c.make_ready.result c.make_ready.new.self (sym c.replace.ensures.value ∙ c.in-Searched.is) c.make_ready.ensures
+
+pub enter-requires : goal.enter-requires
+enter-requires c = (c.args.columns, c.args.log.now, may_be c.args.columns c.args.tree.now c.args.log.now c.args.self.now c.replace.new.dest _ (sym c.replace.ensures.value ∙ c.in-Enters.is) c.requires)
+
+pub returns-in-Enters : goal.returns-in-Enters
+returns-in-Enters c = at_step c.args.columns c.args.tree.now c.args.tree.now c.args.log.now c.args.log.now c.args.self.now c.replace.new.dest _ c.enter.result c.enter.new.self (sym c.replace.ensures.value ∙ c.in-Enters.is) (c.enter.ensures c.args.columns c.args.log.now)
+
+pub go_right-requires : goal.go_right-requires
+go_right-requires c = (c.args.columns, c.args.log.now, may_be c.args.columns c.args.tree.now c.args.log.now c.args.self.now c.replace.new.dest _ (sym c.replace.ensures.value ∙ c.in-Rightward.is) c.requires)
+
+pub returns-in-Rightward : goal.returns-in-Rightward
+returns-in-Rightward c = at_step c.args.columns c.args.tree.now c.go_right.new.tree c.args.log.now c.args.log.now c.args.self.now c.replace.new.dest _ c.go_right.result c.go_right.new.self (sym c.replace.ensures.value ∙ c.in-Rightward.is) (c.go_right.ensures c.args.columns c.args.log.now)
 
 pub fill_spared-requires : goal.fill_spared-requires
 fill_spared-requires c = (c.args.columns, c.args.log.now, may_be c.args.columns c.args.tree.now c.args.log.now c.args.self.now c.replace.new.dest _ (sym c.replace.ensures.value ∙ c.in-Spared.is) c.requires)

@@ -10,13 +10,13 @@ use Rattle.mt_write.proofs.writing.Write.make_ready.Goals as goal
 
 pub unlock_border-requires-clause-locked : goal.unlock_border-requires-clause-locked
 unlock_border-requires-clause-locked c =
-    let (b, at) = c.requires.true.0 in
+    let (b, at, told) = c.requires.true.0 in
     subst (λ (x : ArenaView). IsSomeAnd (border_at x.nodes c.args.self.now.way.node.0) (λ b. b.version.locked ≡ true)) (sym (c.ready.ensures.none c.in_default.is).0)
     (subst (λ (o : Option BorderView). IsSomeAnd o (λ b. b.version.locked ≡ true)) (sym at.named) at.locked)
 
 pub unlock_border-requires-clause-written : goal.unlock_border-requires-clause-written
 unlock_border-requires-clause-written c =
-    let (b, at) = c.requires.true.0 in
+    let (b, at, told) = c.requires.true.0 in
     subst (λ (x : ArenaView). IsSomeAnd (border_at x.nodes c.args.self.now.way.node.0) (λ b. b.unwritten ≡ Nothing)) (sym (c.ready.ensures.none c.in_default.is).0)
     (subst (λ (o : Option BorderView). IsSomeAnd o (λ b. b.unwritten ≡ Nothing)) (sym at.named) at.written)
 
