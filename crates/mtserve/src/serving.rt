@@ -20,7 +20,7 @@ use std::{io, thread};
 use thiserror::Error;
 
 // How many events of one call a worker makes at most while it holds the lock.
-const EVENTS: u32 = 64;
+const EVENTS: u32 = 128;
 
 /// Why there is nothing to serve, or no end of it.
 #[derive(Debug, Error, Drop)]

@@ -22,7 +22,7 @@ use std::thread::Threads;
 const KEYS: u64 = 10;
 
 // How many events of a call are made at most while the index's lock is held once.
-const MOST_EVENTS: u32 = 64;
+const MOST_EVENTS: u32 = 128;
 
 // A caller of the index: a pass, with a door of its own.
 type Guest<'a, R> = Caller<ThroughDoor<'a, R>>;
