@@ -5,6 +5,8 @@ step 1
 step 1
 step 1
 step 1
+step 1
+step 1
 step 2
 step 2
 step 2

@@ -17,6 +17,11 @@ begin 2 put 02 0=03
 step 6
 step 6
 step 6
+step 6
+step 6
+step 6
+step 6
+step 6
 step 7
 step 7
 step 7

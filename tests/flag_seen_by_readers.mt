@@ -7,6 +7,8 @@ begin 2 put 62 0=02
 step 4
 step 4
 step 4
+step 4
+step 4
 begin 3 get 62 all
 step 5
 step 5
@@ -77,6 +79,23 @@ begin 1 get 01 all
 step 22
 step 22
 begin 2 put 10 0=10
+step 23
+step 23
+step 23
+step 23
+step 23
+step 23
+step 23
+step 23
+step 23
+step 23
+step 23
+step 23
+step 23
+step 23
+step 23
+step 23
+step 23
 step 23
 step 23
 step 23

@@ -16,6 +16,13 @@ step 3
 step 3
 step 3
 step 3
+step 3
+step 3
+step 3
+step 3
+step 3
+step 3
+step 3
 step 2
 step 2
 step 2

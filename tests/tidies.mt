@@ -22,6 +22,10 @@ step 7
 step 3
 step 6
 step 4
+step 4
+step 4
+step 4
+step 4
 step 5
 finish 4
 begin 1 put 0000000000000008 0=91ff
@@ -49,6 +53,19 @@ finish 7
 finish 14
 begin 2 put 000000000000000e 0=b0b4eb
 begin 3 put 000000000000000f 0=4269da
+step 10
+step 10
+step 10
+step 10
+step 10
+step 10
+step 10
+step 10
+step 10
+step 10
+step 10
+step 10
+step 10
 step 10
 step 10
 step 16
@@ -192,6 +209,8 @@ begin 2 put 000000000000003f 0=332f
 step 58
 finish 67
 step 59
+step 59
+step 59
 begin 3 put 0000000000000040 0=-
 finish 69
 begin 3 put 0000000000000041 0=-
@@ -206,6 +225,20 @@ step 66
 step 64
 step 68
 step 66
+step 59
+step 59
+step 59
+step 59
+step 59
+step 59
+step 59
+step 59
+step 59
+step 59
+step 59
+step 59
+step 59
+step 59
 step 59
 step 59
 step 59
@@ -233,12 +266,25 @@ finish 58
 finish 70
 feed 48 3
 step 66
+step 66
+step 66
 begin 1 put 0000000000000045 0=585b4c48
 step 66
 feed 58 3
 begin 2 put 0000000000000046 0=-
 begin 2 put 0000000000000047 0=48
 step 76
+step 66
+step 66
+step 66
+step 66
+step 66
+step 66
+step 66
+step 66
+step 66
+step 66
+step 66
 step 66
 step 66
 step 66
@@ -251,10 +297,24 @@ step 66
 begin 3 put 0000000000000048 0=695b99dd
 step 76
 step 64
+step 64
+step 64
 step 77
 step 75
 step 77
 step 75
+step 76
+step 76
+step 76
+step 76
+step 76
+step 76
+step 76
+step 76
+step 76
+step 76
+step 76
+step 76
 step 76
 step 76
 step 76
@@ -283,6 +343,21 @@ step 80
 step 64
 step 64
 step 64
+step 64
+step 64
+step 64
+step 64
+step 64
+step 64
+step 64
+step 64
+step 64
+step 64
+step 64
+step 64
+step 64
+step 64
+step 64
 step 75
 step 77
 step 64
@@ -298,6 +373,23 @@ step 77
 step 81
 step 75
 step 82
+step 77
+step 77
+step 77
+step 77
+step 77
+step 77
+step 77
+step 77
+step 77
+step 77
+step 77
+step 77
+step 77
+step 77
+step 77
+step 77
+step 77
 step 77
 step 81
 step 81
@@ -315,6 +407,8 @@ begin 1 put 000000000000004e 0=cd582d77
 finish 82
 begin 3 put 000000000000004f 0=a2
 step 80
+step 80
+step 80
 finish 84
 finish 80
 feed 20 1
@@ -322,7 +416,13 @@ collect
 begin 3 put 0000000000000050 0=a0
 begin 1 put 0000000000000051 0=d3
 step 74
+step 74
+step 74
 step 75
+step 75
+step 75
+step 81
+step 81
 step 81
 finish 75
 finish 86
@@ -343,16 +443,29 @@ step 88
 step 74
 step 74
 step 74
+step 74
+step 74
+step 74
+step 74
+step 74
+step 74
+step 74
+step 74
+step 74
+step 74
 step 81
 step 89
 step 88
 step 90
 step 91
+step 91
+step 74
+step 91
+step 74
 step 81
-step 91
-step 74
-step 91
-step 74
+step 81
+step 81
+step 81
 begin 2 put 0000000000000057 0=1afdc9b2
 step 90
 feed 10 10
@@ -360,6 +473,16 @@ step 89
 step 92
 step 89
 step 89
+step 88
+step 88
+step 88
+step 88
+step 88
+step 88
+step 88
+step 88
+step 88
+step 88
 step 88
 step 92
 finish 88
@@ -373,6 +496,18 @@ step 92
 step 92
 step 94
 step 93
+step 91
+step 91
+step 91
+step 91
+step 91
+step 91
+step 91
+step 91
+step 91
+step 91
+step 91
+step 91
 step 91
 step 92
 advance
@@ -451,6 +586,8 @@ step 102
 begin 3 put 000000000000006f 0=32d8
 begin 2 put 0000000000000070 0=-
 step 109
+step 109
+step 109
 finish 118
 finish 109
 begin 3 put 0000000000000071 0=52
@@ -481,6 +618,8 @@ step 126
 finish 124
 finish 126
 feed 60 1
+step 119
+step 119
 step 119
 advance
 step 128
@@ -544,6 +683,23 @@ begin 3 put 0000000000000089 0=28
 step 145
 step 141
 step 142
+step 142
+step 142
+step 142
+step 142
+step 142
+step 142
+step 142
+step 142
+step 142
+step 142
+step 142
+step 142
+step 142
+step 142
+step 142
+step 142
+step 142
 step 140
 step 144
 feed 81 1
@@ -563,6 +719,8 @@ finish 142
 finish 144
 finish 140
 step 136
+step 136
+step 136
 finish 145
 begin 3 put 000000000000008a 0=-
 finish 146
@@ -579,6 +737,8 @@ step 150
 step 149
 advance
 step 141
+step 141
+step 141
 advance
 finish 149
 step 147
@@ -588,6 +748,16 @@ step 152
 finish 152
 begin 3 put 0000000000000091 0=31
 finish 148
+step 141
+step 141
+step 141
+step 141
+step 141
+step 141
+step 141
+step 141
+step 141
+step 141
 step 141
 step 141
 step 151
@@ -787,6 +957,8 @@ begin 2 put 00000000000000cb 0=8c
 finish 208
 begin 2 put 00000000000000cc 0=4b4283
 step 210
+step 205
+step 205
 step 205
 finish 213
 begin 2 put 00000000000000cd 0=1d4cd38a
@@ -1043,6 +1215,22 @@ begin 1 put 0000000000000113 0=448201
 step 286
 step 292
 step 288
+step 288
+step 288
+step 288
+step 288
+step 288
+step 288
+step 288
+step 288
+step 288
+step 288
+step 288
+step 288
+step 288
+step 288
+step 288
+step 288
 step 291
 step 286
 step 286
@@ -1051,6 +1239,23 @@ finish 288
 step 292
 advance
 begin 3 put 0000000000000114 0=c1f67689
+step 286
+step 286
+step 286
+step 286
+step 286
+step 286
+step 286
+step 286
+step 286
+step 286
+step 286
+step 286
+step 286
+step 286
+step 286
+step 286
+step 286
 step 286
 step 286
 step 292
@@ -1090,9 +1295,13 @@ advance
 finish 293
 begin 1 put 0000000000000118 0=ac7c30
 step 292
+step 292
+step 292
 finish 296
 finish 294
 finish 297
+step 289
+step 289
 step 289
 collect
 finish 289
@@ -1926,6 +2135,8 @@ step 595
 begin 2 put 0000000000000233 0=22
 step 590
 step 590
+step 590
+step 590
 step 586
 step 596
 finish 590
@@ -2161,6 +2372,8 @@ begin 2 put 000000000000027b 0=-
 finish 668
 begin 1 put 000000000000027c 0=b5de7b2a
 step 664
+step 664
+step 664
 finish 660
 finish 671
 step 670
@@ -2178,6 +2391,31 @@ step 673
 step 664
 step 664
 step 664
+step 664
+step 664
+step 664
+step 664
+step 664
+step 664
+step 664
+step 664
+step 664
+step 664
+step 664
+step 664
+step 664
+step 664
+step 664
+step 650
+step 650
+step 650
+step 650
+step 650
+step 650
+step 650
+step 650
+step 650
+step 650
 step 650
 step 650
 step 650
@@ -2200,6 +2438,8 @@ feed 608 10
 begin 1 get 0000000000000145 all
 finish 676
 finish 677
+step 672
+step 672
 step 672
 begin 2 put 0000000000000282 0=682daccf
 finish 673
@@ -3312,6 +3552,16 @@ step 1069
 view 3 0 - 10
 step 1074
 step 1070
+step 1070
+step 1070
+step 1070
+step 1070
+step 1070
+step 1070
+step 1070
+step 1070
+step 1070
+step 1070
 step 1074
 step 1075
 step 1075
@@ -3337,8 +3587,22 @@ step 1075
 step 1075
 step 1078
 step 1074
+step 1074
+step 1074
+step 1074
+step 1074
+step 1074
+step 1074
 advance
 begin 2 remove 000000000000029a
+step 1069
+step 1069
+step 1069
+step 1069
+step 1069
+step 1069
+step 1069
+step 1069
 step 1069
 step 1069
 step 1076
@@ -3356,9 +3620,33 @@ step 1079
 step 1077
 step 1076
 step 1077
+step 1077
+step 1077
+step 1077
+step 1077
+step 1077
+step 1077
+step 1077
+step 1077
 step 1076
 step 1074
 step 1076
+step 1076
+step 1076
+step 1076
+step 1076
+step 1076
+step 1076
+step 1076
+step 1076
+step 1078
+step 1078
+step 1078
+step 1078
+step 1078
+step 1078
+step 1078
+step 1078
 step 1078
 begin 3 remove 00000000000001a5
 step 1077
@@ -3479,12 +3767,34 @@ step 1114
 step 1113
 step 1113
 step 1112
+step 1112
+step 1112
+step 1112
+step 1112
+step 1112
+step 1112
+step 1112
+step 1112
 step 1116
+step 1113
+step 1113
+step 1113
+step 1113
+step 1113
+step 1113
+step 1113
+step 1113
 step 1113
 step 1112
 step 1114
 step 1112
 begin 1 remove 0000000000000267
+step 1111
+step 1111
+step 1111
+step 1111
+step 1111
+step 1111
 step 1111
 step 1111
 step 1115
@@ -3500,9 +3810,21 @@ step 1115
 step 1117
 step 1115
 step 1115
+step 1115
+step 1115
+step 1115
+step 1115
 step 1116
 step 1111
 begin 1 remove 000000000000007d
+step 1114
+step 1114
+step 1114
+step 1114
+step 1114
+step 1114
+step 1114
+step 1114
 step 1114
 step 1114
 step 1113
@@ -3518,10 +3840,27 @@ begin 1 remove 00000000000001bf
 step 1119
 step 1120
 step 1116
+step 1116
+step 1116
+step 1116
+step 1116
+step 1116
+step 1116
+step 1116
 step 1118
 apply 0
 step 1118
 step 1116
+step 1118
+step 1118
+step 1118
+step 1118
+step 1118
+step 1118
+step 1118
+step 1118
+step 1118
+step 1118
 step 1118
 step 1117
 step 1120
@@ -3529,6 +3868,15 @@ step 1115
 step 1116
 apply 0
 begin 3 remove 00000000000000c0
+step 1117
+step 1117
+step 1117
+step 1117
+step 1117
+step 1117
+step 1117
+step 1117
+step 1117
 step 1117
 step 1117
 begin 3 remove 0000000000000223
@@ -3594,6 +3942,12 @@ step 1137
 step 1136
 step 1138
 step 1136
+step 1136
+step 1136
+step 1136
+step 1136
+step 1136
+step 1136
 step 1134
 apply 0
 step 1135
@@ -3605,13 +3959,40 @@ step 1135
 step 1123
 step 1123
 step 1123
+step 1123
+step 1123
+step 1123
+step 1123
+step 1123
 step 1134
+step 1134
+step 1134
+step 1134
+step 1134
+step 1134
+step 1138
+step 1138
+step 1138
+step 1138
+step 1138
+step 1138
+step 1138
+step 1138
+step 1138
+step 1138
 step 1138
 step 1138
 step 1138
 step 1137
 step 1138
 step 1139
+step 1135
+step 1135
+step 1135
+step 1135
+step 1135
+step 1135
+step 1135
 step 1135
 step 1135
 begin 2 remove 0000000000000298
@@ -3636,9 +4017,31 @@ step 1140
 step 1141
 step 1139
 step 1139
+step 1139
+step 1139
+step 1139
+step 1139
+step 1139
+step 1139
+step 1139
+step 1141
+step 1141
+step 1141
+step 1141
+step 1141
+step 1141
+step 1141
 step 1141
 step 1139
 step 1142
+step 1137
+step 1137
+step 1137
+step 1137
+step 1137
+step 1137
+step 1137
+step 1137
 step 1137
 begin 3 remove 00000000000000f9
 step 1141
@@ -3650,6 +4053,14 @@ step 1142
 advance
 step 1141
 begin 3 remove 000000000000029c
+step 1142
+step 1142
+step 1142
+step 1142
+step 1142
+step 1142
+step 1142
+step 1142
 step 1142
 step 1143
 step 1140
@@ -3667,6 +4078,13 @@ step 1143
 step 1142
 step 1144
 step 1140
+step 1140
+step 1140
+step 1140
+step 1140
+step 1140
+step 1140
+step 1140
 step 1142
 begin 3 remove 0000000000000018
 step 1147
@@ -3681,11 +4099,40 @@ step 1147
 step 1146
 step 1147
 step 1147
+step 1147
+step 1147
+step 1147
+step 1147
+step 1147
+step 1147
+step 1147
 step 1146
 step 1145
+step 1145
+step 1145
+step 1145
+step 1145
+step 1145
+step 1145
+step 1145
+step 1145
+step 1145
+step 1144
+step 1144
+step 1144
+step 1144
+step 1144
+step 1144
 step 1144
 apply 3
 step 1145
+step 1143
+step 1143
+step 1143
+step 1143
+step 1143
+step 1143
+step 1143
 step 1143
 step 1148
 step 1144
@@ -3698,6 +4145,12 @@ step 1147
 step 1148
 step 1147
 step 1145
+step 1148
+step 1148
+step 1148
+step 1148
+step 1148
+step 1148
 step 1148
 step 1148
 begin 2 remove 00000000000001ec
@@ -3725,11 +4178,24 @@ begin 3 remove 0000000000000029
 step 1153
 step 1153
 step 1149
+step 1149
+step 1149
+step 1149
+step 1149
+step 1149
+step 1149
 feed 609 1
 step 1152
 step 1151
 step 1150
 step 1149
+step 1146
+step 1146
+step 1146
+step 1146
+step 1146
+step 1146
+step 1146
 step 1146
 step 1153
 step 1153
@@ -3740,8 +4206,26 @@ begin 1 remove 00000000000000c4
 step 1154
 step 1146
 step 1152
+step 1152
+step 1152
+step 1152
+step 1152
+step 1152
+step 1152
+step 1152
 feed 605 1
 step 1153
+step 1153
+step 1153
+step 1153
+step 1153
+step 1153
+step 1150
+step 1150
+step 1150
+step 1150
+step 1150
+step 1150
 step 1150
 step 1152
 step 1150
@@ -3752,7 +4236,19 @@ step 1154
 begin 3 remove 00000000000001f8
 step 1155
 step 1151
+step 1151
+step 1151
+step 1151
+step 1151
+step 1151
+step 1151
+step 1151
 step 1153
+step 1154
+step 1154
+step 1154
+step 1154
+step 1154
 step 1154
 step 1154
 step 1154
@@ -3779,6 +4275,12 @@ begin 3 remove 00000000000001b4
 step 1155
 step 1157
 step 1157
+step 1157
+step 1157
+step 1157
+step 1157
+step 1157
+step 1157
 step 1155
 step 1157
 step 1159
@@ -3791,6 +4293,11 @@ step 1160
 step 1159
 step 1158
 step 1155
+step 1155
+step 1155
+step 1155
+step 1155
+step 1155
 step 1160
 step 1160
 step 1158
@@ -3798,15 +4305,40 @@ step 1161
 step 1161
 step 1159
 step 1156
+step 1156
+step 1156
+step 1156
+step 1156
+step 1156
+step 1156
 step 1158
 step 1160
 step 1155
+step 1158
+step 1158
+step 1158
+step 1158
+step 1158
+step 1158
 step 1158
 step 1161
 step 1158
 step 1158
 step 1155
 step 1160
+step 1160
+step 1160
+step 1160
+step 1160
+step 1160
+step 1160
+step 1160
+step 1161
+step 1161
+step 1161
+step 1161
+step 1161
+step 1161
 step 1161
 step 1160
 step 1161
@@ -3819,6 +4351,13 @@ step 1162
 step 1160
 step 1162
 begin 1 remove 00000000000001da
+step 1159
+step 1159
+step 1159
+step 1159
+step 1159
+step 1159
+step 1159
 step 1159
 step 1159
 step 1162
@@ -4137,10 +4676,30 @@ step 1267
 step 1264
 step 1269
 step 1258
+step 1258
+step 1258
+step 1258
+step 1258
+step 1258
+step 1258
+step 1258
+step 1258
 step 1268
+step 1264
+step 1264
+step 1264
+step 1264
+step 1264
 step 1264
 step 1269
 step 1267
+step 1268
+step 1268
+step 1268
+step 1268
+step 1268
+step 1268
+step 1268
 step 1268
 step 1268
 step 1258
@@ -4148,7 +4707,22 @@ step 1258
 step 1269
 begin 2 remove 000000000000012d
 step 1267
+step 1267
+step 1267
+step 1267
+step 1267
+step 1267
+step 1267
+step 1267
 step 1271
+step 1269
+step 1269
+step 1269
+step 1269
+step 1269
+step 1269
+step 1269
+step 1269
 step 1269
 step 1270
 step 1267
@@ -4190,13 +4764,34 @@ step 1277
 step 1277
 step 1273
 step 1272
+step 1272
+step 1272
+step 1272
+step 1272
 step 1275
 step 1271
+step 1271
+step 1271
+step 1271
+step 1271
+step 1271
+step 1271
+step 1271
+step 1277
+step 1277
+step 1277
+step 1277
 step 1277
 step 1277
 step 1275
 step 1275
 step 1272
+step 1275
+step 1275
+step 1275
+step 1275
+step 1275
+step 1275
 step 1275
 step 1275
 step 1272
@@ -4219,11 +4814,29 @@ step 1278
 step 1279
 step 1280
 step 1276
+step 1276
+step 1276
+step 1276
+step 1276
+step 1276
+step 1276
+step 1276
+step 1278
+step 1278
+step 1278
+step 1278
+step 1278
+step 1278
 step 1278
 step 1276
 step 1278
 step 1278
 begin 3 remove 00000000000000a4
+step 1279
+step 1279
+step 1279
+step 1279
+step 1279
 step 1279
 step 1279
 begin 3 remove 0000000000000093
@@ -4235,9 +4848,21 @@ step 1283
 step 1280
 step 1281
 step 1273
+step 1273
+step 1273
+step 1273
+step 1273
+step 1273
+step 1273
+step 1273
 step 1281
 step 1283
 step 1276
+step 1280
+step 1280
+step 1280
+step 1280
+step 1280
 step 1280
 step 1280
 advance
@@ -4250,12 +4875,26 @@ step 1281
 step 1282
 step 1282
 step 1283
+step 1283
+step 1283
+step 1283
+step 1283
+step 1283
+step 1283
 begin 1 remove 0000000000000232
 step 1281
 step 1285
 step 1285
 step 1282
 step 1273
+step 1281
+step 1281
+step 1281
+step 1281
+step 1281
+step 1281
+step 1281
+step 1281
 step 1281
 step 1281
 step 1283
@@ -4272,6 +4911,10 @@ step 1281
 feed 1096 1
 begin 3 remove 0000000000000001
 step 1288
+step 1285
+step 1285
+step 1285
+step 1285
 step 1285
 step 1285
 step 1287
@@ -4298,7 +4941,25 @@ step 1287
 step 1290
 step 1289
 step 1288
+step 1288
+step 1288
+step 1288
+step 1288
+step 1288
+step 1288
+step 1288
 step 1290
+step 1290
+step 1290
+step 1290
+step 1290
+step 1287
+step 1287
+step 1287
+step 1287
+step 1287
+step 1287
+step 1287
 step 1287
 step 1290
 step 1291
@@ -4306,6 +4967,12 @@ step 1286
 step 1291
 step 1291
 collect
+step 1291
+step 1291
+step 1291
+step 1291
+step 1291
+step 1291
 step 1291
 feed 114 10
 step 1289
@@ -4326,14 +4993,31 @@ step 1291
 step 1291
 step 1292
 step 1286
+step 1286
+step 1286
+step 1286
+step 1286
+step 1286
+step 1286
 begin 2 remove 00000000000000f7
 step 1294
+step 1292
+step 1292
+step 1292
+step 1292
+step 1292
 step 1292
 step 1292
 step 1292
 step 1289
 step 1288
 begin 3 remove 0000000000000117
+step 1289
+step 1289
+step 1289
+step 1289
+step 1289
+step 1289
 step 1289
 collect
 step 1294
@@ -4360,14 +5044,35 @@ step 1297
 step 1295
 step 1296
 step 1294
+step 1294
+step 1294
+step 1294
+step 1294
+step 1293
+step 1293
+step 1293
+step 1293
+step 1293
+step 1293
 step 1293
 step 1298
 step 1294
 step 1295
 step 1295
+step 1295
+step 1295
+step 1295
+step 1295
+step 1295
+step 1295
 step 1293
 step 1298
 step 1298
+step 1296
+step 1296
+step 1296
+step 1296
+step 1296
 step 1296
 step 1296
 step 1293
@@ -4677,6 +5382,10 @@ step 1401
 step 1405
 step 1405
 step 1401
+step 1401
+step 1401
+step 1401
+step 1401
 finish 1401
 begin 2 remove 00000000000001eb
 finish 1406
@@ -4697,6 +5406,15 @@ step 1392
 step 1407
 step 1407
 step 1405
+step 1405
+step 1405
+step 1405
+step 1405
+step 1407
+step 1407
+step 1407
+step 1407
+step 1407
 step 1407
 step 1410
 step 1410
@@ -4707,6 +5425,15 @@ step 1409
 begin 2 remove 000000000000008b
 step 1408
 step 1410
+step 1410
+step 1410
+step 1410
+step 1410
+step 1392
+step 1392
+step 1392
+step 1392
+step 1392
 step 1392
 step 1410
 step 1409
@@ -4714,6 +5441,10 @@ step 1411
 step 1411
 step 1407
 step 1392
+step 1409
+step 1409
+step 1409
+step 1409
 step 1409
 begin 1 remove 000000000000014b
 step 1409
@@ -4723,6 +5454,10 @@ begin 3 remove 000000000000017c
 step 1408
 step 1413
 step 1413
+step 1408
+step 1408
+step 1408
+step 1408
 step 1408
 step 1410
 finish 1408
@@ -4740,6 +5475,14 @@ step 1415
 step 1416
 step 1413
 step 1411
+step 1411
+step 1411
+step 1411
+step 1411
+step 1413
+step 1413
+step 1413
+step 1413
 step 1413
 step 1416
 step 1414
@@ -4751,6 +5494,11 @@ begin 2 remove 000000000000009c
 step 1414
 step 1415
 step 1415
+step 1415
+step 1415
+step 1415
+step 1415
+step 1415
 step 1414
 step 1414
 step 1415
@@ -4760,6 +5508,8 @@ step 1412
 step 1411
 step 1417
 step 1417
+step 1414
+step 1414
 step 1414
 step 1415
 step 1416
@@ -4775,6 +5525,10 @@ begin 2 remove 0000000000000101
 begin 1 remove 0000000000000281
 begin 3 remove 0000000000000241
 step 1419
+step 1412
+step 1412
+step 1412
+step 1412
 step 1412
 step 1421
 feed 564 10
@@ -4919,13 +5673,27 @@ step 1456
 step 1459
 step 1462
 step 1449
+step 1449
+step 1449
+step 1449
+step 1449
 step 1459
 step 1462
 step 1459
+step 1459
+step 1459
+step 1459
+step 1459
+step 1456
+step 1456
 step 1456
 begin 2 remove 000000000000018d
 step 1462
 step 1461
+step 1458
+step 1458
+step 1458
+step 1458
 step 1458
 step 1458
 step 1463
@@ -4936,8 +5704,17 @@ step 1462
 step 1461
 step 1449
 step 1461
+step 1461
+step 1461
+step 1461
+step 1461
+step 1461
 begin 2 remove 000000000000003c
 step 1459
+step 1462
+step 1462
+step 1462
+step 1462
 step 1462
 step 1463
 step 1461
@@ -4952,6 +5729,9 @@ begin 3 remove 00000000000000dd
 advance
 begin 3 remove 00000000000001b0
 step 1462
+step 1463
+step 1463
+step 1463
 step 1463
 begin 2 remove 0000000000000290
 step 1464
@@ -4979,6 +5759,10 @@ begin 3 remove 000000000000013b
 step 1468
 step 1467
 step 1467
+step 1467
+step 1467
+step 1467
+step 1467
 step 1469
 step 1468
 step 1469
@@ -4992,6 +5776,14 @@ step 1469
 step 1469
 step 1470
 step 1469
+step 1469
+step 1469
+step 1469
+step 1469
+step 1468
+step 1468
+step 1468
+step 1468
 step 1468
 step 1468
 step 1465
@@ -4999,10 +5791,18 @@ step 1471
 step 1471
 step 1470
 step 1464
+step 1464
+step 1464
+step 1464
+step 1464
 step 1471
 step 1468
 begin 3 remove 00000000000001c4
 step 1472
+step 1470
+step 1470
+step 1470
+step 1470
 step 1470
 step 1472
 step 1471
@@ -5016,6 +5816,14 @@ step 1473
 step 1470
 step 1472
 step 1465
+step 1465
+step 1465
+step 1465
+step 1465
+step 1472
+step 1472
+step 1472
+step 1472
 step 1472
 feed 861 3
 step 1465
@@ -5033,6 +5841,10 @@ step 1469
 step 1475
 step 1474
 begin 1 tidy 000000000000019e
+step 1471
+step 1471
+step 1471
+step 1471
 step 1471
 step 1474
 step 1471
@@ -9836,6 +10648,20 @@ step 3167
 step 3162
 step 3162
 step 3162
+step 3162
+step 3162
+step 3162
+step 3162
+step 3162
+step 3162
+step 3162
+step 3162
+step 3162
+step 3162
+step 3162
+step 3162
+step 3162
+step 3162
 step 3164
 step 3169
 step 3162
@@ -13487,14 +14313,46 @@ step 4459
 step 4464
 step 4463
 step 4460
+step 4460
+step 4460
+step 4460
+step 4460
+step 4460
+step 4460
+step 4460
+step 4460
+step 4460
+step 4460
+step 4460
 begin 3 remove 00000000000000b0
 step 4465
 step 4466
 step 4459
 step 4457
+step 4457
+step 4457
+step 4457
+step 4457
+step 4457
+step 4457
+step 4457
+step 4457
+step 4457
+step 4457
 begin 1 remove 000000000000029e
 step 4464
 step 4463
+step 4459
+step 4459
+step 4459
+step 4459
+step 4459
+step 4459
+step 4459
+step 4459
+step 4459
+step 4459
+step 4459
 step 4459
 begin 3 remove 0000000000000191
 feed 482 10
@@ -13506,8 +14364,20 @@ step 4463
 step 4467
 step 4465
 step 4463
+step 4463
+step 4463
+step 4463
+step 4463
+step 4463
 begin 2 remove 000000000000005f
 step 4464
+step 4464
+step 4464
+step 4465
+step 4465
+step 4465
+step 4465
+step 4465
 step 4465
 begin 2 remove 0000000000000020
 begin 1 remove 000000000000010e
@@ -13570,10 +14440,33 @@ step 4480
 step 4484
 step 4489
 step 4480
+step 4480
+step 4480
+step 4480
+step 4480
+step 4480
+step 4480
+step 4480
+step 4480
+step 4480
+step 4480
+step 4480
+step 4480
+step 4480
 step 4489
 feed 1092 1
 step 4475
 advance
+step 4475
+step 4475
+step 4475
+step 4475
+step 4475
+step 4475
+step 4475
+step 4475
+step 4475
+step 4475
 step 4475
 finish 4480
 begin 3 remove 00000000000001dc
@@ -13602,6 +14495,20 @@ step 4495
 step 4495
 step 4494
 step 4484
+step 4484
+step 4484
+step 4484
+step 4484
+step 4484
+step 4484
+step 4484
+step 4484
+step 4484
+step 4484
+step 4484
+step 4484
+step 4484
+step 4484
 step 4496
 begin 3 remove 0000000000000143
 feed 1224 1
@@ -13609,9 +14516,30 @@ step 4495
 step 4494
 step 4497
 step 4489
+step 4489
+step 4489
+step 4489
+step 4489
+step 4489
+step 4489
+step 4489
+step 4489
+step 4489
+step 4489
+step 4489
 step 4493
 begin 1 remove 000000000000015b
 feed 287 1
+step 4494
+step 4494
+step 4494
+step 4494
+step 4494
+step 4494
+step 4494
+step 4494
+step 4494
+step 4494
 step 4494
 begin 1 remove 0000000000000078
 step 4495
@@ -13622,6 +14550,22 @@ step 4496
 step 4495
 step 4498
 step 4493
+step 4493
+step 4493
+step 4493
+step 4493
+step 4493
+step 4493
+step 4493
+step 4493
+step 4493
+step 4493
+step 4493
+step 4496
+step 4496
+step 4496
+step 4496
+step 4496
 step 4496
 collect
 begin 3 remove 0000000000000021
@@ -13865,8 +14809,29 @@ step 4583
 step 4586
 step 4583
 step 4583
+step 4583
+step 4583
+step 4583
+step 4583
+step 4583
+step 4583
+step 4583
+step 4583
+step 4583
+step 4583
+step 4583
 begin 3 remove 00000000000001e9
 step 4587
+step 4586
+step 4586
+step 4586
+step 4586
+step 4586
+step 4586
+step 4586
+step 4586
+step 4586
+step 4586
 step 4586
 begin 3 remove 0000000000000132
 begin 3 remove 000000000000008f
@@ -13929,6 +14894,15 @@ step 4610
 step 4606
 step 4606
 step 4610
+step 4610
+step 4610
+step 4610
+step 4610
+step 4610
+step 4610
+step 4610
+step 4610
+step 4610
 finish 4609
 step 4606
 finish 4603
@@ -13972,6 +14946,14 @@ begin 1 remove 0000000000000287
 step 4626
 step 4626
 collect
+step 4616
+step 4616
+step 4616
+step 4616
+step 4616
+step 4616
+step 4616
+step 4616
 step 4616
 step 4616
 begin 3 remove 00000000000001fe
@@ -14028,6 +15010,23 @@ step 4636
 step 4640
 step 4640
 step 4634
+step 4634
+step 4634
+step 4634
+step 4634
+step 4634
+step 4634
+step 4634
+step 4634
+step 4634
+step 4634
+step 4634
+step 4634
+step 4634
+step 4631
+step 4631
+step 4631
+step 4631
 step 4631
 begin 3 remove 000000000000018c
 finish 4636
@@ -14087,6 +15086,14 @@ step 4656
 step 4659
 step 4660
 step 4658
+step 4656
+step 4656
+step 4656
+step 4656
+step 4656
+step 4656
+step 4656
+step 4656
 step 4656
 finish 4658
 begin 1 remove 000000000000008b

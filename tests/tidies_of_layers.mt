@@ -4,6 +4,8 @@ step 1
 step 2
 step 1
 step 1
+step 1
+step 1
 begin 2 put 6161616161616161626262626262626200 0=dd01e4
 step 2
 begin 3 put 61616161616161610101 0=34a20f0b
@@ -28,6 +30,10 @@ step 7
 step 2
 step 4
 step 3
+step 3
+step 3
+step 3
+step 3
 step 2
 step 6
 step 6
@@ -47,27 +53,55 @@ step 6
 step 9
 step 7
 step 2
-step 7
 step 4
-step 7
-step 9
 step 6
 step 6
 step 6
-step 7
+step 6
+step 6
+step 6
 step 2
 advance
 step 2
 step 2
-step 9
-step 4
 step 2
-step 9
 step 6
-step 4
 collect
 advance
 step 6
+step 4
+step 4
+step 4
+step 4
+step 4
+step 4
+step 4
+step 4
+step 7
+step 7
+step 7
+step 7
+step 7
+step 7
+step 7
+step 7
+step 7
+step 7
+step 7
+step 7
+step 7
+step 7
+step 7
+step 9
+step 9
+step 9
+step 9
+step 9
+step 9
+step 9
+step 9
+step 9
+step 9
 begin 1 put 6161616161616161626262626262626202 0=91ff
 step 9
 step 10
@@ -83,6 +117,11 @@ step 7
 step 10
 step 4
 step 2
+step 2
+step 2
+step 2
+step 2
+step 2
 collect
 advance
 step 7
@@ -92,21 +131,24 @@ step 4
 step 4
 step 4
 step 4
+step 4
+step 4
+step 4
+step 4
 step 2
 step 10
 step 4
 step 7
-step 11
-step 11
 step 7
-step 11
 step 2
 step 9
 step 10
 step 7
 step 7
 step 7
-step 11
+step 7
+step 7
+step 7
 step 2
 step 4
 step 9
@@ -119,29 +161,80 @@ step 13
 step 12
 step 12
 step 10
+step 2
+step 10
+step 10
+step 10
+step 10
+step 10
+step 10
+step 10
+step 11
+step 11
+step 11
+step 11
+step 11
+step 11
+step 11
+step 11
 step 12
+step 12
+step 12
+step 12
+step 12
+step 12
+step 12
+step 12
+step 13
+step 13
+step 13
+step 13
+step 13
+step 13
+step 13
+step 13
+step 12
+step 2
+step 13
+step 9
+step 9
+step 9
+step 9
+step 9
+step 9
+step 9
+step 9
+step 12
+step 13
+step 13
+step 13
+step 13
+step 13
 step 13
 step 2
 step 12
-step 11
-step 2
 step 13
 step 9
-step 9
-step 9
-step 12
-step 13
-step 13
-step 13
-step 2
-step 12
-step 13
 step 9
 step 11
 step 11
 step 11
 step 11
-step 9
+step 11
+step 11
+step 11
+step 11
+step 11
+step 11
+step 11
+step 11
+step 11
+step 11
+step 11
+step 11
+step 11
+step 11
+step 11
 begin 2 put 616161616161616162626262626262620303 0=fa0f
 step 13
 begin 3 remove 616161616161616100
@@ -151,11 +244,33 @@ collect
 step 2
 step 2
 step 2
+step 2
+step 2
+step 2
+step 2
 step 15
+step 14
+step 14
+step 14
+step 14
+step 14
+step 14
 step 14
 step 12
 step 14
 step 15
+step 15
+step 15
+step 15
+step 15
+step 15
+step 15
+step 12
+step 12
+step 12
+step 12
+step 12
+step 12
 step 12
 step 12
 step 12
@@ -165,6 +280,16 @@ step 11
 step 15
 step 15
 step 12
+step 14
+step 14
+step 14
+step 14
+step 14
+step 14
+step 14
+step 14
+step 14
+step 14
 step 10
 advance
 begin 3 remove 62626262626262620202
@@ -172,6 +297,14 @@ step 2
 step 14
 step 15
 step 16
+step 15
+step 15
+step 15
+step 15
+step 15
+step 15
+step 15
+step 15
 step 15
 begin 2 remove 6161616161616161626262626262626200
 step 14
@@ -182,7 +315,19 @@ step 15
 begin 1 remove 62626262626262620000
 step 2
 step 17
+step 17
+step 17
+step 17
+step 17
+step 17
+step 17
 begin 3 remove 626262626262626203
+step 16
+step 16
+step 16
+step 16
+step 16
+step 16
 step 16
 step 18
 step 16
@@ -192,12 +337,35 @@ step 16
 step 20
 step 19
 step 20
+step 20
+step 20
+step 20
+step 20
+step 20
+step 20
 step 18
+step 18
+step 18
+step 18
+step 18
+step 18
+step 18
+step 16
+step 16
+step 16
+step 16
+step 16
 step 16
 begin 1 remove 616161616161616102
 finish 18
 begin 1 tidy 616161616161616100
 step 17
+step 21
+step 21
+step 21
+step 21
+step 21
+step 21
 step 21
 step 21
 finish 19
@@ -245,6 +413,12 @@ begin 2 tidy 61616161616161610303
 step 31
 step 36
 step 23
+step 23
+step 23
+step 23
+step 23
+step 23
+step 23
 finish 27
 step 33
 step 33
@@ -272,7 +446,18 @@ finish 35
 advance
 step 23
 step 23
+step 23
+step 23
+step 23
+step 23
+step 23
 finish 39
+step 40
+step 40
+step 40
+step 40
+step 40
+step 40
 step 40
 step 40
 begin 2 remove 62626262626262620202
@@ -287,6 +472,12 @@ begin 2 remove 626262626262626203
 step 38
 step 41
 begin 3 remove 6161616161616161626262626262626200
+step 41
+step 41
+step 41
+step 41
+step 41
+step 41
 step 41
 begin 2 remove 616161616161616102
 finish 44
@@ -304,12 +495,24 @@ step 47
 begin 3 remove 61616161616161610101
 step 51
 step 47
+step 47
+step 47
+step 47
+step 47
+step 47
+step 47
 finish 48
 finish 47
 step 49
 begin 2 tidy 61616161616161610303
 advance
 collect
+step 43
+step 43
+step 43
+step 43
+step 43
+step 43
 step 43
 finish 50
 begin 2 tidy 62626262626262620202
@@ -347,6 +550,8 @@ step 58
 begin 1 tidy 61616161616161610101
 feed 22 3
 step 60
+step 49
+step 49
 step 49
 begin 2 tidy 61616161616161610303
 finish 65
@@ -471,6 +676,8 @@ begin 1 remove 616161616161616100
 step 102
 step 103
 step 98
+step 98
+step 98
 begin 1 get 6161616161616161626262626262626202 all
 step 106
 step 102
@@ -500,6 +707,8 @@ step 108
 begin 3 remove 61616161616161610101
 step 108
 step 110
+step 110
+step 110
 begin 2 remove 626262626262626201
 step 111
 begin 2 remove 6161616161616161626262626262626200
@@ -514,6 +723,8 @@ step 113
 step 113
 step 116
 step 116
+step 108
+step 108
 step 108
 finish 113
 begin 1 remove 626262626262626203
@@ -549,6 +760,8 @@ step 116
 step 116
 step 116
 step 115
+step 115
+step 115
 finish 116
 begin 3 tidy 6161616161616161626262626262626202
 step 123
@@ -573,6 +786,10 @@ begin 3 put 61616161616161610303 0=94b258
 finish 128
 step 109
 begin 2 tidy 616161616161616102
+step 109
+step 109
+step 109
+step 109
 step 109
 step 130
 step 127
@@ -618,6 +835,12 @@ step 131
 step 109
 step 134
 step 109
+step 134
+step 134
+step 134
+step 134
+step 134
+step 134
 step 109
 step 136
 step 138
@@ -631,6 +854,11 @@ finish 140
 step 136
 step 109
 step 136
+step 109
+step 109
+step 109
+step 109
+step 109
 step 109
 step 109
 begin 2 range 61616161616161610303 1000 all
@@ -649,6 +877,9 @@ step 147
 step 144
 begin 2 put 616161616161616162626262626262620101 0=f4e0
 step 143
+step 147
+step 147
+step 147
 step 147
 step 147
 step 147
@@ -675,6 +906,12 @@ step 152
 finish 152
 step 151
 step 151
+step 151
+step 151
+step 151
+step 151
+step 151
+step 151
 begin 1 tidy 626262626262626203
 step 151
 finish 145
@@ -683,6 +920,10 @@ step 153
 step 151
 begin 2 tidy 626262626262626203
 begin 2 tidy 616161616161616162626262626262620303
+step 151
+step 151
+step 151
+step 151
 step 151
 step 155
 begin 1 tidy 626262626262626203
@@ -735,8 +976,20 @@ finish 168
 step 169
 begin 2 remove 62626262626262620202
 step 169
+step 169
+step 169
+step 169
+step 169
+step 169
+step 169
 begin 1 remove 6161616161616161626262626262626202
 step 171
+step 167
+step 167
+step 167
+step 167
+step 167
+step 167
 step 167
 finish 167
 begin 2 remove 61616161616161610303
@@ -751,6 +1004,12 @@ begin 1 tidy 616161616161616162626262626262620101
 step 175
 step 172
 step 172
+step 172
+step 172
+step 172
+step 172
+step 172
+step 172
 step 174
 finish 172
 finish 176
@@ -759,11 +1018,23 @@ begin 1 tidy 616161616161616102
 finish 175
 begin 2 put 62626262626262620202 0=-
 step 171
+step 171
+step 171
+step 171
+step 171
+step 171
+step 171
 begin 2 tidy 62626262626262620202
 finish 170
 step 178
 finish 179
 begin 2 get 616161616161616162626262626262620101 all
+step 174
+step 174
+step 174
+step 174
+step 174
+step 174
 step 174
 finish 180
 begin 3 tidy 6161616161616161626262626262626202
@@ -793,6 +1064,12 @@ begin 2 remove 61616161616161610303
 step 174
 step 186
 step 178
+step 178
+step 178
+step 178
+step 178
+step 178
+step 178
 step 186
 step 186
 step 186
@@ -813,6 +1090,12 @@ advance
 step 178
 begin 1 tidy 62626262626262620000
 step 188
+step 188
+step 188
+step 188
+step 188
+step 188
+step 188
 feed 26 1
 finish 178
 begin 3 remove 616161616161616162626262626262620303
@@ -826,6 +1109,12 @@ feed 17 10
 step 190
 step 189
 finish 191
+step 190
+step 190
+step 190
+step 190
+step 190
+step 190
 step 190
 begin 2 get 626262626262626203 all
 step 181
@@ -843,10 +1132,26 @@ step 194
 collect
 step 193
 step 187
+step 187
+step 187
+step 187
+step 187
+step 187
+step 187
+step 188
+step 188
+step 188
+step 188
 step 188
 step 187
 finish 192
 advance
+step 195
+step 195
+step 195
+step 195
+step 195
+step 195
 step 195
 step 195
 begin 2 tidy 61616161616161610303
@@ -883,6 +1188,10 @@ step 200
 step 200
 step 199
 step 195
+step 195
+step 195
+step 195
+step 195
 begin 1 tidy 62626262626262620000
 finish 195
 begin 1 remove 6161616161616161626262626262626200
@@ -909,16 +1218,40 @@ finish 205
 begin 1 remove 616161616161616162626262626262620101
 step 206
 step 206
+step 206
+step 206
+step 206
+step 206
+step 206
+step 206
 finish 203
 step 209
 begin 1 tidy 616161616161616162626262626262620101
+step 204
+step 204
+step 204
+step 204
+step 204
+step 204
 step 204
 step 206
 advance
 step 210
 step 209
 step 210
+step 210
+step 210
+step 210
+step 210
+step 210
+step 210
 step 211
+step 199
+step 199
+step 199
+step 199
+step 199
+step 199
 step 199
 step 211
 step 209
@@ -930,18 +1263,34 @@ step 211
 collect
 step 204
 step 211
-step 204
 step 212
 feed 10 10
-step 204
-step 204
 begin 1 tidy 616161616161616102
 finish 206
+step 204
+step 204
+step 204
+step 204
+step 204
+step 204
+step 204
+step 204
+step 204
+step 204
+step 204
+step 204
+step 204
 begin 3 remove 62626262626262620202
 step 211
 step 213
 step 211
 step 213
+step 210
+step 210
+step 210
+step 210
+step 210
+step 210
 step 210
 begin 3 tidy 62626262626262620202
 step 215
@@ -951,6 +1300,18 @@ step 213
 step 214
 step 210
 step 214
+step 214
+step 214
+step 214
+step 214
+step 214
+step 214
+step 212
+step 212
+step 212
+step 212
+step 212
+step 212
 step 212
 step 215
 step 210
@@ -958,8 +1319,16 @@ step 215
 step 212
 begin 2 remove 6161616161616161626262626262626202
 step 199
+step 199
+step 199
+step 199
+step 199
 feed 24 1
 begin 2 tidy 6161616161616161626262626262626202
+step 210
+step 210
+step 210
+step 210
 step 210
 step 214
 step 210
@@ -971,11 +1340,26 @@ step 214
 step 216
 step 210
 step 214
+step 214
+step 214
+step 214
+step 214
 begin 1 remove 61616161616161610303
 step 218
 step 216
+step 216
+step 216
+step 216
+step 216
+step 216
+step 216
 step 217
 step 213
+step 212
+step 212
+step 212
+step 212
+step 212
 step 212
 begin 1 tidy 61616161616161610303
 step 219
@@ -988,7 +1372,18 @@ step 212
 begin 2 tidy 626262626262626203
 step 216
 step 216
+step 216
+step 216
+step 216
+step 216
+step 216
 feed 1 10
+step 218
+step 218
+step 218
+step 218
+step 218
+step 218
 step 218
 step 217
 step 217
@@ -1004,7 +1399,15 @@ step 218
 step 217
 begin 1 tidy 616161616161616162626262626262620303
 step 220
+step 220
+step 220
+step 220
+step 220
+step 220
+step 220
 step 223
+step 216
+step 216
 step 216
 begin 3 put 62626262626262620000 0=751b
 step 223
@@ -1012,6 +1415,11 @@ step 222
 step 221
 finish 218
 finish 221
+step 222
+step 222
+step 222
+step 222
+step 222
 step 222
 finish 220
 step 224
@@ -1026,11 +1434,17 @@ step 225
 begin 1 put 616161616161616102 0=c6718d
 step 220
 step 220
+step 220
+step 220
+step 220
 begin 3 put 6161616161616161626262626262626202 0=2e
 step 225
 step 227
 step 222
 step 224
+step 225
+step 225
+step 225
 step 225
 step 224
 step 228
@@ -1038,16 +1452,40 @@ finish 225
 begin 1 put 61616161616161610303 0=-
 step 223
 step 227
+step 227
+step 227
+step 227
+step 227
+step 227
+step 227
 step 229
 finish 227
 collect
 step 229
+step 229
+step 229
+step 229
+step 229
+step 229
+step 229
+step 228
+step 228
+step 228
+step 228
+step 228
+step 228
 step 228
 step 228
 begin 2 remove 62626262626262620202
 step 224
 step 230
 step 230
+step 222
+step 222
+step 222
+step 222
+step 222
+step 222
 step 222
 step 230
 step 229
@@ -1056,6 +1494,15 @@ step 229
 step 229
 step 229
 step 229
+step 229
+step 229
+step 229
+step 229
+step 224
+step 224
+step 224
+step 224
+step 224
 step 224
 step 230
 step 230
@@ -1063,8 +1510,6 @@ step 224
 step 224
 step 228
 step 229
-step 228
-step 228
 step 224
 step 223
 step 223
@@ -1074,17 +1519,44 @@ begin 1 put 626262626262626201 0=a8
 step 224
 step 222
 step 231
-step 228
-step 228
-step 228
+step 231
+step 231
+step 231
+step 231
+step 231
+step 231
 step 231
 step 224
-step 222
-step 228
-step 228
 collect
 step 229
+step 228
+step 228
+step 228
+step 228
+step 228
+step 228
+step 228
+step 228
+step 228
+step 228
+step 228
+step 228
+step 228
+step 228
+step 228
+step 228
+step 228
+step 228
 step 230
+step 230
+step 230
+step 230
+step 230
+step 230
+step 230
+step 224
+step 224
+step 224
 step 224
 step 224
 step 224
@@ -1097,9 +1569,19 @@ step 232
 step 231
 step 222
 step 232
+step 232
+step 232
+step 232
+step 232
+step 232
+step 232
 step 224
 step 233
 step 232
+step 222
+step 222
+step 222
+step 222
 step 222
 step 231
 step 224
@@ -1115,9 +1597,21 @@ step 235
 begin 2 remove 616161616161616162626262626262620303
 begin 1 tidy 616161616161616162626262626262620303
 step 234
+step 234
+step 234
+step 234
+step 234
+step 234
+step 234
 finish 233
 step 230
 begin 3 tidy 616161616161616162626262626262620303
+step 235
+step 235
+step 235
+step 235
+step 235
+step 235
 step 235
 step 238
 step 237
@@ -1144,6 +1638,12 @@ step 242
 finish 234
 begin 3 put 61616161616161610303 0=7c
 step 242
+step 242
+step 242
+step 242
+step 242
+step 242
+step 242
 step 238
 step 239
 finish 242
@@ -1151,10 +1651,22 @@ begin 1 put 616161616161616162626262626262620303 0=-
 step 239
 step 245
 step 241
+step 241
+step 241
+step 241
+step 241
+step 241
+step 241
 step 244
 step 243
 step 238
 begin 1 put 6161616161616161626262626262626202 0=8a
+step 244
+step 244
+step 244
+step 244
+step 244
+step 244
 step 244
 finish 239
 begin 3 put 626262626262626201 0=76c0
@@ -1162,6 +1674,18 @@ step 247
 step 244
 advance
 step 245
+step 245
+step 245
+step 245
+step 245
+step 245
+step 245
+step 247
+step 247
+step 247
+step 247
+step 247
+step 247
 step 247
 finish 244
 step 246
@@ -1190,6 +1714,12 @@ step 251
 begin 2 tidy 616161616161616162626262626262620303
 step 253
 step 248
+step 248
+step 248
+step 248
+step 248
+step 248
+step 248
 finish 254
 begin 3 tidy 616161616161616162626262626262620303
 step 248
@@ -1197,9 +1727,24 @@ step 255
 step 248
 step 253
 step 248
+step 248
+step 248
+step 248
+step 248
+step 248
+step 248
+step 248
 step 251
 step 255
 step 251
+step 245
+step 245
+step 245
+step 245
+step 245
+step 245
+step 245
+step 245
 step 245
 step 248
 step 252
@@ -1246,29 +1791,81 @@ step 252
 step 260
 step 259
 step 259
+step 259
+step 259
+step 259
+step 259
+step 259
+step 259
 step 257
+step 260
+step 260
+step 260
+step 260
+step 260
+step 260
 step 260
 step 260
 step 255
 step 260
 step 260
+step 260
+step 260
+step 260
+step 260
+step 260
+step 260
+step 260
+step 260
 step 261
 step 252
+step 257
+step 257
+step 257
+step 257
+step 257
+step 257
 step 257
 step 259
 step 252
 step 255
 begin 1 put 616161616161616100 0=dad8
 step 259
+step 259
+step 259
+step 259
+step 259
+step 259
+step 259
+step 259
 step 260
 feed 56 10
 begin 1 get 61616161616161610101 all
 step 260
+step 260
+step 260
+step 260
+step 260
+step 260
+step 260
+step 260
+step 261
+step 261
+step 261
+step 261
+step 261
+step 261
 step 261
 step 262
 step 259
 step 263
 step 260
+step 262
+step 262
+step 262
+step 262
+step 262
+step 262
 step 262
 step 262
 step 261
@@ -1289,6 +1886,18 @@ step 257
 apply 0
 step 257
 step 266
+step 266
+step 266
+step 266
+step 266
+step 266
+step 266
+step 262
+step 262
+step 262
+step 262
+step 262
+step 262
 step 262
 step 262
 step 262
@@ -1314,8 +1923,20 @@ step 263
 step 263
 begin 3 put 616161616161616162626262626262620101 0=8f3a43
 step 268
+step 268
+step 268
+step 268
+step 268
+step 268
+step 268
 step 267
 step 269
+step 267
+step 267
+step 267
+step 267
+step 267
+step 267
 step 267
 step 265
 finish 269
@@ -1348,6 +1969,14 @@ step 265
 step 265
 begin 2 remove 62626262626262620000
 step 257
+step 257
+step 257
+step 257
+step 257
+step 257
+step 257
+step 257
+step 257
 step 273
 step 257
 step 271
@@ -1355,10 +1984,28 @@ step 257
 begin 1 tidy 62626262626262620000
 step 270
 step 273
+step 273
+step 273
+step 273
+step 273
+step 273
+step 273
+step 271
+step 271
+step 271
+step 271
+step 271
+step 271
 step 271
 finish 271
 step 273
 begin 3 remove 6161616161616161626262626262626200
+step 270
+step 270
+step 270
+step 270
+step 270
+step 270
 step 270
 step 272
 step 272
@@ -1376,11 +2023,23 @@ step 274
 step 272
 step 270
 step 275
+step 275
+step 275
+step 275
+step 275
+step 275
+step 275
 step 276
 begin 2 remove 61616161616161610101
 step 274
 step 274
 begin 2 tidy 61616161616161610101
+step 270
+step 270
+step 270
+step 270
+step 270
+step 270
 step 270
 step 277
 step 278
@@ -1399,6 +2058,13 @@ finish 279
 step 277
 advance
 step 275
+step 275
+step 275
+step 275
+step 275
+step 275
+step 275
+step 275
 finish 282
 step 275
 view 1 0 - 1000
@@ -1409,6 +2075,12 @@ begin 2 remove 62626262626262620202
 step 283
 step 286
 step 277
+step 286
+step 286
+step 286
+step 286
+step 286
+step 286
 step 286
 finish 276
 finish 284
@@ -1431,6 +2103,12 @@ begin 1 remove 61616161616161610303
 apply 0
 finish 286
 step 288
+step 288
+step 288
+step 288
+step 288
+step 288
+step 288
 step 289
 begin 2 remove 6161616161616161626262626262626200
 finish 290
@@ -1438,6 +2116,12 @@ begin 2 remove 616161616161616102
 finish 292
 step 291
 step 283
+step 291
+step 291
+step 291
+step 291
+step 291
+step 291
 step 291
 step 289
 step 283
@@ -1468,9 +2152,17 @@ step 289
 begin 1 remove 626262626262626201
 begin 2 remove 616161616161616102
 step 298
+step 298
+step 298
+step 298
+step 298
+step 298
 step 300
 step 289
 begin 1 remove 6161616161616161626262626262626200
+step 300
+step 300
+step 300
 step 300
 step 300
 begin 2 remove 626262626262626203
@@ -1479,11 +2171,24 @@ step 303
 step 288
 step 298
 step 288
+step 288
+step 288
+step 288
+step 288
+step 288
 step 297
 step 297
 step 303
+step 303
+step 303
+step 303
 begin 2 remove 62626262626262620000
 step 297
+step 298
+step 298
+step 298
+step 298
+step 298
 step 298
 collect
 finish 304
@@ -1499,6 +2204,15 @@ step 298
 step 288
 step 305
 step 305
+step 305
+step 305
+step 305
+step 305
+step 305
+step 298
+step 298
+step 298
+step 298
 step 298
 step 305
 step 297
@@ -1508,7 +2222,17 @@ view 1 0 - 1000
 step 297
 step 305
 step 305
+step 305
+step 305
+step 305
+step 305
+step 305
 begin 1 remove 616161616161616100
+step 307
+step 307
+step 307
+step 307
+step 307
 step 307
 step 307
 drop 1
@@ -1520,10 +2244,18 @@ step 306
 step 298
 step 307
 step 301
+step 301
+step 301
+step 301
+step 301
+step 301
 finish 298
 step 305
 step 307
 step 301
+step 307
+step 307
+step 307
 step 307
 begin 1 get 616161616161616162626262626262620101 all
 step 301
@@ -1531,6 +2263,9 @@ begin 3 remove 616161616161616102
 begin 2 get 61616161616161610101 all
 step 308
 step 308
+step 301
+step 301
+step 301
 step 301
 begin 2 remove 61616161616161610303
 advance
@@ -1541,6 +2276,8 @@ step 288
 feed 39 3
 step 288
 step 305
+step 305
+step 305
 begin 3 remove 616161616161616162626262626262620303
 collect
 finish 312
@@ -1549,6 +2286,16 @@ step 288
 finish 288
 begin 2 remove 61616161616161610101
 step 309
+step 309
+step 309
+step 309
+step 309
+step 309
+step 314
+step 314
+step 314
+step 314
+step 314
 step 314
 step 314
 step 308
@@ -1561,6 +2308,9 @@ step 313
 finish 310
 step 314
 begin 1 tidy 6161616161616161626262626262626202
+step 314
+step 314
+step 314
 step 314
 step 308
 step 308
@@ -1578,6 +2328,11 @@ feed 69 3
 begin 3 tidy 62626262626262620202
 begin 3 get 62626262626262620000 all
 finish 311
+step 313
+step 313
+step 313
+step 313
+step 313
 step 313
 begin 3 tidy 626262626262626201
 step 316
@@ -1638,6 +2393,10 @@ step 327
 step 331
 begin 1 tidy 616161616161616102
 step 309
+step 309
+step 309
+step 309
+step 309
 begin 1 put 616161616161616162626262626262620101 0=-
 step 333
 step 330
@@ -1659,6 +2418,10 @@ begin 3 tidy 62626262626262620000
 begin 3 tidy 616161616161616102
 step 337
 begin 3 tidy 616161616161616162626262626262620101
+step 334
+step 334
+step 334
+step 334
 step 334
 step 335
 step 334
@@ -1819,6 +2582,11 @@ step 374
 step 367
 step 372
 step 374
+step 374
+step 374
+step 374
+step 374
+step 374
 step 367
 step 373
 step 372
@@ -1827,6 +2595,9 @@ step 374
 step 367
 step 375
 step 373
+step 374
+step 374
+step 374
 step 374
 step 372
 begin 1 remove 616161616161616162626262626262620303
@@ -1842,21 +2613,51 @@ step 372
 begin 3 tidy 61616161616161610303
 step 371
 step 378
-step 371
 step 373
-step 371
 collect
 step 378
 begin 2 tidy 626262626262626203
-step 371
 step 379
 step 375
+step 375
+step 375
+step 375
+step 371
+step 371
+step 371
+step 371
+step 371
+step 371
+step 371
+step 371
+step 371
+step 371
+step 371
+step 371
+step 371
+step 371
+step 376
+step 376
+step 376
+step 376
+step 376
+step 376
 begin 3 tidy 616161616161616162626262626262620303
 step 371
 step 376
 step 377
 step 376
+step 376
+step 376
+step 376
+step 376
+step 376
 step 379
+step 377
+step 377
+step 377
+step 377
+step 377
 step 377
 begin 2 remove 616161616161616100
 collect
@@ -1864,10 +2665,25 @@ step 380
 step 377
 step 380
 step 371
+step 371
+step 371
+step 371
+step 371
+step 371
 step 381
 step 377
 step 377
+step 377
+step 377
+step 377
+step 377
+step 377
 step 376
+step 381
+step 381
+step 381
+step 381
+step 381
 step 381
 step 378
 step 371
@@ -1890,25 +2706,60 @@ step 384
 step 384
 collect
 step 381
+step 381
+step 381
+step 381
 step 380
 begin 2 remove 626262626262626201
 finish 382
+step 383
+step 383
+step 383
+step 383
+step 383
+step 383
+step 384
+step 384
+step 384
+step 384
+step 384
+step 384
 begin 1 remove 616161616161616162626262626262620101
 step 383
 step 384
 step 386
 step 383
 step 383
+step 383
+step 383
+step 383
+step 383
+step 383
 step 385
 step 377
 step 384
 step 377
 step 377
 step 377
+step 377
+step 377
+step 377
+step 377
+step 386
+step 386
+step 386
+step 386
+step 386
 step 386
 step 385
 step 385
+step 385
+step 385
+step 385
 begin 2 remove 616161616161616102
+step 384
+step 384
+step 384
 step 384
 step 387
 begin 3 remove 62626262626262620202
@@ -1916,6 +2767,11 @@ step 383
 step 386
 step 377
 step 388
+step 386
+step 386
+step 386
+step 386
+step 386
 step 386
 step 388
 step 383
@@ -1929,35 +2785,78 @@ step 387
 step 380
 begin 1 remove 61616161616161610303
 step 388
+step 388
+step 388
+step 388
+step 387
+step 387
+step 387
+step 387
+step 387
+step 387
 begin 2 remove 626262626262626203
 step 391
 step 383
 step 390
 step 391
 step 383
+step 383
+step 383
+step 383
+step 383
+step 383
 step 390
 begin 3 remove 616161616161616162626262626262620303
 step 386
 advance
 step 386
+step 386
+step 386
+step 386
+step 386
+step 386
+step 386
 step 392
 step 387
 step 392
+step 387
+step 387
+step 387
 step 387
 step 387
 begin 1 remove 616161616161616162626262626262620303
-step 390
 step 389
 step 386
 step 386
 begin 3 tidy 616161616161616100
-step 392
 step 391
+step 391
+step 391
+step 391
+step 390
+step 390
+step 390
+step 390
+step 390
+step 390
+step 390
+step 392
+step 392
+step 392
+step 392
+step 392
+step 392
+step 392
 step 394
 begin 2 tidy 62626262626262620000
 step 393
 step 394
 feed 8 3
+step 393
+step 393
+step 393
+step 393
+step 393
 step 393
 finish 394
 step 395
@@ -1967,22 +2866,53 @@ begin 2 tidy 6161616161616161626262626262626200
 step 396
 step 389
 step 389
+step 389
+step 389
+step 389
+step 389
+step 389
 step 393
 step 389
-step 392
 step 395
-step 389
 begin 2 tidy 61616161616161610101
 step 397
 step 397
-step 389
-step 389
 step 397
-step 392
 step 396
 step 393
 step 396
 step 390
+step 390
+step 390
+step 390
+step 389
+step 389
+step 389
+step 389
+step 389
+step 389
+step 389
+step 389
+step 389
+step 389
+step 389
+step 389
+step 389
+step 389
+step 392
+step 392
+step 392
+step 392
+step 392
+step 392
+step 392
+step 392
+step 393
+step 393
+step 393
+step 393
+step 393
+step 393
 step 397
 step 392
 begin 2 tidy 62626262626262620202
@@ -2056,6 +2986,8 @@ begin 1 remove 626262626262626201
 step 410
 step 412
 step 412
+step 412
+step 412
 begin 1 remove 61616161616161610101
 step 414
 step 414
@@ -2072,10 +3004,14 @@ step 415
 step 415
 step 415
 step 414
+step 414
+step 414
 step 415
 step 410
 begin 1 tidy 616161616161616162626262626262620303
 feed 107 10
+step 415
+step 415
 step 415
 begin 2 remove 62626262626262620202
 step 401
@@ -2093,6 +3029,8 @@ step 416
 begin 3 remove 616161616161616162626262626262620303
 step 418
 step 419
+step 413
+step 413
 step 413
 begin 3 remove 62626262626262620000
 step 419
@@ -2124,10 +3062,14 @@ step 422
 feed 22 3
 feed 106 10
 step 420
+step 420
+step 420
 finish 424
 feed 105 1
 step 417
 begin 1 tidy 6161616161616161626262626262626200
+step 417
+step 417
 step 417
 finish 421
 finish 423
@@ -2139,6 +3081,8 @@ begin 2 tidy 626262626262626203
 step 422
 begin 2 tidy 62626262626262620202
 advance
+step 422
+step 422
 step 422
 begin 1 tidy 616161616161616100
 finish 427
@@ -2240,6 +3184,8 @@ finish 453
 step 458
 begin 3 put 61616161616161610101 0=e34e27
 step 458
+step 458
+step 458
 step 459
 step 456
 begin 3 put 626262626262626201 0=b7bc20
@@ -2260,32 +3206,79 @@ step 464
 step 463
 step 459
 step 461
-step 460
-step 460
-step 459
+step 461
+step 461
+step 461
+step 461
+step 461
 step 460
 step 461
-step 465
-step 460
-step 460
-step 460
 step 465
 step 461
 step 464
 step 463
-step 460
-step 460
-step 463
 begin 2 put 61616161616161610303 0=9bbf64b3
-step 465
-step 465
 step 466
-step 459
+step 461
 step 461
 step 459
-step 461
+step 459
+step 459
+step 459
+step 459
+step 459
+step 459
+step 459
+step 460
+step 460
+step 460
+step 460
+step 460
+step 460
+step 460
+step 460
+step 460
+step 460
+step 460
+step 460
+step 460
+step 460
+step 460
+step 460
+step 460
+step 460
 step 463
 step 463
+step 463
+step 463
+step 463
+step 463
+step 463
+step 463
+step 465
+step 465
+step 465
+step 465
+step 465
+step 465
+step 465
+step 465
+step 465
+step 465
+step 465
+step 465
+step 465
+step 465
+step 465
+step 465
+step 463
+step 463
+step 464
+step 464
+step 464
+step 464
+step 464
+step 464
 step 464
 step 464
 advance
@@ -2302,12 +3295,21 @@ step 461
 step 461
 step 461
 step 461
+step 461
+step 461
+step 461
 step 459
 step 464
 step 463
 feed 44 3
 step 465
 step 464
+step 466
+step 466
+step 466
+step 466
+step 466
+step 466
 step 466
 feed 107 3
 step 466
@@ -2330,6 +3332,12 @@ step 466
 step 466
 step 467
 step 467
+step 467
+step 467
+step 467
+step 467
+step 467
+step 467
 step 466
 step 463
 collect
@@ -2347,10 +3355,21 @@ step 465
 step 467
 step 465
 step 459
+step 459
+step 459
+step 459
+step 459
+step 459
+step 459
+step 459
 step 467
 step 467
 step 465
 step 466
+step 464
+step 464
+step 464
+step 464
 step 464
 step 464
 step 464
@@ -2368,11 +3387,21 @@ step 468
 step 467
 step 467
 step 467
+step 467
+step 467
+step 467
+step 467
+step 467
 step 468
 step 468
 step 467
 step 463
 step 467
+step 466
+step 466
+step 466
+step 466
+step 466
 step 466
 step 466
 step 466
@@ -2382,6 +3411,9 @@ step 459
 step 459
 step 459
 step 459
+step 465
+step 465
+step 465
 step 465
 step 469
 step 466
@@ -2394,6 +3426,18 @@ step 459
 step 463
 step 463
 step 463
+step 463
+step 463
+step 463
+step 463
+step 463
+step 463
+step 469
+step 469
+step 469
+step 469
+step 469
+step 469
 step 469
 step 468
 step 468
@@ -2424,6 +3468,10 @@ feed 15 1
 step 459
 step 459
 step 459
+step 459
+step 459
+step 459
+step 459
 step 473
 step 473
 step 473
@@ -2437,6 +3485,21 @@ step 473
 step 469
 step 470
 step 471
+step 471
+step 471
+step 471
+step 471
+step 471
+step 471
+step 469
+step 469
+step 469
+step 469
+step 469
+step 469
+step 469
+step 469
+step 469
 step 469
 step 473
 step 473
@@ -2457,15 +3520,34 @@ step 472
 step 472
 step 471
 step 459
+step 471
+step 471
+step 471
+step 471
+step 471
+step 471
+step 471
+step 471
 step 471
 begin 3 range 6161616161616161626262626262626200 1000 all
 step 473
 step 469
 step 470
+step 470
+step 470
+step 470
+step 470
+step 470
+step 470
 step 474
 step 474
 step 474
 step 471
+step 469
+step 469
+step 469
+step 469
+step 469
 step 469
 step 469
 step 469
@@ -2478,11 +3560,24 @@ feed 81 10
 step 475
 step 475
 step 475
+step 475
+step 475
+step 475
+step 475
+step 475
+step 475
 step 474
 step 474
 step 474
 step 474
 step 474
+step 475
+step 475
+step 475
+step 475
+step 475
+step 475
+step 475
 step 475
 step 475
 step 473
@@ -2490,6 +3585,14 @@ step 473
 step 473
 step 473
 feed 6 10
+step 470
+step 470
+step 470
+step 470
+step 470
+step 470
+step 470
+step 470
 step 470
 step 473
 step 475
@@ -2520,6 +3623,12 @@ step 472
 step 472
 step 472
 step 476
+step 476
+step 476
+step 476
+step 476
+step 476
+step 476
 finish 469
 finish 474
 begin 2 remove 61616161616161610303
@@ -2532,12 +3641,26 @@ begin 1 tidy 616161616161616162626262626262620101
 step 476
 step 473
 step 476
+step 476
+step 476
+step 476
+step 476
+step 476
+step 476
+step 476
+step 476
 begin 3 tidy 616161616161616102
 step 478
 finish 470
 finish 477
 begin 3 tidy 62626262626262620202
 begin 1 tidy 6161616161616161626262626262626202
+step 476
+step 476
+step 476
+step 476
+step 476
+step 476
 step 476
 step 476
 step 476
@@ -2650,6 +3773,12 @@ begin 3 tidy 616161616161616162626262626262620101
 finish 502
 apply 0
 step 498
+step 498
+step 498
+step 498
+step 498
+step 498
+step 498
 begin 1 remove 616161616161616102
 step 506
 finish 506
@@ -2672,6 +3801,12 @@ begin 1 remove 616161616161616162626262626262620101
 step 511
 begin 3 tidy 616161616161616162626262626262620101
 step 511
+step 511
+step 511
+step 511
+step 511
+step 511
+step 511
 begin 1 remove 616161616161616102
 step 512
 begin 3 tidy 616161616161616102
@@ -2689,6 +3824,12 @@ step 516
 step 515
 step 511
 step 515
+step 515
+step 515
+step 515
+step 515
+step 515
+step 515
 step 516
 finish 511
 begin 1 get 62626262626262620000 all
@@ -2697,12 +3838,24 @@ begin 2 tidy 61616161616161610303
 apply 0
 step 517
 step 513
+step 513
+step 513
+step 513
+step 513
+step 513
+step 513
 step 520
 apply 0
 step 520
 step 518
 step 516
 step 515
+step 517
+step 517
+step 517
+step 517
+step 517
+step 517
 step 517
 step 520
 step 520
@@ -2719,8 +3872,17 @@ step 522
 apply 0
 finish 521
 step 522
+step 522
+step 522
+step 522
+step 522
+step 522
+step 522
 begin 2 tidy 61616161616161610303
 finish 522
+step 513
+step 513
+step 513
 step 513
 step 513
 begin 2 remove 626262626262626203
@@ -2751,6 +3913,12 @@ step 528
 step 532
 collect
 step 532
+step 532
+step 532
+step 532
+step 532
+step 532
+step 532
 finish 531
 begin 3 tidy 62626262626262620202
 step 532
@@ -2758,14 +3926,35 @@ finish 533
 step 530
 step 529
 step 528
+step 528
+step 528
+step 528
+step 528
+step 528
+step 528
 step 532
 begin 2 remove 616161616161616162626262626262620303
 step 528
 step 532
+step 532
+step 532
+step 532
 begin 1 tidy 616161616161616162626262626262620303
 step 529
 step 526
+step 526
+step 526
+step 526
+step 526
+step 526
+step 526
 begin 3 remove 61616161616161610303
+step 530
+step 530
+step 530
+step 530
+step 530
+step 530
 step 530
 finish 536
 begin 3 tidy 61616161616161610303
@@ -2776,8 +3965,14 @@ step 530
 step 535
 step 528
 step 526
+step 526
+step 526
+step 526
 begin 1 remove 626262626262626203
 collect
+step 528
+step 528
+step 528
 step 528
 finish 538
 step 537
@@ -2798,6 +3993,9 @@ step 537
 step 539
 step 535
 step 530
+step 530
+step 530
+step 530
 step 537
 begin 1 remove 616161616161616162626262626262620101
 begin 2 tidy 616161616161616162626262626262620101
@@ -2806,6 +4004,12 @@ step 542
 finish 534
 begin 3 remove 6161616161616161626262626262626202
 advance
+step 541
+step 541
+step 541
+step 541
+step 541
+step 541
 step 541
 step 540
 step 540
@@ -2829,8 +4033,17 @@ step 541
 advance
 advance
 step 541
+step 541
+step 541
+step 541
 begin 1 remove 616161616161616100
 step 546
+step 545
+step 545
+step 545
+step 545
+step 545
+step 545
 step 545
 step 542
 step 539
@@ -2852,6 +4065,12 @@ begin 2 get 6161616161616161626262626262626200 all
 step 546
 collect
 step 539
+step 547
+step 547
+step 547
+step 547
+step 547
+step 547
 step 547
 feed 49 3
 step 539
@@ -2880,8 +4099,16 @@ step 553
 step 553
 step 546
 step 545
+step 545
+step 545
+step 545
 begin 2 remove 616161616161616162626262626262620101
 collect
+step 552
+step 552
+step 552
+step 552
+step 552
 step 552
 step 548
 step 551
@@ -2897,9 +4124,31 @@ step 552
 step 555
 step 551
 step 553
+step 553
+step 553
+step 553
+step 551
+step 551
+step 551
+step 551
+step 551
+step 551
+step 554
+step 554
+step 554
+step 554
+step 554
+step 554
+step 552
+step 552
 step 552
 finish 551
 begin 2 remove 6161616161616161626262626262626202
+step 555
+step 555
+step 555
+step 555
+step 555
 step 555
 drop 3
 step 554
@@ -2907,12 +4156,22 @@ begin 1 remove 61616161616161610303
 step 557
 begin 1 remove 626262626262626203
 step 557
+step 557
+step 557
+step 557
+step 557
+step 557
 finish 557
 step 558
 step 555
 begin 3 remove 616161616161616162626262626262620303
 step 559
 finish 555
+step 558
+step 558
+step 558
+step 558
+step 558
 step 558
 step 559
 begin 3 tidy 616161616161616100
@@ -2929,6 +4188,9 @@ finish 560
 begin 3 tidy 61616161616161610101
 step 564
 step 563
+step 556
+step 556
+step 556
 step 556
 step 556
 begin 1 range 6161616161616161626262626262626202 3 all
@@ -3041,6 +4303,11 @@ advance
 begin 1 put 616161616161616162626262626262620101 0=edca92
 feed 87 3
 step 590
+step 590
+step 590
+step 590
+step 590
+step 590
 begin 1 put 62626262626262620000 0=d4
 step 597
 finish 592
@@ -3050,6 +4317,12 @@ begin 1 put 62626262626262620202 0=1cf83b
 step 598
 finish 599
 begin 2 put 6161616161616161626262626262626202 0=f0
+step 598
+step 598
+step 598
+step 598
+step 598
+step 598
 step 598
 advance
 advance
@@ -3061,7 +4334,25 @@ finish 601
 begin 2 put 626262626262626203 0=-
 step 602
 step 593
+step 593
+step 593
+step 593
+step 593
+step 593
+step 593
 step 596
+step 596
+step 596
+step 596
+step 596
+step 596
+step 596
+step 602
+step 602
+step 602
+step 602
+step 602
+step 602
 step 602
 step 600
 step 598
@@ -3078,12 +4369,33 @@ begin 2 remove 6161616161616161626262626262626200
 step 596
 finish 590
 step 596
+step 596
+step 596
+step 596
+step 596
+step 596
+step 596
+step 596
+step 596
+step 596
 finish 604
 begin 1 remove 61616161616161610101
 begin 1 remove 626262626262626201
 step 606
 step 605
 step 605
+step 605
+step 605
+step 605
+step 605
+step 605
+step 605
+step 606
+step 606
+step 606
+step 606
+step 606
+step 606
 step 606
 finish 606
 begin 3 remove 616161616161616162626262626262620101
@@ -3099,7 +4411,25 @@ collect
 finish 609
 begin 1 remove 616161616161616102
 step 603
+step 603
+step 603
+step 603
+step 603
+step 603
+step 603
 step 608
+step 608
+step 608
+step 608
+step 608
+step 608
+step 608
+step 607
+step 607
+step 607
+step 607
+step 607
+step 607
 step 607
 step 607
 finish 607
@@ -3116,11 +4446,30 @@ begin 3 remove 6161616161616161626262626262626202
 step 613
 step 603
 step 603
+step 603
+step 603
+step 603
+step 603
+step 603
+step 603
+step 603
 step 612
 step 614
 step 613
 step 611
 step 608
+step 608
+step 608
+step 608
+step 608
+step 608
+step 608
+step 614
+step 614
+step 614
+step 614
+step 614
+step 614
 step 614
 step 613
 step 613
@@ -3129,8 +4478,27 @@ step 613
 step 613
 step 613
 step 612
+step 612
+step 612
+step 612
+step 612
+step 612
+step 612
 step 614
 step 614
+step 614
+step 614
+step 614
+step 614
+step 614
+step 614
+step 614
+step 611
+step 611
+step 611
+step 611
+step 611
+step 611
 step 611
 step 614
 collect
@@ -3156,6 +4524,10 @@ begin 1 remove 61616161616161610303
 step 603
 step 603
 step 603
+step 603
+step 603
+step 603
+step 603
 step 613
 step 613
 step 613
@@ -3165,6 +4537,12 @@ step 613
 step 614
 step 614
 step 615
+step 611
+step 611
+step 611
+step 611
+step 611
+step 611
 step 611
 step 612
 step 611
@@ -3176,6 +4554,17 @@ step 614
 step 603
 begin 1 remove 616161616161616162626262626262620303
 step 615
+step 615
+step 615
+step 615
+step 615
+step 615
+step 615
+step 612
+step 612
+step 612
+step 612
+step 612
 step 612
 step 613
 step 613
@@ -3184,12 +4573,24 @@ step 613
 step 617
 step 614
 step 617
+step 617
+step 617
+step 617
+step 617
+step 617
+step 617
 step 613
 step 613
 step 613
 step 613
 step 613
 step 613
+step 614
+step 614
+step 614
+step 614
+step 614
+step 614
 step 614
 step 614
 step 612
@@ -3203,6 +4604,17 @@ step 612
 feed 36 1
 begin 3 tidy 616161616161616100
 step 616
+step 616
+step 616
+step 616
+step 616
+step 616
+step 616
+step 615
+step 615
+step 615
+step 615
+step 615
 step 615
 step 613
 step 617
@@ -3217,6 +4629,12 @@ step 613
 step 613
 step 613
 step 615
+step 617
+step 617
+step 617
+step 617
+step 617
+step 617
 step 619
 step 619
 begin 3 tidy 62626262626262620000
@@ -3274,6 +4692,9 @@ step 625
 step 625
 step 625
 step 625
+step 625
+step 625
+step 625
 step 627
 begin 3 tidy 61616161616161610303
 step 628
@@ -3304,6 +4725,12 @@ advance
 begin 1 tidy 616161616161616162626262626262620303
 step 635
 step 636
+step 636
+step 636
+step 636
+step 636
+step 636
+step 636
 apply 4
 step 636
 step 629
@@ -3313,6 +4740,11 @@ step 629
 step 626
 begin 1 remove 6161616161616161626262626262626202
 step 637
+step 636
+step 636
+step 636
+step 636
+step 636
 step 636
 finish 635
 step 636
@@ -3329,6 +4761,12 @@ step 641
 finish 637
 finish 639
 step 641
+step 641
+step 641
+step 641
+step 641
+step 641
+step 641
 finish 638
 finish 636
 begin 2 remove 62626262626262620000
@@ -3340,6 +4778,11 @@ step 642
 drop 4
 feed 49 1
 begin 3 remove 616161616161616100
+step 642
+step 642
+step 642
+step 642
+step 642
 step 642
 finish 643
 begin 1 remove 626262626262626201
@@ -3358,6 +4801,13 @@ begin 2 remove 626262626262626203
 step 648
 begin 1 remove 61616161616161610303
 step 646
+step 646
+step 646
+step 646
+step 646
+step 646
+step 641
+step 641
 step 641
 step 649
 step 644
@@ -3368,23 +4818,40 @@ feed 68 10
 step 644
 step 647
 step 646
-step 649
-step 649
 step 647
 step 648
 step 650
 step 650
-step 647
 step 648
 step 644
 step 648
 step 648
 step 646
+step 647
+step 647
+step 647
+step 647
+step 647
+step 647
+step 647
+step 649
+step 649
+step 649
+step 649
+step 649
+step 649
+step 649
+step 649
 step 644
 step 648
 begin 2 tidy 6161616161616161626262626262626200
 step 650
 step 649
+step 649
+step 649
+step 644
+step 644
+step 644
 step 644
 begin 1 tidy 616161616161616162626262626262620101
 begin 3 tidy 616161616161616102
@@ -3392,6 +4859,9 @@ advance
 step 648
 collect
 step 650
+step 648
+step 648
+step 648
 step 648
 begin 3 tidy 62626262626262620000
 step 651
@@ -3586,6 +5056,8 @@ step 710
 step 712
 advance
 step 709
+step 709
+step 709
 step 706
 begin 2 remove 6161616161616161626262626262626200
 step 701
@@ -3623,6 +5095,8 @@ step 711
 feed 53 10
 begin 1 remove 616161616161616162626262626262620101
 step 711
+step 711
+step 711
 begin 3 tidy 616161616161616162626262626262620101
 begin 1 remove 616161616161616102
 step 720
@@ -3639,6 +5113,8 @@ collect
 step 724
 begin 2 remove 6161616161616161626262626262626202
 step 720
+step 720
+step 720
 step 725
 begin 3 tidy 6161616161616161626262626262626202
 step 723
@@ -3648,6 +5124,8 @@ feed 147 3
 step 724
 step 723
 step 726
+step 724
+step 724
 step 724
 begin 2 tidy 61616161616161610303
 begin 2 remove 626262626262626203
@@ -3675,6 +5153,8 @@ step 733
 step 732
 step 735
 step 730
+step 730
+step 730
 begin 1 tidy 616161616161616162626262626262620303
 finish 736
 step 733
@@ -3687,6 +5167,8 @@ step 737
 begin 2 tidy 626262626262626203
 step 732
 step 739
+step 735
+step 735
 step 735
 step 731
 step 739
@@ -3713,6 +5195,9 @@ begin 1 remove 626262626262626203
 step 741
 step 741
 step 740
+step 740
+step 740
+step 740
 step 744
 finish 740
 step 745
@@ -3720,6 +5205,11 @@ begin 3 remove 616161616161616162626262626262620303
 finish 734
 begin 1 tidy 626262626262626203
 advance
+step 741
+step 741
+step 741
+step 741
+step 741
 step 741
 step 741
 step 746
@@ -3745,8 +5235,25 @@ advance
 step 749
 finish 741
 step 746
+step 746
+step 746
+step 746
+step 746
+step 746
+step 746
 begin 3 tidy 626262626262626203
 step 744
+step 744
+step 744
+step 744
+step 744
+step 744
+step 744
+step 743
+step 743
+step 743
+step 743
+step 743
 step 743
 step 743
 step 744
@@ -3757,6 +5264,12 @@ finish 746
 begin 3 tidy 616161616161616162626262626262620303
 collect
 begin 2 tidy 626262626262626203
+step 745
+step 745
+step 745
+step 745
+step 745
+step 745
 step 745
 step 749
 finish 749
@@ -3782,11 +5295,22 @@ step 754
 step 745
 step 752
 step 745
+step 745
+step 745
+step 745
+step 745
+step 745
 step 756
 step 754
 step 750
 step 754
 begin 1 put 62626262626262620000 0=d3821b86
+step 756
+step 756
+step 756
+step 756
+step 756
+step 756
 step 756
 step 756
 step 750
@@ -3805,6 +5329,18 @@ begin 1 put 626262626262626201 0=94f196e7
 feed 157 3
 step 751
 step 758
+step 758
+step 758
+step 758
+step 758
+step 758
+step 758
+step 759
+step 759
+step 759
+step 759
+step 759
+step 759
 step 759
 step 759
 finish 756
@@ -3815,23 +5351,57 @@ step 761
 step 758
 step 760
 step 761
+step 761
+step 761
+step 761
+step 761
+step 761
+step 761
 collect
 step 761
 step 758
 advance
 step 751
 step 760
-step 758
+step 760
+step 760
+step 760
+step 760
+step 760
+step 760
 step 761
 feed 104 3
 step 760
-step 761
 collect
 finish 759
+step 758
+step 758
+step 758
+step 758
+step 758
+step 758
+step 758
+step 758
+step 758
+step 758
+step 761
+step 761
+step 761
+step 761
+step 761
+step 761
+step 761
+step 761
+step 761
+step 761
 begin 2 put 62626262626262620000 0=bc3a
 step 758
 step 762
 advance
+step 758
+step 758
+step 758
+step 758
 step 758
 step 758
 step 758
@@ -3842,19 +5412,51 @@ begin 3 put 616161616161616102 0=3b5ebb99
 step 760
 step 763
 step 762
+step 762
+step 762
+step 762
+step 762
+step 762
+step 762
 step 758
 step 757
+step 757
+step 757
+step 757
+step 757
+step 757
+step 757
 step 758
+step 760
+step 760
+step 760
 step 760
 step 760
 step 760
 begin 1 put 62626262626262620202 0=-
 step 761
 step 763
+step 763
+step 763
+step 763
+step 763
+step 763
+step 763
 step 757
 step 761
 step 761
 step 761
+step 761
+step 761
+step 761
+step 761
+step 761
+step 763
+step 763
+step 763
+step 763
+step 763
+step 763
 step 763
 step 763
 step 763
@@ -3864,6 +5466,12 @@ step 762
 step 761
 step 764
 step 763
+step 764
+step 764
+step 764
+step 764
+step 764
+step 764
 step 764
 advance
 step 764
@@ -3878,6 +5486,12 @@ feed 124 1
 step 757
 step 757
 step 765
+step 765
+step 765
+step 765
+step 765
+step 765
+step 765
 feed 109 1
 step 760
 step 765
@@ -3890,12 +5504,37 @@ step 766
 step 757
 step 757
 step 766
+step 766
+step 766
+step 766
+step 766
+step 766
+step 766
+step 764
+step 764
+step 764
+step 764
+step 764
 step 764
 step 763
+step 765
+step 765
+step 765
+step 765
+step 765
+step 765
+step 765
+step 765
+step 765
+step 765
 step 764
 step 766
 finish 764
 feed 87 3
+step 762
+step 762
+step 762
+step 762
 step 762
 step 762
 step 762
@@ -3906,16 +5545,43 @@ step 767
 step 765
 step 765
 step 765
+step 765
+step 765
+step 765
+step 765
+step 765
+step 765
+step 765
 begin 3 put 616161616161616162626262626262620303 0=777681
+step 767
+step 767
+step 767
+step 767
+step 767
+step 767
 step 767
 step 762
 step 766
 advance
 step 766
 step 766
+step 766
+step 766
+step 766
+step 766
+step 766
+step 766
+step 766
+step 766
 step 757
 step 768
 step 757
+step 768
+step 768
+step 768
+step 768
+step 768
+step 768
 step 768
 step 765
 step 766
@@ -3928,8 +5594,23 @@ step 769
 step 768
 step 767
 step 769
+step 769
+step 769
+step 769
+step 769
+step 769
+step 769
 step 757
 step 762
+step 768
+step 768
+step 768
+step 768
+step 768
+step 768
+step 768
+step 768
+step 768
 step 768
 begin 3 remove 616161616161616102
 advance
@@ -3944,9 +5625,20 @@ step 772
 step 767
 step 767
 step 767
+step 767
+step 767
+step 767
+step 767
+step 767
 advance
 step 767
 step 757
+step 768
+step 768
+step 768
+step 768
+step 768
+step 768
 step 768
 step 768
 step 767
@@ -3956,19 +5648,73 @@ begin 1 remove 626262626262626201
 begin 3 remove 616161616161616162626262626262620101
 step 774
 step 770
+step 770
+step 770
+step 770
+step 770
+step 770
+step 770
 step 774
 step 774
+step 774
+step 774
+step 774
+step 774
+step 774
+step 774
+step 772
+step 772
+step 772
+step 772
+step 772
+step 772
 step 772
 step 773
 step 770
 step 772
+step 774
+step 774
+step 774
+step 774
+step 774
+step 774
+step 774
+step 774
+step 774
 step 774
 collect
 step 757
+step 757
+step 757
+step 757
+step 757
+step 757
+step 757
+step 757
+step 773
+step 773
+step 773
+step 773
+step 773
+step 773
 step 773
 step 770
 step 771
+step 771
+step 771
+step 771
+step 771
+step 771
+step 771
 step 774
+step 770
+step 770
+step 770
+step 770
+step 770
+step 770
+step 770
+step 770
 step 770
 step 772
 feed 27 3
@@ -3995,14 +5741,33 @@ begin 1 tidy 616161616161616102
 step 772
 step 771
 step 771
+step 771
+step 771
+step 771
+step 771
+step 771
+step 771
 feed 149 1
 begin 1 tidy 62626262626262620202
 step 775
 step 777
 step 774
+step 774
+step 774
+step 774
+step 774
+step 774
+step 774
 step 773
 step 774
 step 777
+step 772
+step 772
+step 772
+step 772
+step 772
+step 772
+step 772
 step 772
 step 775
 step 773
@@ -4040,6 +5805,12 @@ step 777
 begin 1 tidy 6161616161616161626262626262626202
 step 781
 step 775
+step 773
+step 773
+step 773
+step 773
+step 773
+step 773
 step 773
 begin 2 tidy 616161616161616102
 feed 79 3
@@ -4135,6 +5906,12 @@ step 797
 finish 795
 begin 3 remove 62626262626262620202
 step 797
+step 797
+step 797
+step 797
+step 797
+step 797
+step 797
 finish 793
 finish 796
 step 797
@@ -4145,6 +5922,18 @@ step 798
 begin 3 remove 61616161616161610303
 step 800
 step 800
+step 800
+step 800
+step 800
+step 800
+step 800
+step 800
+step 798
+step 798
+step 798
+step 798
+step 798
+step 798
 step 798
 begin 3 tidy 616161616161616162626262626262620101
 step 801
@@ -4154,8 +5943,26 @@ feed 2 1
 step 792
 step 800
 step 800
+step 800
+step 800
+step 800
+step 800
+step 800
+step 800
+step 800
+step 797
+step 797
+step 797
+step 797
+step 797
+step 797
+step 797
 step 797
 feed 101 10
+step 800
+step 800
+step 800
+step 800
 step 800
 step 800
 step 800
@@ -4186,8 +5993,20 @@ begin 3 get 6161616161616161626262626262626202 all
 step 809
 step 803
 step 809
+step 809
+step 809
+step 809
+step 809
+step 809
+step 809
 begin 3 remove 61616161616161610101
 step 811
+step 807
+step 807
+step 807
+step 807
+step 807
+step 807
 step 807
 finish 808
 begin 1 remove 626262626262626201
@@ -4195,11 +6014,29 @@ step 812
 step 810
 step 810
 step 811
+step 811
+step 811
+step 811
+step 811
+step 811
+step 811
 step 807
 step 803
 finish 810
 step 807
 step 812
+step 812
+step 812
+step 812
+step 812
+step 812
+step 812
+step 807
+step 807
+step 807
+step 807
+step 807
+step 807
 step 807
 step 811
 feed 39 1
@@ -4210,19 +6047,41 @@ step 811
 step 812
 step 813
 step 813
+step 813
+step 813
+step 813
+step 813
+step 813
+step 813
 step 809
 step 807
+step 812
+step 812
+step 812
 step 812
 step 811
 begin 1 remove 616161616161616102
 step 811
 step 813
 step 813
-step 813
 step 807
+step 813
+step 813
+step 813
+step 813
+step 813
+step 813
+step 813
+step 813
 step 803
 step 811
 begin 1 remove 62626262626262620202
+step 814
+step 814
+step 814
+step 814
+step 814
+step 814
 step 814
 step 814
 step 803
@@ -4231,18 +6090,50 @@ advance
 step 815
 step 815
 step 815
+step 815
+step 815
+step 815
+step 815
+step 815
+step 815
 feed 125 3
 step 816
 step 816
+step 816
+step 816
+step 816
+step 816
+step 816
+step 816
 step 809
+step 811
+step 811
+step 811
+step 811
+step 811
 step 811
 feed 59 3
 step 811
-step 809
 finish 811
+step 809
+step 809
+step 809
+step 809
+step 809
+step 809
+step 809
 begin 1 remove 61616161616161610303
 step 813
 step 813
+step 813
+step 813
+step 813
+step 813
+step 816
+step 816
+step 816
+step 816
+step 816
 step 816
 step 816
 finish 816
@@ -4258,6 +6149,11 @@ step 818
 finish 818
 finish 821
 step 819
+step 819
+step 819
+step 819
+step 819
+step 819
 finish 819
 step 817
 begin 2 tidy 6161616161616161626262626262626200
@@ -4266,6 +6162,11 @@ begin 3 tidy 61616161616161610101
 begin 1 tidy 626262626262626201
 step 822
 step 824
+step 817
+step 817
+step 817
+step 817
+step 817
 step 817
 step 823
 step 823
@@ -4305,6 +6206,8 @@ step 834
 step 834
 begin 2 remove 61616161616161610303
 step 835
+step 834
+step 834
 step 834
 begin 2 remove 626262626262626203
 step 827
@@ -4350,6 +6253,8 @@ step 846
 step 846
 step 846
 step 846
+step 837
+step 837
 step 837
 begin 3 tidy 616161616161616162626262626262620303
 step 843
@@ -4447,6 +6352,11 @@ step 871
 apply 0
 step 870
 step 866
+step 866
+step 866
+step 866
+step 866
+step 866
 step 868
 step 871
 step 864
@@ -4476,15 +6386,52 @@ advance
 begin 3 put 626262626262626201 0=03
 step 868
 step 871
-step 873
+step 871
+step 871
+step 871
+step 871
+step 871
 step 873
 finish 871
+step 868
+step 868
+step 868
+step 868
+step 868
+step 868
+step 868
+step 873
+step 873
+step 873
+step 873
+step 873
+step 873
+step 873
+step 873
 begin 2 put 616161616161616162626262626262620101 0=d37bce
 step 873
 step 875
 step 875
+step 875
+step 875
+step 875
+step 875
+step 875
+step 875
 step 868
 step 870
+step 870
+step 870
+step 870
+step 870
+step 870
+step 870
+step 872
+step 872
+step 872
+step 872
+step 872
+step 872
 step 872
 step 868
 step 875
@@ -4509,11 +6456,37 @@ begin 3 put 616161616161616102 0=-
 finish 875
 begin 1 put 62626262626262620202 0=f06aa7
 step 872
+step 872
+step 872
+step 872
+step 872
+step 872
+step 872
+step 872
+step 874
+step 874
+step 874
+step 874
+step 874
+step 874
 step 874
 step 877
 step 872
 step 868
+step 868
+step 868
+step 868
+step 868
+step 868
+step 868
+step 868
 step 872
+step 877
+step 877
+step 877
+step 877
+step 877
+step 877
 step 877
 finish 872
 begin 3 put 6161616161616161626262626262626202 0=fd
@@ -4525,8 +6498,18 @@ finish 876
 step 874
 begin 1 put 61616161616161610303 0=a3414022
 step 878
+step 878
+step 878
+step 878
+step 878
+step 878
+step 878
 step 877
 step 877
+step 874
+step 874
+step 874
+step 874
 step 874
 step 874
 step 874
@@ -4539,21 +6522,48 @@ step 877
 step 870
 step 870
 step 870
+step 870
+step 870
+step 870
+step 870
+step 870
+step 870
 step 868
 step 868
 step 868
 step 868
-step 878
+step 868
+step 868
+step 868
+step 868
+step 868
+step 879
+step 879
+step 879
+step 879
+step 879
+step 879
 step 879
 step 877
-step 878
 step 874
 begin 2 put 626262626262626203 0=8ffd
 step 870
 step 877
 step 868
-step 878
 step 870
+step 878
+step 878
+step 878
+step 878
+step 878
+step 878
+step 878
+step 878
+step 878
+step 878
+step 878
+step 878
+step 878
 step 878
 step 879
 begin 1 put 616161616161616162626262626262620303 0=e2ae61
@@ -4562,11 +6572,36 @@ step 868
 step 881
 begin 2 remove 62626262626262620000
 step 881
+step 881
+step 881
+step 881
+step 881
+step 881
+step 881
 step 882
+step 879
+step 879
+step 879
+step 879
+step 879
+step 879
+step 879
+step 879
 step 879
 step 877
 step 877
 step 877
+step 877
+step 877
+step 877
+step 877
+step 877
+step 882
+step 882
+step 882
+step 882
+step 882
+step 882
 step 882
 step 877
 step 879
@@ -4579,6 +6614,19 @@ begin 2 remove 616161616161616162626262626262620303
 step 880
 begin 1 remove 616161616161616102
 step 878
+step 878
+step 878
+step 878
+step 878
+step 878
+step 878
+step 878
+step 880
+step 880
+step 880
+step 880
+step 880
+step 880
 step 880
 step 878
 step 878
@@ -4591,18 +6639,66 @@ begin 2 remove 6161616161616161626262626262626202
 finish 886
 begin 2 remove 626262626262626201
 step 883
+step 883
+step 883
+step 883
+step 883
+step 883
+step 883
 step 882
+step 881
+step 881
+step 881
+step 881
+step 881
+step 881
+step 881
+step 881
+step 881
 step 881
 step 883
 step 884
 step 882
+step 882
+step 882
+step 882
+step 882
+step 882
+step 882
 step 887
+step 883
+step 883
+step 883
+step 883
+step 883
+step 883
+step 883
+step 883
+step 883
 step 883
 step 883
 step 880
 step 880
 step 884
+step 884
+step 884
+step 884
+step 884
+step 884
+step 884
 step 887
+step 887
+step 887
+step 887
+step 887
+step 887
+step 887
+step 883
+step 883
+step 883
+step 883
+step 883
+step 883
 step 883
 step 883
 step 881
@@ -4614,6 +6710,14 @@ step 887
 step 880
 step 884
 step 881
+step 884
+step 884
+step 884
+step 884
+step 884
+step 884
+step 884
+step 884
 step 884
 step 880
 feed 135 1
@@ -4637,9 +6741,24 @@ step 881
 step 881
 step 881
 step 881
+step 881
+step 881
+step 881
+step 881
 step 889
 step 889
 step 889
+step 889
+step 889
+step 889
+step 889
+step 889
+step 889
+step 887
+step 887
+step 887
+step 887
+step 887
 step 887
 step 889
 step 888
@@ -4650,6 +6769,12 @@ begin 3 get 616161616161616162626262626262620101 all
 step 887
 collect
 begin 1 remove 61616161616161610303
+step 888
+step 888
+step 888
+step 888
+step 888
+step 888
 step 888
 step 881
 begin 2 remove 61616161616161610101
@@ -4668,20 +6793,52 @@ step 880
 step 890
 step 894
 step 894
+step 894
+step 894
+step 894
+step 894
+step 894
+step 894
+step 891
+step 891
+step 891
+step 891
+step 891
+step 891
 step 891
 step 891
 collect
 step 880
 step 880
 step 880
+step 880
+step 880
 step 891
+step 893
+step 893
+step 893
+step 893
+step 893
+step 893
 step 893
 step 890
 step 890
 step 890
 step 890
 step 892
+step 892
+step 892
+step 892
+step 892
+step 892
+step 892
 step 894
+step 891
+step 891
+step 891
+step 891
+step 891
+step 891
 step 891
 step 891
 step 894
@@ -4693,10 +6850,24 @@ step 892
 step 890
 step 890
 step 890
-step 894
 step 893
 step 891
 step 891
+step 893
+step 893
+step 893
+step 893
+step 893
+step 893
+step 893
+step 894
+step 894
+step 894
+step 894
+step 894
+step 894
+step 894
+step 894
 begin 3 tidy 62626262626262620000
 step 893
 step 892
@@ -4717,6 +6888,12 @@ step 890
 step 890
 begin 2 tidy 616161616161616162626262626262620303
 step 893
+step 893
+step 893
+step 893
+step 893
+step 893
+step 893
 step 895
 step 896
 step 896
@@ -4725,6 +6902,11 @@ step 880
 step 894
 step 893
 begin 3 tidy 616161616161616102
+step 892
+step 892
+step 892
+step 892
+step 892
 step 892
 step 897
 step 894
@@ -4799,6 +6981,11 @@ step 907
 step 907
 step 904
 step 908
+step 894
+step 894
+step 894
+step 894
+step 894
 step 894
 finish 894
 begin 3 tidy 626262626262626203
@@ -4974,15 +7161,39 @@ advance
 finish 948
 step 946
 step 946
+step 946
+step 946
+step 946
+step 946
+step 946
+step 946
 begin 1 remove 62626262626262620202
 finish 943
 begin 2 remove 6161616161616161626262626262626202
 step 952
 finish 953
 step 949
+step 949
+step 949
+step 949
+step 949
+step 949
+step 949
 step 951
 begin 2 remove 61616161616161610303
 step 952
+step 952
+step 952
+step 952
+step 952
+step 952
+step 952
+step 951
+step 951
+step 951
+step 951
+step 951
+step 951
 step 951
 finish 951
 step 950
@@ -5018,6 +7229,15 @@ step 950
 step 957
 begin 1 tidy 61616161616161610101
 step 946
+step 946
+step 946
+step 946
+step 950
+step 950
+step 950
+step 950
+step 950
+step 950
 begin 3 tidy 626262626262626201
 begin 3 tidy 616161616161616162626262626262620101
 begin 3 tidy 616161616161616102
@@ -5067,6 +7287,10 @@ step 975
 step 975
 begin 2 tidy 616161616161616102
 step 975
+step 975
+step 975
+step 975
+step 975
 finish 968
 step 970
 begin 2 remove 616161616161616162626262626262620101
@@ -5087,6 +7311,10 @@ step 972
 begin 3 put 616161616161616162626262626262620303 0=a1
 step 976
 step 980
+step 979
+step 979
+step 979
+step 979
 step 979
 step 976
 begin 1 tidy 61616161616161610303
@@ -5135,6 +7363,9 @@ step 984
 step 984
 step 982
 step 986
+step 986
+step 986
+step 986
 begin 1 tidy 616161616161616100
 step 989
 feed 47 1
@@ -5157,14 +7388,25 @@ begin 2 put 616161616161616100 0=22e4e966
 begin 1 tidy 62626262626262620000
 step 991
 step 984
+step 984
+step 984
+step 984
 begin 1 remove 6161616161616161626262626262626202
 step 994
 step 982
 step 994
 step 982
+step 982
+step 982
+step 982
+step 982
 finish 991
 step 994
 begin 3 tidy 6161616161616161626262626262626202
+step 994
+step 994
+step 994
+step 994
 step 994
 step 992
 begin 1 remove 626262626262626203
@@ -5177,6 +7419,10 @@ finish 996
 begin 3 put 6161616161616161626262626262626202 0=286124
 step 988
 step 988
+step 988
+step 988
+step 988
+step 988
 begin 2 put 616161616161616162626262626262620303 0=-
 step 995
 step 1000
@@ -5185,6 +7431,10 @@ step 997
 begin 2 put 616161616161616162626262626262620101 0=6e
 step 999
 step 1001
+step 1000
+step 1000
+step 1000
+step 1000
 step 1000
 step 1000
 step 998
@@ -5206,6 +7456,10 @@ begin 1 put 6161616161616161626262626262626200 0=a60b
 step 992
 step 1001
 step 1001
+step 1001
+step 1001
+step 1001
+step 1001
 step 1003
 step 999
 step 1003
@@ -5215,11 +7469,33 @@ step 1001
 step 1001
 step 998
 step 1003
+finish 1001
+step 998
+step 998
+step 998
+step 998
+step 998
+step 998
 step 998
 step 1003
-finish 1001
+step 1003
+step 1003
+step 1003
+step 1003
+step 1003
+step 1003
+step 1003
+step 1003
+step 1003
+step 1003
+step 1003
 step 1003
 begin 1 put 62626262626262620202 0=-
+step 998
+step 998
+step 998
+step 998
+step 998
 step 998
 step 1003
 finish 992
@@ -5228,6 +7504,15 @@ step 1003
 step 1003
 step 1003
 step 1003
+step 1003
+step 1003
+step 1003
+step 1003
+step 999
+step 999
+step 999
+step 999
+step 999
 step 999
 step 1003
 step 1002
@@ -5242,11 +7527,22 @@ step 1004
 finish 1002
 advance
 step 999
+step 999
+step 999
+step 999
+step 999
+step 999
+step 999
 begin 1 put 61616161616161610303 0=65e207
 begin 1 put 626262626262626203 0=3ffa57
 step 1005
 step 999
 step 1004
+step 998
+step 998
+step 998
+step 998
+step 998
 step 998
 step 998
 step 998
@@ -5257,6 +7553,11 @@ step 1006
 step 1007
 step 1007
 step 1007
+step 1004
+step 1004
+step 1004
+step 1004
+step 1004
 step 1004
 step 998
 collect
@@ -5276,18 +7577,57 @@ advance
 begin 2 put 61616161616161610101 0=-
 step 1005
 step 1008
-step 1007
 advance
-step 1006
 step 999
-step 1006
-step 1007
-step 1005
+step 999
+step 999
+step 999
+step 999
+step 999
+step 999
+step 999
 collect
 step 1008
 step 999
 step 1004
+step 1005
+step 1005
+step 1005
+step 1005
+step 1005
+step 1005
+step 1005
+step 1005
+step 1006
+step 1006
+step 1006
+step 1006
+step 1006
+step 1006
+step 1006
+step 1006
+step 1006
+step 1007
+step 1007
+step 1007
+step 1007
+step 1007
+step 1007
+step 1007
+step 1007
+step 1007
+step 1008
+step 1008
+step 1008
+step 1008
+step 1008
+step 1008
+step 1008
 step 1004
+step 1006
+step 1006
+step 1006
+step 1006
 step 1006
 step 1006
 step 1006
@@ -5298,6 +7638,9 @@ step 1008
 step 1008
 step 1006
 step 1005
+step 1007
+step 1007
+step 1007
 step 1007
 step 1007
 step 1007
@@ -5312,11 +7655,23 @@ step 1011
 step 1010
 finish 1005
 step 1010
+step 1010
+step 1010
+step 1010
+step 1010
+step 1010
+step 1010
 begin 2 remove 62626262626262620000
 step 1009
 step 1004
 finish 1004
 step 1008
+step 1009
+step 1009
+step 1009
+step 1009
+step 1009
+step 1009
 step 1009
 begin 2 tidy 62626262626262620000
 advance
@@ -5324,11 +7679,24 @@ step 1012
 step 1013
 step 1011
 step 1012
+step 1012
+step 1012
+step 1012
+step 1012
+step 1012
+step 1012
 step 1011
 step 1013
 step 1009
 step 1011
 begin 2 remove 6161616161616161626262626262626200
+step 1008
+step 1008
+step 1008
+step 1008
+step 1008
+step 1008
+step 1008
 step 1008
 step 1012
 step 1014
@@ -5338,9 +7706,20 @@ step 1013
 step 1010
 step 1008
 step 1012
+step 1012
+step 1012
+step 1012
+step 1012
+step 1012
 begin 1 tidy 6161616161616161626262626262626200
 step 1010
 step 1015
+step 1014
+step 1014
+step 1014
+step 1014
+step 1014
+step 1014
 step 1014
 step 1013
 begin 2 remove 626262626262626201
@@ -5358,6 +7737,15 @@ step 1010
 step 1009
 feed 226 1
 finish 1008
+step 1014
+step 1014
+step 1014
+step 1014
+step 1014
+step 1014
+step 1014
+step 1014
+step 1014
 begin 3 tidy 626262626262626201
 step 1015
 step 1014
@@ -5366,9 +7754,22 @@ step 1015
 advance
 step 1014
 step 1016
+step 1016
+step 1016
+step 1016
+step 1016
+step 1016
+step 1016
 begin 2 remove 616161616161616102
 step 1009
 step 1017
+step 1014
+step 1014
+step 1014
+step 1014
+step 1014
+step 1014
+step 1014
 step 1014
 advance
 step 1017
@@ -5382,9 +7783,26 @@ begin 2 tidy 616161616161616102
 step 1009
 step 1009
 step 1009
+step 1009
+step 1009
+step 1009
+step 1009
+step 1009
+step 1016
+step 1016
+step 1016
+step 1016
+step 1016
+step 1016
 step 1016
 step 1019
 step 1019
+step 1018
+step 1018
+step 1018
+step 1018
+step 1018
+step 1018
 step 1018
 step 1018
 step 1015
@@ -5398,6 +7816,12 @@ begin 2 tidy 62626262626262620202
 feed 65 10
 step 1018
 step 1021
+step 1020
+step 1020
+step 1020
+step 1020
+step 1020
+step 1020
 step 1020
 step 1016
 step 1021
@@ -5428,8 +7852,20 @@ begin 3 tidy 61616161616161610101
 collect
 step 1024
 step 1022
+step 1022
+step 1022
+step 1022
+step 1022
+step 1022
+step 1022
 step 1020
 step 1016
+step 1024
+step 1024
+step 1024
+step 1024
+step 1024
+step 1024
 step 1024
 step 1025
 begin 3 remove 616161616161616162626262626262620303
@@ -5441,6 +7877,12 @@ finish 1018
 begin 2 tidy 616161616161616162626262626262620303
 step 1024
 step 1024
+step 1024
+step 1024
+step 1024
+step 1024
+step 1024
+step 1024
 step 1020
 step 1027
 step 1025
@@ -5450,8 +7892,19 @@ step 1022
 step 1026
 step 1020
 step 1020
+step 1020
+step 1020
+step 1020
+step 1020
+step 1020
 feed 116 10
 step 1027
+step 1028
+step 1028
+step 1028
+step 1028
+step 1028
+step 1028
 step 1028
 step 1028
 step 1024
@@ -5459,25 +7912,50 @@ step 1027
 step 1028
 step 1028
 step 1026
+step 1026
+step 1026
+step 1026
+step 1026
+step 1026
+step 1026
 step 1027
-step 1028
 feed 34 1
 step 1027
 step 1022
 step 1020
 step 1026
-step 1028
 step 1022
 step 1026
 begin 3 tidy 6161616161616161626262626262626202
-step 1026
 advance
-step 1028
 step 1027
 begin 3 remove 616161616161616162626262626262620101
-step 1026
 step 1022
 step 1024
+step 1026
+step 1026
+step 1026
+step 1026
+step 1026
+step 1026
+step 1026
+step 1026
+step 1028
+step 1028
+step 1028
+step 1028
+step 1028
+step 1028
+step 1028
+step 1028
+step 1028
+step 1028
+step 1028
+step 1028
+step 1028
+step 1028
+step 1028
+step 1028
 step 1026
 begin 3 tidy 616161616161616162626262626262620101
 advance
@@ -5498,6 +7976,17 @@ begin 1 tidy 626262626262626203
 step 1022
 begin 1 remove 616161616161616162626262626262620303
 step 1032
+step 1032
+step 1032
+step 1032
+step 1032
+step 1032
+step 1032
+step 1022
+step 1022
+step 1022
+step 1022
+step 1022
 step 1022
 step 1031
 step 1033
@@ -5505,12 +7994,22 @@ step 1034
 feed 25 10
 step 1031
 step 1026
+step 1026
+step 1026
+step 1026
+step 1026
 step 1031
 step 1026
 step 1032
 step 1033
 step 1026
 begin 2 put 61616161616161610303 0=4b48
+step 1034
+step 1034
+step 1034
+step 1034
+step 1034
+step 1034
 step 1034
 step 1033
 step 1031
@@ -5522,14 +8021,30 @@ step 1034
 step 1031
 begin 2 put 616161616161616162626262626262620101 0=-
 step 1035
+step 1035
+step 1035
+step 1035
+step 1035
+step 1035
+step 1035
 step 1034
 step 1032
+step 1032
+step 1032
+step 1032
+step 1032
 collect
-step 1034
 step 1031
 begin 3 put 62626262626262620202 0=5ba492
 step 1032
 step 1022
+step 1034
+step 1034
+step 1034
+step 1034
+step 1034
+step 1034
+step 1034
 collect
 begin 1 put 62626262626262620000 0=6869f266
 step 1034
@@ -5539,14 +8054,34 @@ begin 2 remove 61616161616161610101
 step 1036
 step 1038
 step 1038
+step 1038
+step 1038
+step 1038
+step 1038
+step 1038
+step 1038
 step 1039
 step 1035
+step 1034
+step 1034
 step 1034
 begin 2 put 616161616161616102 0=3e38ae
 step 1037
 step 1037
+step 1037
+step 1037
+step 1037
+step 1037
+step 1037
+step 1037
 step 1040
 step 1037
+step 1039
+step 1039
+step 1039
+step 1039
+step 1039
+step 1039
 step 1039
 step 1038
 step 1039
@@ -5555,8 +8090,22 @@ step 1037
 step 1037
 step 1037
 step 1037
+step 1037
+step 1037
 feed 242 10
 step 1040
+step 1040
+step 1040
+step 1040
+step 1040
+step 1040
+step 1040
+step 1036
+step 1036
+step 1036
+step 1036
+step 1036
+step 1036
 step 1036
 step 1039
 feed 227 3
@@ -5575,10 +8124,15 @@ step 1038
 step 1040
 step 1040
 step 1036
-step 1036
 step 1038
 step 1038
 step 1038
+step 1038
+step 1038
+step 1038
+step 1035
+step 1035
+step 1035
 step 1035
 step 1035
 step 1035
@@ -5590,8 +8144,16 @@ step 1040
 step 1040
 step 1035
 step 1038
-step 1036
 step 1035
+step 1036
+step 1036
+step 1036
+step 1036
+step 1036
+step 1036
+step 1036
+step 1036
+step 1036
 finish 1036
 finish 1039
 feed 212 3
@@ -5619,8 +8181,20 @@ begin 1 remove 616161616161616162626262626262620303
 step 1046
 step 1046
 step 1046
+step 1046
+step 1046
+step 1046
+step 1046
+step 1046
+step 1046
 step 1050
 begin 1 tidy 616161616161616162626262626262620303
+step 1044
+step 1044
+step 1044
+step 1044
+step 1044
+step 1044
 step 1044
 step 1048
 step 1051
@@ -5628,15 +8202,39 @@ begin 2 remove 61616161616161610303
 step 1052
 step 1044
 step 1048
+step 1048
+step 1048
+step 1048
+step 1048
+step 1048
+step 1048
+step 1052
+step 1052
+step 1052
+step 1052
+step 1052
+step 1052
 step 1052
 step 1051
 step 1048
 step 1046
 step 1046
 step 1046
+step 1046
+step 1046
+step 1046
+step 1046
+step 1046
+step 1046
 step 1052
 step 1051
 step 1046
+step 1050
+step 1050
+step 1050
+step 1050
+step 1050
+step 1050
 step 1050
 step 1052
 step 1051
@@ -5650,6 +8248,11 @@ step 1052
 step 1050
 step 1052
 step 1044
+step 1048
+step 1048
+step 1048
+step 1048
+step 1048
 step 1048
 advance
 begin 1 tidy 61616161616161610303
@@ -5667,7 +8270,20 @@ step 1044
 step 1044
 step 1044
 step 1044
+step 1044
+step 1044
+step 1044
+step 1044
+step 1044
 step 1055
+step 1050
+step 1050
+step 1050
+step 1050
+step 1050
+step 1050
+step 1050
+step 1050
 step 1050
 step 1050
 feed 202 1
@@ -5675,16 +8291,41 @@ step 1044
 step 1056
 step 1050
 step 1055
+step 1055
+step 1055
+step 1055
+step 1055
+step 1055
+step 1055
 collect
 step 1055
+step 1050
+step 1050
+step 1050
+step 1050
+step 1050
+step 1050
+step 1050
 step 1050
 step 1053
 step 1044
 begin 2 remove 6161616161616161626262626262626202
 step 1054
+step 1054
+step 1054
+step 1054
+step 1054
+step 1054
+step 1054
 step 1057
 step 1053
 begin 1 remove 61616161616161610303
+step 1057
+step 1057
+step 1057
+step 1057
+step 1057
+step 1057
 step 1057
 step 1050
 step 1054
@@ -5694,6 +8335,18 @@ step 1058
 finish 1059
 step 1057
 step 1056
+step 1056
+step 1056
+step 1056
+step 1056
+step 1056
+step 1056
+step 1058
+step 1058
+step 1058
+step 1058
+step 1058
+step 1058
 step 1058
 begin 3 remove 626262626262626203
 finish 1060
@@ -5704,13 +8357,34 @@ step 1058
 step 1057
 step 1061
 step 1055
+step 1055
+step 1055
+step 1055
+step 1055
+step 1055
+step 1055
+step 1055
 step 1058
+step 1061
+step 1061
+step 1061
+step 1061
+step 1061
+step 1061
 step 1061
 step 1056
 step 1055
 step 1061
 step 1058
 step 1055
+step 1057
+step 1057
+step 1057
+step 1057
+step 1057
+step 1057
+step 1057
+step 1057
 begin 1 tidy 616161616161616162626262626262620101
 step 1058
 step 1054
@@ -5718,16 +8392,17 @@ step 1056
 step 1061
 advance
 step 1056
-step 1054
-step 1061
 step 1056
-step 1061
-step 1061
+step 1056
+step 1056
+step 1056
+step 1056
+step 1056
+step 1056
 begin 1 tidy 616161616161616102
 step 1063
 feed 261 3
 step 1062
-step 1054
 step 1056
 begin 3 tidy 62626262626262620202
 step 1062
@@ -5737,8 +8412,38 @@ step 1064
 step 1063
 step 1063
 step 1058
+step 1058
+step 1058
+step 1058
+step 1058
+step 1058
+step 1054
+step 1054
+step 1054
+step 1054
+step 1054
+step 1054
+step 1054
+step 1054
+step 1054
+step 1054
+step 1061
+step 1061
+step 1061
+step 1061
+step 1061
+step 1061
+step 1061
+step 1061
+step 1061
 begin 2 tidy 6161616161616161626262626262626202
 step 1065
+step 1054
+step 1054
+step 1054
+step 1054
+step 1054
+step 1054
 step 1054
 step 1062
 step 1063
@@ -5762,6 +8467,12 @@ step 1066
 step 1068
 step 1068
 step 1054
+step 1061
+step 1061
+step 1061
+step 1061
+step 1061
+step 1061
 begin 2 put 616161616161616102 0=a953ab
 step 1067
 finish 1057
@@ -5786,6 +8497,12 @@ finish 1072
 step 1073
 step 1066
 step 1070
+step 1070
+step 1070
+step 1070
+step 1070
+step 1070
+step 1070
 begin 2 remove 626262626262626203
 advance
 finish 1074
@@ -5804,10 +8521,28 @@ step 1070
 advance
 step 1076
 step 1077
+step 1077
+step 1077
+step 1077
+step 1077
+step 1077
+step 1077
+step 1075
+step 1075
+step 1075
+step 1075
+step 1075
+step 1075
 step 1075
 step 1079
 finish 1070
 begin 2 put 616161616161616162626262626262620303 0=b7
+step 1079
+step 1079
+step 1079
+step 1079
+step 1079
+step 1079
 step 1079
 finish 1076
 finish 1077
@@ -5818,17 +8553,47 @@ begin 1 remove 626262626262626201
 begin 3 remove 62626262626262620202
 step 1075
 step 1075
+step 1075
+step 1075
+step 1075
+step 1075
+step 1075
+step 1075
 step 1082
 step 1078
 step 1083
 step 1082
+step 1082
+step 1082
+step 1082
+step 1082
+step 1082
+step 1082
 step 1078
+step 1078
+step 1078
+step 1078
+step 1078
+step 1078
+step 1078
+step 1081
+step 1081
+step 1081
+step 1081
+step 1081
+step 1081
 step 1081
 step 1081
 step 1081
 step 1082
 step 1082
 feed 178 3
+step 1083
+step 1083
+step 1083
+step 1083
+step 1083
+step 1083
 step 1083
 advance
 step 1080
@@ -5844,17 +8609,41 @@ step 1082
 step 1085
 step 1083
 step 1085
+step 1085
+step 1085
+step 1085
+step 1085
+step 1085
+step 1085
 step 1086
 step 1085
+step 1086
+step 1086
+step 1086
+step 1086
+step 1086
+step 1086
 step 1086
 step 1086
 step 1083
 step 1081
 step 1086
 step 1081
+step 1081
+step 1081
+step 1081
+step 1081
+step 1081
+step 1081
+step 1081
 step 1078
 step 1081
 step 1081
+step 1078
+step 1078
+step 1078
+step 1078
+step 1078
 step 1078
 step 1078
 step 1078
@@ -5864,7 +8653,18 @@ step 1078
 step 1086
 step 1087
 step 1087
+step 1087
+step 1087
+step 1087
+step 1087
+step 1087
+step 1087
 step 1083
+step 1082
+step 1082
+step 1082
+step 1082
+step 1082
 step 1082
 step 1085
 step 1078
@@ -5878,9 +8678,24 @@ step 1083
 step 1088
 step 1089
 step 1088
+step 1088
+step 1088
+step 1088
+step 1088
+step 1088
+step 1088
+step 1083
+step 1083
+step 1083
 step 1083
 step 1086
 begin 1 remove 62626262626262620202
+step 1090
+step 1090
+step 1090
+step 1090
+step 1090
+step 1090
 step 1090
 step 1090
 feed 215 3
@@ -5888,7 +8703,24 @@ step 1087
 step 1089
 step 1089
 step 1089
+step 1089
+step 1089
+step 1089
+step 1089
+step 1089
+step 1089
 step 1086
+step 1086
+step 1086
+step 1086
+step 1086
+step 1085
+step 1085
+step 1085
+step 1085
+step 1085
+step 1085
+step 1085
 step 1085
 step 1086
 step 1088
@@ -5899,23 +8731,36 @@ begin 3 remove 6161616161616161626262626262626200
 step 1090
 step 1091
 step 1090
+step 1090
+step 1090
+step 1091
+step 1091
+step 1091
+step 1091
+step 1091
+step 1091
 step 1091
 step 1089
 begin 1 remove 616161616161616162626262626262620303
 step 1088
 step 1091
 step 1089
-step 1087
 step 1088
-step 1087
+step 1088
+step 1088
 begin 2 remove 61616161616161610303
 step 1085
 step 1091
 step 1093
-step 1087
 step 1089
 step 1089
 advance
+step 1093
+step 1093
+step 1093
+step 1093
+step 1093
+step 1093
 step 1093
 step 1089
 step 1093
@@ -5924,6 +8769,29 @@ begin 1 tidy 616161616161616102
 step 1094
 step 1094
 finish 1085
+step 1087
+step 1087
+step 1087
+step 1087
+step 1087
+step 1087
+step 1087
+step 1087
+step 1087
+step 1087
+step 1087
+step 1087
+step 1087
+step 1087
+step 1087
+step 1091
+step 1091
+step 1091
+step 1091
+step 1091
+step 1091
+step 1091
+step 1091
 feed 45 10
 begin 3 tidy 626262626262626201
 finish 1095
@@ -5956,6 +8824,10 @@ step 1098
 step 1101
 step 1097
 step 1099
+step 1091
+step 1091
+step 1091
+step 1091
 step 1091
 collect
 step 1103
@@ -6054,6 +8926,8 @@ step 1123
 step 1123
 step 1123
 step 1121
+step 1121
+step 1121
 step 1123
 step 1125
 step 1122
@@ -6092,6 +8966,8 @@ step 1124
 step 1127
 feed 223 1
 step 1125
+step 1125
+step 1125
 begin 3 tidy 6161616161616161626262626262626202
 step 1128
 step 1124
@@ -6104,6 +8980,8 @@ step 1130
 begin 3 tidy 616161616161616102
 step 1132
 step 1128
+step 1128
+step 1128
 begin 2 tidy 626262626262626203
 step 1134
 step 1131
@@ -6112,8 +8990,12 @@ begin 2 tidy 61616161616161610303
 finish 1132
 step 1124
 step 1124
+step 1124
+step 1124
 advance
 begin 3 tidy 616161616161616162626262626262620303
+step 1127
+step 1127
 step 1127
 step 1127
 begin 2 tidy 616161616161616102
@@ -6167,6 +9049,8 @@ step 1147
 step 1149
 begin 2 put 616161616161616100 0=cfa324
 step 1149
+step 1149
+step 1149
 step 1150
 begin 3 put 62626262626262620000 0=b2fdc7
 step 1151
@@ -6195,6 +9079,9 @@ step 1153
 step 1153
 step 1153
 step 1153
+step 1153
+step 1153
+step 1153
 step 1156
 step 1153
 advance
@@ -6215,24 +9102,55 @@ step 1152
 step 1156
 finish 1150
 step 1152
+step 1152
+step 1152
+step 1152
+step 1152
+step 1152
+step 1152
 step 1158
 begin 3 remove 61616161616161610303
 step 1159
+step 1159
+step 1159
+step 1159
+step 1159
+step 1159
+step 1159
 step 1160
 step 1159
 step 1159
+step 1160
+step 1160
+step 1160
+step 1160
+step 1160
+step 1160
 step 1160
 step 1152
+step 1156
+step 1156
+step 1156
+step 1156
+step 1156
+step 1156
 step 1156
 step 1160
 feed 113 3
 step 1156
+step 1159
+step 1159
+step 1159
+step 1159
 step 1159
 finish 1155
 begin 1 tidy 6161616161616161626262626262626200
 begin 2 remove 6161616161616161626262626262626202
 step 1156
 step 1161
+step 1156
+step 1156
+step 1156
 step 1156
 begin 3 remove 626262626262626203
 step 1160
@@ -6246,19 +9164,46 @@ step 1161
 step 1161
 step 1152
 step 1163
+step 1163
+step 1163
+step 1163
+step 1163
+step 1163
+step 1163
+step 1160
+step 1160
+step 1160
 step 1160
 begin 3 remove 62626262626262620000
 finish 1158
 begin 2 remove 626262626262626201
 step 1165
 step 1165
+step 1165
+step 1165
+step 1165
+step 1165
+step 1165
+step 1165
 step 1164
 collect
 step 1152
 step 1162
+step 1162
+step 1162
+step 1162
+step 1162
+step 1162
+step 1162
 step 1165
 step 1161
 begin 1 remove 616161616161616162626262626262620101
+step 1164
+step 1164
+step 1164
+step 1164
+step 1164
+step 1164
 step 1164
 step 1166
 step 1163
@@ -6270,6 +9215,13 @@ step 1164
 step 1152
 step 1152
 step 1152
+step 1152
+step 1152
+step 1152
+step 1163
+step 1163
+step 1163
+step 1163
 step 1163
 step 1165
 step 1162
@@ -6278,6 +9230,17 @@ feed 149 3
 step 1162
 step 1166
 step 1166
+step 1166
+step 1166
+step 1166
+step 1166
+step 1166
+step 1166
+step 1165
+step 1165
+step 1165
+step 1165
+step 1165
 step 1165
 feed 221 10
 feed 274 3
@@ -6307,6 +9270,11 @@ step 1169
 begin 2 tidy 62626262626262620202
 step 1169
 step 1162
+step 1162
+step 1162
+step 1162
+step 1162
+step 1162
 step 1170
 begin 1 tidy 616161616161616162626262626262620303
 step 1169
@@ -6316,11 +9284,20 @@ step 1171
 step 1164
 step 1172
 step 1164
+step 1164
+step 1164
+step 1164
+step 1164
 step 1170
 step 1171
 step 1166
 step 1172
 step 1169
+step 1166
+step 1166
+step 1166
+step 1166
+step 1166
 step 1166
 begin 1 tidy 61616161616161610303
 step 1171
@@ -6413,6 +9390,11 @@ finish 1183
 begin 3 remove 616161616161616102
 step 1194
 step 1194
+step 1194
+step 1194
+step 1194
+step 1194
+step 1194
 finish 1196
 begin 2 tidy 616161616161616162626262626262620101
 finish 1193
@@ -6421,6 +9403,16 @@ begin 1 remove 616161616161616100
 step 1194
 step 1197
 step 1197
+step 1197
+step 1197
+step 1197
+step 1197
+step 1197
+step 1194
+step 1194
+step 1194
+step 1194
+step 1194
 step 1194
 step 1198
 begin 2 remove 62626262626262620000
@@ -6438,24 +9430,58 @@ step 1198
 step 1197
 step 1200
 step 1197
+step 1197
+step 1197
+step 1197
 begin 3 remove 6161616161616161626262626262626200
 step 1204
 collect
+step 1204
+step 1204
+step 1204
+step 1204
+step 1204
 step 1204
 finish 1202
 step 1203
 step 1200
 step 1195
 step 1195
-step 1195
-step 1195
-step 1195
 step 1198
 step 1200
+step 1200
+step 1200
+step 1200
+step 1195
+step 1195
+step 1195
+step 1195
+step 1195
+step 1195
+step 1195
+step 1195
+step 1195
+step 1195
+step 1195
+step 1195
+step 1195
 step 1203
 step 1203
 step 1203
 step 1203
+step 1203
+step 1203
+step 1203
+step 1203
+step 1203
+step 1203
+step 1203
+step 1203
+step 1203
+step 1204
+step 1204
+step 1204
+step 1204
 step 1204
 step 1204
 step 1204

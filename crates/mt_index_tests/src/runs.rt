@@ -119,7 +119,7 @@ fn a_run_that_is_cut_stays_open(rt: HostRuntime) -> Result<(), Fail> {
     );
     assert_eq!(rt;
         (ends, machine.open_calls(), machine.commits()),
-        ((5, 1), 0, 2)
+        ((7, 1), 0, 2)
     );
     Ok(())
 }

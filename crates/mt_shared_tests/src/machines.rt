@@ -39,6 +39,8 @@ fn put_and_build(alloc: Global) -> Result<Vec<Event>, Refusal> {
         Event::Step(CallNo(1)),
         Event::Step(CallNo(1)),
         Event::Step(CallNo(1)),
+        Event::Step(CallNo(1)),
+        Event::Step(CallNo(1)),
         Event::Begin(PassNo(2), Request::Build { spec }),
         Event::Step(CallNo(2)),
         Event::Step(CallNo(2)),
@@ -59,13 +61,14 @@ fn answer(outcome: Option<&Outcome>) -> Option<&Answer> {
     }
 }
 
-// The put committed at its sixth step, after the writes of the key and of the value, and was answered at its seventh.
+// The put committed at its eighth step, after it had locked the border, read its right link and its order, made ready,
+// and written key and value; it was answered at its ninth.
 // The build was answered at its eighth: the head, six fields of the border, the view.
 fn are_told(outcomes: &[Outcome]) -> bool {
-    outcomes.len() == 17
-        && matches!(outcomes.get(6), Some(Outcome::Commit(1)))
-        && answer(outcomes.get(7)) == Some(&Answer::Stored(1))
-        && answer(outcomes.get(16)) == Some(&Answer::Built(ViewNo(1)))
+    outcomes.len() == 19
+        && matches!(outcomes.get(8), Some(Outcome::Commit(1)))
+        && answer(outcomes.get(9)) == Some(&Answer::Stored(1))
+        && answer(outcomes.get(18)) == Some(&Answer::Built(ViewNo(1)))
 }
 
 // No put, remove or tidy is open, and the key's row is of version 1 and has one column.

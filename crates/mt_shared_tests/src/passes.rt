@@ -65,7 +65,7 @@ fn passes(rt: HostRuntime) -> Result<(), Fail> {
     assert!(rt; matches!(&got.answer, Answer::Found(row) if row.version == 1));
     assert_eq!(rt; passes[1].seen(), 1);
     let totals = index.close(passes)?;
-    assert_eq!(rt; (totals.events, totals.commits), (8, 1));
+    assert_eq!(rt; (totals.events, totals.commits), (10, 1));
     Ok(())
 }
 
