@@ -4,7 +4,7 @@ use Rattle.mt_word.specs.declared.permutation_word.TheConstants.{SLOTS}
 use Rattle.mt_border.specs.Border.{BorderView}
 use Rattle.mt_border.specs.Keys.{IsKeyPart}
 use Rattle.mt_border.specs.Parts.{IsValueOf}
-use Rattle.mt_border.specs.Slots.{slot_at, key_at}
+use Rattle.mt_border.specs.Slots.{slot_at, key_at, order_shown}
 use Rattle.mt_arena.specs.declared.node.Node.{Node}
 use Rattle.mt_arena.specs.declared.node.Node.TheVariants.{Head, Interior, Border}
 use Rattle.mt_arena.specs.declared.part.Field.{Field}
@@ -22,7 +22,7 @@ IsField _ = Unit {0}
 abbrev pub IsFieldOf : BorderView → Field → Part → Type 0
 IsFieldOf b Version (VersionPart version) = version ≡ b.version
 IsFieldOf b Right (RightPart right) = right ≡ b.right
-IsFieldOf b Order (OrderPart order) = order ≡ b.order
+IsFieldOf b Order (OrderPart order) = order ≡ order_shown b
 IsFieldOf b (Key number) (KeyPart part) = IsKeyPart (key_at b number) part
 IsFieldOf b (Value number) (ValuePart part) = IsValueOf (slot_at b number).entry.content part
 IsFieldOf b _ _ = ⊥

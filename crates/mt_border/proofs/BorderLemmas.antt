@@ -1,20 +1,22 @@
 -- The invariant of a border through each change.
-use Rattle.std.proofs.Common.{◌≡◌, ℕ, zero, suc, ◌-◌, ◌^◌, ◌<◌, ◌≤◌, List, [], ◌∷◌, ◌++◌, length, take, drop, map, get_or, refl, sym, ap, ◌∙◌, arith, length-append, subst, Option, Some, None, IsSome, Bool, true, false, slice_get}
+use Rattle.std.proofs.Common.{◌≡◌, ℕ, zero, suc, ◌-◌, ◌^◌, ◌<◌, ◌≤◌, List, [], ◌∷◌, ◌++◌, length, take, drop, map, get_or, refl, sym, ap, ◌∙◌, arith, length-append, subst, Option, Some, None, IsSome, Bool, true, false, slice_get, unwrap_or}
 use Rattle.std.specs.List.{All, AllPairs, remove}
 use Rattle.std.proofs.lemmas.Option.{get_or_from_slice_get}
-use Rattle.std.proofs.lemmas.List.{length-map, get_or-map, get_or-take, length-take-le, length-drop}
+use Rattle.std.proofs.lemmas.List.{length-map, get_or-map, get_or-set_same, get_or-take, length-take-le, length-drop}
 use Rattle.std.proofs.lemmas.List.Edits.{length-remove}
 use Rattle.std.proofs.lemmas.List.Elements.{All-take, All-drop, All-append, All-map}
 use Rattle.std.proofs.lemmas.List.Quantifiers.{all_pairs_remove}
 use Rattle.mt_types.specs.declared.row.Row.{Row}
 use Rattle.mt_types.specs.declared.numbers.NodeNo.{NodeNo}
+use Rattle.mt_word.specs.Slots.{with_first}
 use Rattle.mt_word.specs.Version.{VersionView, IsVersion, IsUnspent}
 use Rattle.mt_border.specs.Entry.{entry_rank, IsEntry, IsContent, with_row, with_link, content_with_row, content_class, entry_suffix}
-use Rattle.mt_border.specs.Table.{first_changed, changed_at, left_slot, left_slots, number_at, slot_changed, with_entry, filled}
-use Rattle.mt_border.specs.Border.{BorderView, entries_of, first_held, first_suffix, inserting_version, with_inserting, with_key, with_filled, with_hidden, with_value, with_link_at, with_split}
+use Rattle.mt_border.specs.Table.{first_changed, changed_at, left_slot, left_slots, number_at, slot_changed, with_entry, filled, blank_slot, picked, suffix_of_first}
+use Rattle.mt_border.specs.Border.{BorderView, entries_of, first_held, first_suffix, inserting_version, with_inserting, with_key, with_filled, with_hidden, with_value, with_unstable, with_link_at, with_written, with_splitting, with_half_linked, suffix_at}
 use Rattle.mt_border.specs.Keys.{key_seen, IsKey}
-use Rattle.mt_border.specs.Order.{IsBorder, IsUnwritten, AwaitsValue, IsOrdered, AreEntries, HoldEntries, AreBelow, IsLeftOf}
-use Rattle.mt_border.proofs.SlotLemmas.{seen_changed, seen_hidden, seen_filled, seen_split}
+use Rattle.mt_border.specs.Order.{IsBorder, IsUnwritten, AwaitsValue, AwaitsLink, IsOrdered, AreEntries, HoldEntries, AreBelow, IsLeftOf}
+use Rattle.mt_border.proofs.TableLemmas.{live_below, suffix_read}
+use Rattle.mt_border.proofs.SlotLemmas.{live_count, seen_changed, seen_hidden, seen_filled, seen_split}
 use Rattle.mt_border.specs.declared.entry.Entry.{Entry}
 use Rattle.mt_border.specs.declared.entry.Content.{Content}
 use Rattle.mt_border.specs.declared.entry.Content.TheVariants.{Short, Long, Link}
@@ -22,7 +24,13 @@ use Rattle.mt_border.specs.declared.entry.RightLink.{RightLink}
 use Rattle.mt_border.specs.declared.slot_table.Slot.{Slot}
 use Rattle.mt_border.specs.declared.unwritten.SlotKey.{SlotKey}
 use Rattle.mt_border.specs.declared.unwritten.Unwritten.{Unwritten}
-use Rattle.mt_border.specs.declared.unwritten.Unwritten.TheVariants.{Nothing, Value}
+use Rattle.mt_border.specs.declared.unwritten.Unwritten.TheVariants.{Nothing, Value, Order, LinkAt, MarkAt}
+
+pub suffix_seen : (i : ℕ) (xs : List Slot) → first_suffix (drop i (entries_of xs)) ≡ suffix_of_first (drop i xs)
+suffix_seen zero [] = refl
+suffix_seen zero (x ∷ xs) = refl
+suffix_seen (suc i) [] = refl
+suffix_seen (suc i) (x ∷ xs) = suffix_seen i xs
 
 pub entry_there : (slots : List Slot) (i : ℕ) (slot : Slot) → AreEntries (entries_of slots) → i < length (entries_of slots) → slice_get slots i ≡ Some slot → IsEntry slot.entry
 entry_there slots i slot h within e =
@@ -125,24 +133,24 @@ unlocked_written b h unlocked = go b.unwritten h.pending
     go : (left : Unwritten) → IsUnwritten b left → left ≡ Nothing
     go Nothing pending = refl
     go (Value key) waits = absurd (let clash : true ≡ false = sym waits.locked ∙ unlocked in cc)
+    go (Order shown) waits = absurd (let clash : true ≡ false = sym waits.locked ∙ unlocked in cc)
+    go (LinkAt number) waits = absurd (let clash : true ≡ false = sym waits.locked ∙ unlocked in cc)
+    go (MarkAt number suffix) waits = absurd (let clash : true ≡ false = sym waits.locked ∙ unlocked in cc)
 
 -- a value
 pub awaits : (b : BorderView) (key : SlotKey) → b.unwritten ≡ Value key → IsBorder b → AwaitsValue b key
 awaits b key is h = subst (λ (u : Unwritten). IsUnwritten b u) is h.pending
 
--- the same as before, in a border with as many live entries, whose unused slots and version are the same
-still_unwritten : (b then : BorderView) (u : Unwritten) → then.version ≡ b.version → length then.live ≡ length b.live → then.unused ≡ b.unused → IsUnwritten b u → IsUnwritten then u
-still_unwritten b then Nothing version live unused h = tt
-still_unwritten b then (Value key) version live unused h = record {
-  locked = ap (λ (v : VersionView). v.locked) version ∙ h.locked;
-  room = omega (arith, live, h.room);
-  flagged = λ held. ap (λ (v : VersionView). v.inserting) version ∙ h.flagged (ap first_held (sym unused) ∙ held);
-  whole = h.whole;
-}
+-- the link of a key that is unstable
+pub awaits_link : (b : BorderView) (number : ℕ) → b.unwritten ≡ LinkAt number → IsBorder b → AwaitsLink b number
+awaits_link b number is h = subst (λ (u : Unwritten). IsUnwritten b u) is h.pending
 
 -- The border after each call.
-pub border_changed : (b : BorderView) (i : ℕ) (f : Entry → Entry) → i < length b.live → ((e : Entry) → (f e).slice ≡ e.slice) → ((e : Entry) → IsEntry e → IsEntry (f e)) → map entry_rank (changed_at i f b.live) ≡ map entry_rank b.live → IsBorder b → IsBorder (record b { live = changed_at i f b.live; slots = slot_changed (number_at i b.order) (with_entry f) b.slots })
-border_changed b i f within slices whole ranks h = record {
+-- an entry is changed, and this is unwritten then
+pub border_changed : (b : BorderView) (i : ℕ) (f : Entry → Entry) (left : Unwritten) → i < length b.live → ((e : Entry) → (f e).slice ≡ e.slice) → ((e : Entry) → IsEntry e → IsEntry (f e)) → map entry_rank (changed_at i f b.live) ≡ map entry_rank b.live →
+    IsUnwritten (record b { live = changed_at i f b.live; slots = slot_changed (number_at i b.order) (with_entry f) b.slots; unwritten = left }) left → IsBorder b →
+    IsBorder (record b { live = changed_at i f b.live; slots = slot_changed (number_at i b.order) (with_entry f) b.slots; unwritten = left })
+border_changed b i f left within slices whole ranks pending h = record {
   seen = seen_changed b.live b.unused b.slots b.order h.seen i f within;
   slots = rw (length-changed_at i f b.live) h.slots;
   low_fits = h.low_fits;
@@ -156,16 +164,24 @@ border_changed b i f within slices whole ranks h = record {
   flags = h.flags;
   unspent = h.unspent;
   counters = h.counters;
-  pending = still_unwritten b (record b { live = changed_at i f b.live; slots = slot_changed (number_at i b.order) (with_entry f) b.slots }) b.unwritten refl (length-changed_at i f b.live) refl h.pending;
+  pending = pending;
 }
 
-pub border_value : (b : BorderView) (i : ℕ) (row : Row) → i < length b.live → IsBorder b → IsBorder (with_value b i row)
-border_value b i row within h =
-    border_changed b i (with_row row) within (λ e. refl) (λ e g. record { slice_fits = g.slice_fits; content = IsContent-with_row row e.content g.content }) (ranks-with_row row i b.live) h
+pub border_value : (b : BorderView) (i : ℕ) (row : Row) → i < length b.live → b.unwritten ≡ Nothing → IsBorder b → IsBorder (with_value b i row)
+border_value b i row within written h =
+    border_changed b i (with_row row) b.unwritten within (λ e. refl) (λ e g. record { slice_fits = g.slice_fits; content = IsContent-with_row row e.content g.content }) (ranks-with_row row i b.live) (all_written (with_value b i row) written) h
 
-pub border_link : (b : BorderView) (i : ℕ) (head : NodeNo) → i < length b.live → IsSome (first_suffix (drop i b.live)) → IsBorder b → IsBorder (with_link_at b i head)
-border_link b i head within long h =
-    border_changed b i (with_link head) within (λ e. refl) (λ e g. record { slice_fits = g.slice_fits; content = tt }) (ranks-with_link head i b.live long) h
+-- the number of the slot of the entry at a place
+number_in : (b : BorderView) (i : ℕ) → i < length b.live → IsBorder b → number_at i b.order < length b.slots
+number_in b i within h = omega (arith, live_below b.order i h.seen.table.arranged (omega (arith, within, live_count b.live b.unused b.slots b.order h.seen)), h.seen.table.fifteen)
+
+pub border_link : (b : BorderView) (i : ℕ) (head : NodeNo) → i < length b.live → IsSome (first_suffix (drop i b.live)) → b.unwritten ≡ LinkAt (number_at i b.order) → IsBorder b → IsBorder (with_link_at b i head)
+border_link b i head within long unstable h =
+    let n = number_at i b.order in
+    let there : get_or (slot_changed n (with_entry (with_link head)) b.slots) n blank_slot ≡ with_entry (with_link head) (get_or b.slots n blank_slot) =
+    get_or-set_same b.slots n (with_entry (with_link head) (get_or b.slots n blank_slot)) blank_slot (number_in b i within h) in
+    border_changed b i (with_link head) (MarkAt n (unwrap_or (suffix_at i b.live) [])) within (λ e. refl) (λ e g. record { slice_fits = g.slice_fits; content = tt }) (ranks-with_link head i b.live long)
+    (record { locked = (awaits_link b n unstable h).locked; head = head; link = ap (λ (s : Slot). s.entry.content) there }) h
 
 -- the entries that a hide leaves
 All-remove : (P : Entry → Type 0) (i : ℕ) (xs : List Entry) → All P xs → All P (remove xs i)
@@ -290,8 +306,57 @@ take_none : (k : ℕ) (xs : List Entry) → xs ≡ [] → take k xs ≡ []
 take_none zero xs e = refl
 take_none (suc k) xs e = ap (λ (t : List Entry). take (suc k) t) e
 
-pub border_split : (b : BorderView) (keep : ℕ) (right : RightLink) → b.version.locked ≡ true → b.unwritten ≡ Nothing → keep ≤ length b.live → b.low < right.low → AreBelow right.low (take keep b.live) → b.version.vsplit < 2 ^ 64 - 1 → IsBorder b → IsBorder (with_split b keep right)
-border_split b keep right locked written within above below unspent h = record {
+-- the border is marked as one that is being split
+pub border_splitting : (b : BorderView) → b.version.locked ≡ true → b.unwritten ≡ Nothing → b.version.vsplit < 2 ^ 64 - 1 → IsBorder b → IsBorder (with_splitting b)
+border_splitting b locked written unspent h = record {
+  seen = h.seen;
+  slots = h.slots;
+  low_fits = h.low_fits;
+  ordered = h.ordered;
+  entries = h.entries;
+  held_back = h.held_back;
+  from_low = h.from_low;
+  left_of = h.left_of;
+  deleted_empty = h.deleted_empty;
+  border = h.border;
+  flags = λ set. locked;
+  unspent = record { inserts = h.unspent.inserts; splits = λ set. unspent };
+  counters = record { vinsert_fits = h.counters.vinsert_fits; vsplit_fits = h.counters.vsplit_fits };
+  pending = all_written (with_splitting b) written;
+}
+
+-- something else of it is unwritten
+pub border_left : (b : BorderView) (left : Unwritten) → IsUnwritten (record b { unwritten = left }) left → IsBorder b → IsBorder (record b { unwritten = left })
+border_left b left pending h = record {
+  seen = h.seen;
+  slots = h.slots;
+  low_fits = h.low_fits;
+  ordered = h.ordered;
+  entries = h.entries;
+  held_back = h.held_back;
+  from_low = h.from_low;
+  left_of = h.left_of;
+  deleted_empty = h.deleted_empty;
+  border = h.border;
+  flags = h.flags;
+  unspent = h.unspent;
+  counters = h.counters;
+  pending = pending;
+}
+
+pub border_written : (b : BorderView) → IsBorder b → IsBorder (with_written b)
+border_written b h = border_left b Nothing tt h
+
+-- the key of the entry at a place is unstable
+pub border_unstable : (b : BorderView) (i : ℕ) → i < length b.live → IsSome (first_suffix (drop i b.live)) → b.version.locked ≡ true → IsBorder b → IsBorder (with_unstable b i)
+border_unstable b i within long locked h =
+    let inside : i < length b.order.live = omega (arith, within, live_count b.live b.unused b.slots b.order h.seen) in
+    let read : first_suffix (drop i b.live) ≡ entry_suffix (get_or b.slots (number_at i b.order) blank_slot).entry = ap (λ (l : List Entry). first_suffix (drop i l)) h.seen.live_is ∙ (suffix_seen i (picked b.slots b.order.live) ∙ suffix_read b.slots b.order i (number_at i b.order) inside refl) in
+    border_left b (LinkAt (number_at i b.order)) (record { locked = locked; long = subst (λ (o : Option (List ℕ)). IsSome o) read long }) h
+
+-- its upper entries are to the right, and the order that others read is still to be cut
+pub border_half_linked : (b : BorderView) (keep : ℕ) (right : RightLink) → b.version.locked ≡ true → b.version.splitting ≡ true → keep ≤ length b.live → b.low < right.low → AreBelow right.low (take keep b.live) → IsBorder b → IsBorder (with_half_linked b keep right)
+border_half_linked b keep right locked splitting within above below h = record {
   seen = seen_split b.live b.unused b.slots b.order h.seen keep;
   slots = omega (arith, h.slots, length-take-le keep b.live within, length-drop keep b.live, length-append (left_slots (drop keep b.live)) b.unused, length-map (drop keep b.live) left_slot);
   low_fits = h.low_fits;
@@ -302,8 +367,8 @@ border_split b keep right locked written within above below unspent h = record {
   left_of = (above, below);
   deleted_empty = λ deleted. take_none keep b.live (h.deleted_empty deleted);
   border = h.border;
-  flags = λ set. locked;
-  unspent = record { inserts = h.unspent.inserts; splits = λ set. unspent };
-  counters = record { vinsert_fits = h.counters.vinsert_fits; vsplit_fits = h.counters.vsplit_fits };
-  pending = all_written (with_split b keep right) written;
+  flags = h.flags;
+  unspent = h.unspent;
+  counters = h.counters;
+  pending = record { locked = locked; splitting = splitting; arranged = h.seen.table.arranged; cut = ap (λ (n : ℕ). with_first b.order n) (sym (length-take-le keep b.live within)) };
 }

@@ -6,17 +6,13 @@ use Rattle.mt_slice.specs.Classes.{class_number}
 use Rattle.mt_border.specs.Entry.{entry_rank, content_class, IsContent}
 use Rattle.mt_border.specs.Table.{blank_slot}
 use Rattle.mt_border.specs.Order.{IsOrdered, AreEntries}
-use Rattle.mt_border.specs.Cut.{IsCut, slices, distance}
+use Rattle.mt_border.specs.Cut.{IsCut, NoneNearer, slices}
 use Rattle.mt_border.specs.declared.entry.Entry.{Entry}
 use Rattle.mt_border.specs.declared.entry.Content.{Content}
 use Rattle.mt_border.specs.declared.entry.Content.TheVariants.{Short, Long, Link}
 
--- no cut is nearer to the middle than this
-pub record NoneNearer (live : List Entry) (d : ℕ) : Type 0 where
-  pub each : (i : ℕ) → IsCut live i → d ≤ distance i 8
-
-pub none_nearer_than : (live : List Entry) (d e : ℕ) → d ≤ e → NoneNearer live e → NoneNearer live d
-none_nearer_than live d e small h = record { each = λ i cut. omega (arith, h.each i cut) }
+pub none_nearer_than : (of : List ℕ) (d e : ℕ) → d ≤ e → NoneNearer of e → NoneNearer of d
+none_nearer_than of d e small h = record { each = λ i cut. omega (arith, h.each i cut) }
 
 pub class_below : (content : Content) → IsContent content → class_number (content_class content) ≤ 9
 class_below (Short bytes row) h = omega arith
@@ -32,7 +28,7 @@ rank_climbs live d o (suc i) within =
     omega (arith, before, step)
 
 -- if no place is a cut, each slice is the first
-one_slice : (live : List Entry) → ((i : ℕ) → IsCut live i → ⊥) → (i : ℕ) → i ≤ 14 → slice_index (slices live) i ≡ slice_index (slices live) 0
+one_slice : (live : List Entry) → ((i : ℕ) → IsCut (slices live) i → ⊥) → (i : ℕ) → i ≤ 14 → slice_index (slices live) i ≡ slice_index (slices live) 0
 one_slice live none zero h = refl
 one_slice live none (suc i) h =
     elim (cases_eq (slice_index (slices live) i) (slice_index (slices live) (suc i))) [
@@ -42,9 +38,9 @@ one_slice live none (suc i) h =
     ]
 
 -- fifteen entries have at least two slices, since a slice has ten classes
-pub some_cut : (live : List Entry) → length live ≡ 15 → IsOrdered live → AreEntries live → NoneNearer live 8 → ⊥
+pub some_cut : (live : List Entry) → length live ≡ 15 → IsOrdered live → AreEntries live → NoneNearer (slices live) 8 → ⊥
 some_cut live full o whole h =
-    let none : (i : ℕ) → IsCut live i → ⊥ = λ i cut. omega (arith, cut.first, cut.last, h.each i cut) in
+    let none : (i : ℕ) → IsCut (slices live) i → ⊥ = λ i cut. omega (arith, cut.first, cut.last, h.each i cut) in
     let d : Entry = blank_slot.entry in
     let first : Entry = get_or live 0 d in
     let last : Entry = get_or live 14 d in

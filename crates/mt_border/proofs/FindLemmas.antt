@@ -1,5 +1,5 @@
 -- A search among the live entries.
-use Rattle.std.proofs.Common.{◌≡◌, ℕ, ◌+◌, ◌<◌, List, [], ◌∷◌, ◌++◌, append_assoc, length, drop, refl, sym, ap, ◌∙◌, arith, Some, Bool, true, false, slice_get, ◌==◌, ◌*◌, nat_lt}
+use Rattle.std.proofs.Common.{◌≡◌, ℕ, ◌+◌, ◌<◌, List, ◌∷◌, length, drop, refl, sym, ap, ◌∙◌, arith, Some, Bool, true, false, slice_get, ◌==◌, ◌*◌, nat_lt}
 use Rattle.std.specs.List.{prefix_len}
 use Rattle.std.proofs.lemmas.List.Sums.{prefix_len-drop_no, prefix_len-drop_yes}
 use Rattle.std.proofs.lemmas.List.{drop_more}
@@ -28,11 +28,6 @@ found_later p xs i x l e n h =
 from_place : (live : List Entry) (i : ℕ) (entry : Entry) → i < length live → slice_get live i ≡ Some entry → drop i live ≡ entry ∷ drop (i + 1) live
 from_place live i entry within e =
     drop_more live i entry within ∙ ap (λ (x : Entry). x ∷ drop (i + 1) live) (get_or_from_slice_get live i entry entry e)
-
--- one more entry is copied
-pub copied_more : (live copies : List Entry) (i place : ℕ) (entry copy : Entry) → i < length live → slice_get live i ≡ Some entry → copy ≡ entry → copies ++ drop i live ≡ drop place live → (copies ++ copy ∷ []) ++ drop (i + 1) live ≡ drop place live
-copied_more live copies i place entry copy within read same h =
-    append_assoc copies (copy ∷ []) (drop (i + 1) live) ∙ (ap (λ (x : Entry). copies ++ (x ∷ drop (i + 1) live)) same ∙ (ap (λ (t : List Entry). copies ++ t) (sym (from_place live i entry within read)) ∙ h))
 
 module _ (slice : ℕ) (class : Class) (suffix : List ℕ) (live : List Entry) (number i : ℕ) where
   -- a search looks at the place that was found by numbers

@@ -1,23 +1,23 @@
 -- What a border shows once its table has changed.
-use Rattle.std.proofs.Common.{◌≡◌, ℕ, zero, suc, ◌+◌, ◌-◌, ◌^◌, ◌<◌, ◌≤◌, List, [], ◌∷◌, ◌++◌, length, take, drop, get_or, set, refl, sym, ap, ◌∙◌, arith, subst, append_assoc, length-append, Option, Some, IsSome, Bool, true, slice_get}
+use Rattle.std.proofs.Common.{◌≡◌, ℕ, zero, suc, ◌+◌, ◌-◌, ◌^◌, ◌<◌, ◌≤◌, List, [], ◌∷◌, ◌++◌, length, take, drop, get_or, set, refl, sym, ap, ◌∙◌, arith, subst, append_assoc, length-append, Option, Some, IsSome, Bool, true, slice_get, unwrap_or}
 use Rattle.std.proofs.lemmas.List.{take_all, drop_all, drop-drop, length-map, get_or-set_same, set-set, length-set, take_more, drop_more, length-take, length-drop}
 use Rattle.mt_types.specs.declared.row.Row.{Row}
 use Rattle.mt_types.specs.declared.numbers.NodeNo.{NodeNo}
 use Rattle.mt_word.specs.Slots.{Slots, with_first_unused_at, without_place, with_first}
 use Rattle.mt_word.specs.Version.{VersionView}
 use Rattle.mt_border.specs.Entry.{IsEntry, entry_with, at_version, with_row, with_link}
-use Rattle.mt_border.specs.Table.{TableView, IsSlotTable, blank_slot, live_slots, number_at, next_number, slot_changed, left_slot, with_entry, filled, marked, with_all_filled, with_more_live, row_of_first}
-use Rattle.mt_border.specs.Border.{BorderView, border_view, entries_of, first_held, first_row, first_suffix, inserting_version, with_inserting, with_filled, with_shown, with_hidden, with_value, with_link_at, with_entries, with_split}
+use Rattle.mt_border.specs.Table.{TableView, IsSlotTable, blank_slot, live_slots, number_at, next_number, slot_changed, left_slot, with_entry, filled, marked, with_all_filled, with_more_live, row_of_first, suffix_of_first}
+use Rattle.mt_border.specs.Border.{BorderView, border_view, entries_of, first_held, first_row, first_suffix, inserting_version, with_inserting, with_filled, with_shown, with_hidden, with_value, with_link_at, with_entries, with_half_linked, suffix_at}
 use Rattle.mt_border.specs.Order.{IsBorder, AreBelow}
 use Rattle.mt_border.proofs.TableLemmas.{length-picked, next_below, room_left}
 use Rattle.mt_border.proofs.SlotLemmas.{view_of_seen, length-with_all_filled}
-use Rattle.mt_border.proofs.BorderLemmas.{border_value, border_link, border_hidden, awaits, border_inserting, border_filled, border_split}
+use Rattle.mt_border.proofs.BorderLemmas.{suffix_seen, border_value, border_unstable, border_link, border_hidden, awaits, border_inserting, border_filled, border_half_linked}
 use Rattle.mt_border.specs.declared.entry.Entry.{Entry}
 use Rattle.mt_border.specs.declared.entry.RightLink.{RightLink}
 use Rattle.mt_border.specs.declared.slot_table.Slot.{Slot}
 use Rattle.mt_border.specs.declared.unwritten.SlotKey.{SlotKey}
 use Rattle.mt_border.specs.declared.unwritten.Unwritten.{Unwritten}
-use Rattle.mt_border.specs.declared.unwritten.Unwritten.TheVariants.{Nothing, Value}
+use Rattle.mt_border.specs.declared.unwritten.Unwritten.TheVariants.{Nothing, Value, Order, LinkAt, MarkAt}
 
 -- ---- entries are filled in, one after the other
 -- one more entry, at the next of the numbers that are left
@@ -108,21 +108,27 @@ module _ (layer low : ℕ) (right : Option RightLink) (version : VersionView) (t
       let seen = view_of_seen (with_hidden b i) whole.seen in
       (seen, subst IsBorder (sym seen) whole)
 
-  pub sound_value : (i : ℕ) (row : Row) → i < length b.live → IsBorder b →
+  pub sound_value : (i : ℕ) (row : Row) → i < length b.live → left ≡ Nothing → IsBorder b →
       let new : BorderView = with_slots (slot_changed (number_at i t.order) (with_entry (with_row row)) t.slots) in
       (new ≡ with_value b i row) × IsBorder new
-  sound_value i row within h =
-      let whole = border_value b i row within h in
+  sound_value i row within written h =
+      let whole = border_value b i row within written h in
       let seen = view_of_seen (with_value b i row) whole.seen in
       (seen, subst IsBorder (sym seen) whole)
 
-  pub sound_link : (i : ℕ) (head : NodeNo) → i < length b.live → IsSome (first_suffix (drop i b.live)) → IsBorder b →
-      let new : BorderView = with_slots (slot_changed (number_at i t.order) (with_entry (with_link head)) t.slots) in
+  pub sound_link : (i number : ℕ) (head : NodeNo) (suffix : List ℕ) → i < length b.live → IsSome (first_suffix (drop i b.live)) → left ≡ LinkAt (number_at i t.order) → number ≡ number_at i t.order → suffix_of_first (drop i (live_slots t)) ≡ Some suffix → IsBorder b →
+      let new : BorderView = border_view layer low right version (record t { slots = slot_changed (number_at i t.order) (with_entry (with_link head)) t.slots }) (MarkAt number suffix) in
       (new ≡ with_link_at b i head) × IsBorder new
-  sound_link i head within long h =
-      let whole = border_link b i head within long h in
-      let seen = view_of_seen (with_link_at b i head) whole.seen in
+  sound_link i number head suffix within long unstable same read h =
+      let whole = border_link b i head within long unstable h in
+      let kept : suffix ≡ unwrap_or (suffix_at i b.live) [] = sym (ap (λ (o : Option (List ℕ)). unwrap_or o []) (suffix_seen i (live_slots t) ∙ read)) in
+      let left_is : MarkAt number suffix ≡ (with_link_at b i head).unwritten = ap (λ (n : ℕ). MarkAt n suffix) same ∙ ap (λ (s : List ℕ). MarkAt (number_at i t.order) s) kept in
+      let seen = ap (λ (u : Unwritten). border_view layer low right version (record t { slots = slot_changed (number_at i t.order) (with_entry (with_link head)) t.slots }) u) left_is ∙ view_of_seen (with_link_at b i head) whole.seen in
       (seen, subst IsBorder (sym seen) whole)
+
+  -- its key is marked unstable before
+  pub sound_unstable : (i number : ℕ) → i < length b.live → IsSome (first_suffix (drop i b.live)) → version.locked ≡ true → number ≡ number_at i t.order → IsBorder b → IsBorder (border_view layer low right version t (LinkAt number))
+  sound_unstable i number within long locked same h = subst (λ (n : ℕ). IsBorder (border_view layer low right version t (LinkAt n))) (sym same) (border_unstable b i within long locked h)
 
   -- the border is marked, and the key and the value of the first unused slot are written
   pub sound_inserting : (slot : Slot) (flagged : VersionView) → version.locked ≡ true → left ≡ Nothing → slice_get b.unused 0 ≡ Some slot → flagged ≡ inserting_version slot.held_key version → (slot.held_key ≡ true → version.vinsert < 2 ^ 56 - 1) → IsBorder b →
@@ -157,12 +163,12 @@ module _ (layer low : ℕ) (right : Option RightLink) (version : VersionView) (t
       let seen = ap (λ (slots : List Slot). border_view layer low right version (record { slots = slots; order = with_first_unused_at t.order i }) left) twice ∙ view_of_seen (with_shown b i number) h.seen in
       (seen, subst IsBorder (sym seen) h)
 
-  pub sound_split : (keep : ℕ) (link : RightLink) → version.locked ≡ true → left ≡ Nothing → keep ≤ length b.live → low < link.low → AreBelow link.low (take keep b.live) → version.vsplit < 2 ^ 64 - 1 → IsBorder b →
-      let new : BorderView = border_view layer low (Some link) (record version { splitting = true }) (record t { order = with_first t.order keep }) left in
-      (new ≡ with_split b keep link) × IsBorder new
-  sound_split keep link locked written within above below unspent h =
-      let whole = border_split b keep link locked written within above below unspent h in
-      let seen = view_of_seen (with_split b keep link) whole.seen in
+  pub sound_half_linked : (keep : ℕ) (shown : Slots) (link : RightLink) → version.locked ≡ true → version.splitting ≡ true → keep ≤ length b.live → low < link.low → AreBelow link.low (take keep b.live) → shown ≡ t.order → IsBorder b →
+      let new : BorderView = border_view layer low (Some link) version (record t { order = with_first t.order keep }) (Order shown) in
+      (new ≡ with_half_linked b keep link) × IsBorder new
+  sound_half_linked keep shown link locked splitting within above below same h =
+      let whole = border_half_linked b keep link locked splitting within above below h in
+      let seen = ap (λ (s : Slots). border_view layer low (Some link) version (record t { order = with_first t.order keep }) (Order s)) same ∙ view_of_seen (with_half_linked b keep link) whole.seen in
       (seen, subst IsBorder (sym seen) whole)
 
   -- a border with nothing live gets entries

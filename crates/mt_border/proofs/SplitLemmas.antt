@@ -27,7 +27,7 @@ slices_climb live i j d o whole before within =
     ]
 
 -- the first entry after a cut has a greater slice than each entry before it
-pub above_cut : (b : BorderView) (i : ℕ) (first : Entry) → IsBorder b → length b.live ≡ 15 → IsCut b.live i → slice_get b.live i ≡ Some first → (k : ℕ) (d : Entry) → k < i → (get_or b.live k d).slice < first.slice
+pub above_cut : (b : BorderView) (i : ℕ) (first : Entry) → IsBorder b → length b.live ≡ 15 → IsCut (slices b.live) i → slice_get b.live i ≡ Some first → (k : ℕ) (d : Entry) → k < i → (get_or b.live k d).slice < first.slice
 above_cut b i first h full cut there k d before =
     let inside : i < length b.live = omega (arith, full, cut.last) in
     let first_is : get_or b.live i d ≡ first = get_or_from_slice_get b.live i first d there in
@@ -40,13 +40,13 @@ above_cut b i first h full cut there k d before =
     subst (λ (e : Entry). (get_or b.live k d).slice < e.slice) first_is (omega (arith, apart, up, low))
 
 -- what `link_right` asks for
-pub cut_above_low : (b : BorderView) (i : ℕ) (first : Entry) → IsBorder b → length b.live ≡ 15 → IsCut b.live i → slice_get b.live i ≡ Some first → b.low < first.slice
+pub cut_above_low : (b : BorderView) (i : ℕ) (first : Entry) → IsBorder b → length b.live ≡ 15 → IsCut (slices b.live) i → slice_get b.live i ≡ Some first → b.low < first.slice
 cut_above_low b i first h full cut there =
     let least : b.low ≤ (get_or b.live 0 first).slice = h.from_low.each 0 first (omega (arith, full)) in
     let up : (get_or b.live 0 first).slice < first.slice = above_cut b i first h full cut there 0 first (omega (arith, cut.first)) in
     omega (arith, least, up)
 
-pub cut_above_kept : (b : BorderView) (i : ℕ) (first : Entry) → IsBorder b → length b.live ≡ 15 → IsCut b.live i → slice_get b.live i ≡ Some first → AreBelow first.slice (take i b.live)
+pub cut_above_kept : (b : BorderView) (i : ℕ) (first : Entry) → IsBorder b → length b.live ≡ 15 → IsCut (slices b.live) i → slice_get b.live i ≡ Some first → AreBelow first.slice (take i b.live)
 cut_above_kept b i first h full cut there = record {
   each = λ k d within.
       let short : length (take i b.live) ≡ i = length-take-le i b.live (omega (arith, full, cut.last)) in
@@ -79,7 +79,7 @@ blank_is_entry : IsEntry blank_slot.entry
 blank_is_entry = record { slice_fits = omega arith; content = tt }
 
 -- what `fill` asks for, of a new border
-pub cut_upper : (b : BorderView) (i : ℕ) (first : Entry) (locked : Bool) → IsBorder b → length b.live ≡ 15 → IsCut b.live i → slice_get b.live i ≡ Some first → IsBorder (with_entries (new_border b.layer first.slice locked) (drop i b.live) b.right)
+pub cut_upper : (b : BorderView) (i : ℕ) (first : Entry) (locked : Bool) → IsBorder b → length b.live ≡ 15 → IsCut (slices b.live) i → slice_get b.live i ≡ Some first → IsBorder (with_entries (new_border b.layer first.slice locked) (drop i b.live) b.right)
 cut_upper b i first locked h full cut there =
     let inside : i < length b.live = omega (arith, full, cut.last) in
     let blanks : List Slot = replicate 15 blank_slot in

@@ -1,13 +1,13 @@
 -- What the live and the unused slots hold, through each edit of the order or of one slot.
 use Rattle.std.proofs.Common.{◌≡◌, ◌≢◌, ℕ, suc, ◌+◌, ◌<◌, List, [], ◌∷◌, ◌++◌, length, take, drop, map, set, get_or, refl, sym, ap, ◌∙◌, arith, add-one, length-append, append_assoc, subst, Some, slice_get}
 use Rattle.std.specs.List.{AllPairs, remove}
-use Rattle.mt_border.specs.Entry.{entry_row}
+use Rattle.mt_border.specs.Entry.{entry_row, entry_suffix}
 use Rattle.std.proofs.lemmas.List.{get_or-map, get_or_default, length-map, map-append, take-map, drop-map, get_or-set_same, get_or-set_other, get_or_append_left, get_or-append-add, take_at, drop_at, drop_more, take-append-drop, length-take-le}
 use Rattle.mt_word.specs.Slots as word
 use Rattle.mt_word.specs.Slots.{Slots, IsArranged, places}
 use Rattle.mt_word.proofs.PlacesLemmas.{fifteen_together, slots_below, at_first_unused}
 use Rattle.mt_word.proofs.ArrangedLemmas.{places_distinct}
-use Rattle.mt_border.specs.Table.{blank_slot, picked, IsSlotTable, slot_changed, number_at, next_number, changed_at, first_changed, row_of_first}
+use Rattle.mt_border.specs.Table.{blank_slot, picked, IsSlotTable, slot_changed, number_at, next_number, changed_at, first_changed, row_of_first, suffix_of_first}
 use Rattle.mt_border.specs.declared.slot_table.Slot.{Slot}
 
 -- what the live slots and the unused ones hold
@@ -134,5 +134,10 @@ first_read xs (y ∷ u) slot x room read within e = ap Some (ap (λ (k : ℕ). g
 
 pub row_read : (xs : List Slot) (s : Slots) (i slot : ℕ) → i < length s.live → slot ≡ get_or s.live i 0 → row_of_first (drop i (lists xs s).live) ≡ entry_row (get_or xs slot blank_slot).entry
 row_read xs s i slot inside read =
+    let long : i < length (picked xs s.live) = omega (arith, length-map s.live (λ (k : ℕ). get_or xs k blank_slot)) in
+    rw (drop_more (picked xs s.live) i blank_slot long, picked_at xs s.live i inside, read)
+
+pub suffix_read : (xs : List Slot) (s : Slots) (i slot : ℕ) → i < length s.live → slot ≡ get_or s.live i 0 → suffix_of_first (drop i (lists xs s).live) ≡ entry_suffix (get_or xs slot blank_slot).entry
+suffix_read xs s i slot inside read =
     let long : i < length (picked xs s.live) = omega (arith, length-map s.live (λ (k : ℕ). get_or xs k blank_slot)) in
     rw (drop_more (picked xs s.live) i blank_slot long, picked_at xs s.live i inside, read)

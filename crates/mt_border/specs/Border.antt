@@ -1,6 +1,6 @@
 -- What a contract sees of a `Border`, and what each call makes of it.
 use Rattle.std.specs.Prelude.{ℕ, ◌==◌, nat_le, Bool, true, false, ◌&&◌, if◌then◌else◌, List, [], ◌∷◌, ◌++◌, length, map, take, drop, replicate}
-use Rattle.std.specs.Prelude.{Option, Some, None}
+use Rattle.std.specs.Prelude.{Option, Some, None, unwrap_or}
 use Rattle.std.specs.List.{remove}
 use Rattle.mt_types.specs.declared.row.Row.{Row}
 use Rattle.mt_types.specs.declared.numbers.NodeNo.{NodeNo}
@@ -13,7 +13,7 @@ use Rattle.mt_border.specs.Table.{TableView, blank_slot, live_slots, unused_slot
 use Rattle.mt_border.specs.declared.entry.Entry.{Entry}
 use Rattle.mt_border.specs.declared.entry.RightLink.{RightLink}
 use Rattle.mt_border.specs.declared.unwritten.Unwritten.{Unwritten}
-use Rattle.mt_border.specs.declared.unwritten.Unwritten.TheVariants.{Nothing, Value}
+use Rattle.mt_border.specs.declared.unwritten.Unwritten.TheVariants.{Nothing, Value, Order, LinkAt, MarkAt}
 use Rattle.mt_border.specs.declared.unwritten.SlotKey.{SlotKey}
 use Rattle.mt_border.specs.declared.slot_table.Slot.{Slot}
 
@@ -151,12 +151,21 @@ with_value b place row = record b {
   slots = slot_changed (number_at place b.order) (with_entry (with_row row)) b.slots;
 }
 
--- the border once the entry at a place is a link
+-- the border once the key of the entry at a place is marked unstable, and the link is still to be written there
+abbrev pub with_unstable : BorderView → ℕ → BorderView
+with_unstable b place = record b { unwritten = LinkAt (number_at place b.order) }
+
+-- the border once the entry at a place is a link, and its key is still to be marked as a layer's
 abbrev pub with_link_at : BorderView → ℕ → NodeNo → BorderView
 with_link_at b place head = record b {
   live = changed_at place (with_link head) b.live;
   slots = slot_changed (number_at place b.order) (with_entry (with_link head)) b.slots;
+  unwritten = MarkAt (number_at place b.order) (unwrap_or (suffix_at place b.live) []);
 }
+
+-- the border once what was unwritten of its order, or of a key's mark, is written
+abbrev pub with_written : BorderView → BorderView
+with_written b = record b { unwritten = Nothing }
 
 -- the border, which had no live entry, once these are live and this is to its right
 abbrev pub with_entries : BorderView → List Entry → Option RightLink → BorderView
@@ -168,14 +177,19 @@ with_entries b entries right = record b {
   right = right;
 }
 
--- the border once only the first n entries are live, and the others are to its right
-abbrev pub with_split : BorderView → ℕ → RightLink → BorderView
-with_split b keep right = record b {
+-- the border once it is marked as one that is being split
+abbrev pub with_splitting : BorderView → BorderView
+with_splitting b = record b { version = record b.version { splitting = true } }
+
+-- the border once only the first n entries are its own, and the others are to its right; the order that others read is
+-- still to be cut
+abbrev pub with_half_linked : BorderView → ℕ → RightLink → BorderView
+with_half_linked b keep right = record b {
   live = take keep b.live;
   unused = left_slots (drop keep b.live) ++ b.unused;
   order = with_first b.order keep;
   right = Some right;
-  version = record b.version { splitting = true };
+  unwritten = Order b.order;
 }
 
 abbrev pub with_right : BorderView → Option RightLink → BorderView

@@ -50,6 +50,14 @@ key_suffix (Continues suffix) = Some suffix
 abbrev pub key_seen : SlotKey → KeyView
 key_seen key = record { slice = key.slice; class = key_class key.rest; suffix = key_suffix key.rest; mark = Plain }
 
+-- the key, marked as one of which a layer is being made
+abbrev pub unstable : KeyView → KeyView
+unstable key = record key { mark = Unstable }
+
+-- the same of a longer key, by its slice and what follows that
+abbrev pub unstable_with : ℕ → List ℕ → KeyView
+unstable_with slice suffix = record { slice = slice; class = LongClass; suffix = Some suffix; mark = Unstable }
+
 -- a length is at most 8; the bytes after a slice are some, and bytes; a layer's key has none of its own
 abbrev pub IsRest : Class → Option (List ℕ) → Mark → Type 0
 IsRest (Len bytes) None Plain = bytes ≤ 8

@@ -1,14 +1,17 @@
 -- The invariant of a border.
-use Rattle.std.specs.Prelude.{◌≡◌, ℕ, ◌+◌, ◌^◌, ◌<◌, ◌≤◌, List, [], ◌∷◌, length, true, Option, Some, None}
+use Rattle.std.specs.Prelude.{◌≡◌, ℕ, ◌+◌, ◌^◌, ◌<◌, ◌≤◌, List, [], ◌∷◌, length, true, Option, Some, None, IsSome}
 use Rattle.std.specs.List.{All, AllPairs}
-use Rattle.mt_word.specs.Slots.{Slots}
+use Rattle.mt_types.specs.declared.numbers.NodeNo.{NodeNo}
+use Rattle.mt_word.specs.Slots.{Slots, IsArranged, with_first}
 use Rattle.mt_word.specs.Version.{IsVersion, IsUnspent, is_flagged}
 use Rattle.mt_word.specs.declared.permutation_word.TheConstants.{SLOTS}
-use Rattle.mt_border.specs.Entry.{entry_rank, IsEntry}
+use Rattle.mt_border.specs.Entry.{entry_rank, entry_suffix, IsEntry}
 use Rattle.mt_border.specs.Border.{BorderView, entries_of, first_held}
 use Rattle.mt_border.specs.Keys.{key_seen, IsKey}
+use Rattle.mt_border.specs.Slots.{slot_at}
+use Rattle.mt_border.specs.declared.entry.Content.TheVariants.{Link}
 use Rattle.mt_border.specs.declared.unwritten.Unwritten.{Unwritten}
-use Rattle.mt_border.specs.declared.unwritten.Unwritten.TheVariants.{Nothing, Value}
+use Rattle.mt_border.specs.declared.unwritten.Unwritten.TheVariants.{Nothing, Value, Order, LinkAt, MarkAt}
 use Rattle.mt_border.specs.declared.unwritten.SlotKey.{SlotKey}
 use Rattle.mt_border.specs.Table.{picked, IsSlotTable}
 use Rattle.mt_border.specs.declared.entry.Entry.{Entry}
@@ -58,9 +61,31 @@ pub record AwaitsValue (b : BorderView) (key : SlotKey) : Type 0 where
   pub flagged : first_held b.unused ≡ true → b.version.inserting ≡ true
   pub whole : IsKey (key_seen key)
 
+-- others still read this order, of which the border has only the first entries: it is locked, and marked as one that is
+-- being split
+pub record AwaitsCut (b : BorderView) (shown : Slots) : Type 0 where
+  pub locked : b.version.locked ≡ true
+  pub splitting : b.version.splitting ≡ true
+  pub arranged : IsArranged shown
+  pub cut : b.order ≡ with_first shown (length b.live)
+
+-- the key of this slot is marked unstable: the border is locked, and the key is a longer row's
+pub record AwaitsLink (b : BorderView) (number : ℕ) : Type 0 where
+  pub locked : b.version.locked ≡ true
+  pub long : IsSome (entry_suffix (slot_at b number).entry)
+
+-- and its value is the link
+pub record AwaitsMark (b : BorderView) (number : ℕ) (suffix : List ℕ) : Type 0 where
+  pub locked : b.version.locked ≡ true
+  pub head : NodeNo
+  pub link : (slot_at b number).entry.content ≡ Link head
+
 abbrev pub IsUnwritten : BorderView → Unwritten → Type 0
 IsUnwritten b Nothing = Unit {0}
 IsUnwritten b (Value key) = AwaitsValue b key
+IsUnwritten b (Order shown) = AwaitsCut b shown
+IsUnwritten b (LinkAt number) = AwaitsLink b number
+IsUnwritten b (MarkAt number suffix) = AwaitsMark b number suffix
 
 -- what holds of every border
 pub record IsBorder (b : BorderView) : Type 0 where

@@ -3,7 +3,7 @@ use Rattle.std.specs.Prelude.{◌≡◌, ℕ, List, ◌++◌, length, map, take,
 use Rattle.mt_word.specs.Slots.{Slots, IsArranged, all_slots}
 use Rattle.mt_word.specs.declared.permutation_word.TheConstants.{SLOTS}
 use Rattle.mt_types.specs.declared.row.Row.{Row}
-use Rattle.mt_border.specs.Entry.{entry_row, at_version}
+use Rattle.mt_border.specs.Entry.{entry_row, entry_suffix, at_version}
 use Rattle.mt_border.specs.declared.entry.Content.TheVariants.{Link}
 use Rattle.mt_border.specs.declared.entry.Entry.{Entry}
 use Rattle.mt_border.specs.declared.slot_table.Slot.{Slot}
@@ -102,3 +102,8 @@ changed_at i change xs = take i xs ++ first_changed change (drop i xs)
 abbrev pub row_of_first : List Slot → Option Row
 row_of_first [] = None
 row_of_first (slot ∷ slots) = entry_row slot.entry
+
+-- what follows the slice of the key of the first of these slots, if it is a longer row's
+abbrev pub suffix_of_first : List Slot → Option (List ℕ)
+suffix_of_first [] = None
+suffix_of_first (slot ∷ slots) = entry_suffix slot.entry

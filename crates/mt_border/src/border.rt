@@ -1,26 +1,24 @@
 //! A border node: fifteen slots, their order, its low and its right link, and its changes.
 
-ghost use Rattle.std.specs.Prelude.{◌≡◌, ◌+◌, ◌<◌, ◌≤◌, ◌↔◌, length, take, drop, slice_get, Some, IsSome, IsTrue, IfOk, true, false, []};
+ghost use Rattle.std.specs.Prelude.{◌≡◌, ◌<◌, ◌≤◌, ◌↔◌, length, slice_get, Some, IsSome, IsTrue, true, false, []};
 ghost use Rattle.std.specs.List.{list_any};
 ghost use Rattle.std.specs.Bool.{IsFalse};
 ghost use Rattle.mt_word.specs.declared.permutation_word.TheConstants.{SLOTS};
 ghost use Rattle.mt_word.specs.declared.version_word.TheConstants.{MAX_SPLITS};
 ghost use Rattle.mt_border.specs.Entry.{IsEntry};
-ghost use Rattle.mt_border.specs.Border.{new_border, with_hidden, with_value, with_link_at, with_entries, with_split, with_right, with_locked, with_unlocked, with_deleted, right_for, row_at, suffix_at};
+ghost use Rattle.mt_border.specs.Border.{new_border, with_hidden, with_value, with_entries, with_right, with_locked, with_unlocked, with_deleted, right_for, row_at};
 ghost use Rattle.mt_border.specs.Keys.{IsKeyPart};
 ghost use Rattle.mt_border.specs.Parts.{IsValueOf};
-ghost use Rattle.mt_border.specs.Slots.{slot_at, key_at};
+ghost use Rattle.mt_border.specs.Slots.{slot_at, key_at, order_shown};
 ghost use Rattle.mt_border.specs.declared.unwritten.Unwritten.TheVariants.{Nothing};
-ghost use Rattle.mt_border.specs.Order.{IsBorder, IsLeftOf, AreBelow};
+ghost use Rattle.mt_border.specs.Order.{IsBorder, IsLeftOf};
 
 use crate::entry::{Entry, RightLink};
 use crate::field::{KeyPart, ValuePart};
 use crate::slot_table::SlotTable;
-use crate::unwritten::Unwritten;
-use mt_types::copying::TryCopy;
+use crate::unwritten::{Unwritten, unstable_key};
 use mt_types::items::Items;
 use mt_types::numbers::NodeNo;
-use mt_types::refusal::NoMemory;
 use mt_types::row::Row;
 use mt_word::{Permutation, SLOTS, Version};
 use std::alloc::Global;
@@ -34,7 +32,7 @@ use std::marker::Model;
 pub struct Border {
     layer: u8,
     low: u64,
-    right: Option<RightLink>,
+    pub(crate) right: Option<RightLink>,
     pub(crate) version: Version,
     pub(crate) table: SlotTable,
     pub(crate) unwritten: Unwritten,
@@ -49,18 +47,6 @@ impl Model for Border {
     ghost view = { λ b. border_view b.layer b.low b.right b.version b.table b.unwritten };
 
     ghost invariant = { λ b. IsBorder (border_view b.layer b.low b.right b.version b.table b.unwritten) };
-}
-
-// The version while the border is split.
-fn version_split(version: Version) -> Version
-    requires { version.vsplit < MAX_SPLITS }
-    ensures { result ≡ record version { splitting = true } }
-{
-    let mut flagged = version;
-    match flagged.set_splitting() {
-        Ok(()) => flagged,
-        Err(_) => unreachable!(),
-    }
 }
 
 impl Border {
@@ -162,12 +148,16 @@ impl Border {
         self.version
     }
 
-    /// Which slots are live, in which order. Constant cost.
+    /// Which slots are live, in which order, as others read it: as long as the cut of a split isn't written, with those
+    /// whose entries are in the right half. Constant cost.
     pub fn order(&self) -> Permutation
-        ensures value { result ≡ self.now.order }
+        ensures value { result ≡ order_shown self.now }
         ensures sound { IsBorder self.now }
     {
-        self.table.order()
+        match &self.unwritten {
+            Unwritten::Order(shown) => *shown,
+            _ => self.table.order(),
+        }
     }
 
     /// The key of the slot of a number. Constant cost.
@@ -178,6 +168,14 @@ impl Border {
     {
         match &self.unwritten {
             Unwritten::Value(key) if self.table.is_next(number) => key.part(),
+            Unwritten::LinkAt(slot) if *slot == number => self
+                .table
+                .slot(number)
+                .entry
+                .unstable_part(),
+            Unwritten::MarkAt(slot, suffix) if *slot == number => {
+                unstable_key(self.table.slot(number).entry.slice, suffix)
+            }
             _ => self.table.slot(number).entry.key_part(),
         }
     }
@@ -246,39 +244,12 @@ impl Border {
     pub fn set_value(&mut self, place: usize, row: Row) -> Row
         requires within { place < length self.old.live }
         requires row { IsSome (row_at place self.old.live) }
+        requires written { self.old.unwritten ≡ Nothing }
         ensures value { self.new ≡ with_value self.old place row }
         ensures replaced { row_at place self.old.live ≡ Some result }
         ensures sound { IsBorder self.new }
     {
         self.table.set_row(place, row)
-    }
-
-    /// Makes the entry at this place, which is of a longer key, a link to the head of the next layer. Its suffix and
-    /// row are dropped. Constant cost.
-    pub fn make_link(&mut self, place: usize, head: NodeNo)
-        requires within { place < length self.old.live }
-        requires long { IsSome (suffix_at place self.old.live) }
-        ensures value { self.new ≡ with_link_at self.old place head }
-        ensures sound { IsBorder self.new }
-    {
-        self.table.set_link(place, head);
-    }
-
-    /// Copies of the live entries from this place on, which share their bytes. Costs one allocation.
-    ///
-    /// # Errors
-    ///
-    /// `NoMemory` if an allocation is refused.
-    pub fn copy_upper(&self, alloc: Global, place: usize) -> Result<Items<Entry>, NoMemory>
-        requires { place ≤ length self.now.live }
-        ensures { IfOk result (λ entries. entries ≡ drop place self.now.live) }
-    {
-        let count = self.len();
-        let mut copies = Vec::with_capacity(alloc, count - place)?;
-        for at in place..count {
-            copies.push(self.entry(at).copy(alloc)?)?;
-        }
-        Ok(Items::from_vec(copies))
     }
 
     /// Makes these entries live in a border that has none, and of whose slots none held a key, and names what is to its
@@ -292,23 +263,6 @@ impl Border {
     {
         self.table.extend(entries.into_vec());
         self.right = right;
-    }
-
-    /// Keeps the first `keep` entries live, and names the border to the right, which has the others. The border is
-    /// marked as one that is being split, until it is unlocked (Masstree, EuroSys 2012, section 4.6.4). Constant cost.
-    pub fn link_right(&mut self, keep: usize, right: RightLink)
-        requires locked { self.old.version.locked ≡ true }
-        requires written { self.old.unwritten ≡ Nothing }
-        requires within { keep ≤ length self.old.live }
-        requires above_low { self.old.low < right.low }
-        requires above_kept { AreBelow right.low (take keep self.old.live) }
-        requires unspent { self.old.version.vsplit < MAX_SPLITS }
-        ensures value { self.new ≡ with_split self.old keep right }
-        ensures sound { IsBorder self.new }
-    {
-        self.table.keep_first(keep);
-        self.version = version_split(self.version);
-        self.right = Some(right);
     }
 
     /// Names another border to the right, or none. Constant cost.

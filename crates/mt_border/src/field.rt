@@ -1,12 +1,13 @@
 //! The key and the value of one slot, for calls that read a border one field at a time.
 
-ghost use Rattle.std.specs.Prelude.{◌≡◌};
+ghost use Rattle.std.specs.Prelude.{◌≡◌, IsSome};
 ghost use Rattle.std.specs.Option.{option_copied};
 ghost use Rattle.mt_border.specs.Entry.{entry_suffix};
-ghost use Rattle.mt_border.specs.Keys.{content_mark, entry_key, part_bytes, IsKeyPart};
+ghost use Rattle.mt_border.specs.Keys.{content_mark, entry_key, unstable, part_bytes, IsKeyPart};
 ghost use Rattle.mt_border.specs.Parts.{IsValueOf};
 
 use crate::entry::{Content, Entry, Suffix};
+use crate::unwritten::unstable_key;
 use mt_slice::Class;
 use mt_types::numbers::NodeNo;
 use mt_types::row::Row;
@@ -82,6 +83,17 @@ impl Entry {
             suffix: self.suffix(),
             mark: self.mark(),
         }
+    }
+
+    /// The key of the slot that holds this entry, a longer key's, while it is marked unstable. Constant cost.
+    pub fn unstable_part(&self) -> KeyPart<'_>
+        requires { IsSome (entry_suffix self.now) }
+        ensures { IsKeyPart (unstable (entry_key self.now)) result }
+    {
+        let Content::Long(suffix, _) = &self.content else {
+            unreachable!();
+        };
+        unstable_key(self.slice, suffix)
     }
 
     /// The value of the slot that holds this entry. Constant cost.

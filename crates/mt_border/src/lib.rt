@@ -6,8 +6,10 @@ mod entry;
 mod field;
 mod found;
 mod inserting;
+mod layering;
 mod search;
 mod slot_table;
+mod splitting;
 mod unwritten;
 
 pub use border::Border;

@@ -1,21 +1,15 @@
-//! The search in a border, and the place at which a full one is cut.
+//! The search in a border.
 
-ghost use Rattle.std.specs.Prelude.{◌≡◌, ◌+◌, ◌*◌, ◌==◌, nat_lt, ◌<◌, ◌≤◌, ◌↔◌, length, IsTrue};
+ghost use Rattle.std.specs.Prelude.{◌≡◌, ◌+◌, ◌*◌, ◌==◌, nat_lt, ◌<◌, ◌≤◌, length};
 ghost use Rattle.std.specs.List.{prefix_len};
-ghost use Rattle.mt_word.specs.declared.permutation_word.TheConstants.{SLOTS};
 ghost use Rattle.mt_border.specs.Entry.{entry_rank};
 ghost use Rattle.mt_border.specs.Order.{IsBorder};
 ghost use Rattle.mt_border.specs.Find.{entries_before, found_in, found_content};
-ghost use Rattle.mt_border.specs.Cut.{IsBestCut, IsCut};
 
 use crate::border::Border;
 use crate::entry::{Content, Entry};
 use crate::found::Found;
 use mt_slice::Class;
-use mt_word::SLOTS;
-
-// The place nearest to which a full border is cut in two.
-const MIDDLE: usize = 8;
 
 // Whether the entry is before this slice and the class of this number.
 fn is_before(entry: &Entry, slice: u64, class: u8) -> bool
@@ -87,35 +81,5 @@ impl Border {
             }
         }
         Found::Absent(place)
-    }
-
-    // Whether the entries of a full border may be cut in two before this place.
-    fn is_cut(&self, place: usize) -> bool
-        requires full { length self.now.live ≡ SLOTS }
-        requires first { 1 ≤ place }
-        ensures { IsTrue result ↔ IsCut self.now.live place }
-    {
-        place < SLOTS && self.entry(place - 1).slice != self.entry(place).slice
-    }
-
-    /// The place before which a full border is cut in two: of the places from 1 to 14 at which the slices on both sides
-    /// differ, the nearest to 8, or the smaller of the two nearest. There is one, since a slice has ten classes.
-    ///
-    /// Looks at each entry at most twice, and takes no memory.
-    pub fn cut_place(&self) -> usize
-        requires { length self.now.live ≡ SLOTS }
-        ensures { IsBestCut self.now.live result }
-    {
-        let is_full = self.is_full();
-        prove!(is_full);
-        for distance in 0..MIDDLE {
-            if self.is_cut(MIDDLE - distance) {
-                return MIDDLE - distance;
-            }
-            if self.is_cut(MIDDLE + distance) {
-                return MIDDLE + distance;
-            }
-        }
-        unreachable!()
     }
 }

@@ -4,10 +4,10 @@ ghost use Rattle.std.specs.Prelude.{◌≡◌, ℕ, ◌+◌, ◌<◌, ◌≤◌,
 ghost use Rattle.arrayvec.specs.ArrayVec.{array_vec_len};
 ghost use Rattle.mt_word.specs.Slots.{with_first_unused_at, without_place, with_first};
 ghost use Rattle.mt_word.specs.declared.permutation_word.TheConstants.{SLOTS};
-ghost use Rattle.mt_border.specs.Entry.{at_version, with_row, with_link, entry_row};
-ghost use Rattle.mt_border.specs.Table.{blank_slot, live_slots, unused_slots, none_live, number_at, next_number, slot_changed, with_entry, filled, marked, with_all_filled, with_more_live, row_of_first, IsSlotTable};
+ghost use Rattle.mt_border.specs.Entry.{at_version, with_row, with_link, entry_row, entry_suffix};
+ghost use Rattle.mt_border.specs.Table.{blank_slot, live_slots, unused_slots, none_live, number_at, next_number, slot_changed, with_entry, filled, marked, with_all_filled, with_more_live, row_of_first, suffix_of_first, IsSlotTable};
 
-use crate::entry::{Content, Entry};
+use crate::entry::{Content, Entry, Suffix};
 use arrayvec::ArrayVec;
 use mt_types::numbers::NodeNo;
 use mt_types::row::Row;
@@ -117,11 +117,24 @@ fn put_row(slots: &mut ArrayVec<Slot, SLOTS, Global>, slot: usize, row: Row) -> 
     replace_row(&mut slots.as_mut_slice()[slot].entry, row)
 }
 
-fn put_link(slots: &mut ArrayVec<Slot, SLOTS, Global>, slot: usize, head: NodeNo)
-    requires { slot < array_vec_len slots.old }
-    ensures { slots.new.items ≡ slot_changed slot (with_entry (with_link head)) slots.old.items }
+fn replace_with_link(entry: &mut Entry, head: NodeNo) -> Suffix
+    requires { IsSome (entry_suffix entry.old) }
+    ensures value { entry.new ≡ with_link head entry.old }
+    ensures replaced { entry_suffix entry.old ≡ Some result }
 {
-    slots.as_mut_slice()[slot].entry.content = Content::Link(head);
+    let Content::Long(suffix, _) = mem::replace(&mut entry.content, Content::Link(head)) else {
+        unreachable!();
+    };
+    suffix
+}
+
+fn put_link(slots: &mut ArrayVec<Slot, SLOTS, Global>, slot: usize, head: NodeNo) -> Suffix
+    requires within { slot < array_vec_len slots.old }
+    requires long { IsSome (entry_suffix (slice_index_or slots.old.items slot blank_slot).entry) }
+    ensures value { slots.new.items ≡ slot_changed slot (with_entry (with_link head)) slots.old.items }
+    ensures replaced { entry_suffix (slice_index_or slots.old.items slot blank_slot).entry ≡ Some result }
+{
+    replace_with_link(&mut slots.as_mut_slice()[slot].entry, head)
 }
 
 // Fifteen slots that hold nothing yet.
@@ -269,15 +282,25 @@ impl SlotTable {
         put_row(&mut self.slots, slot, row)
     }
 
-    /// Makes the entry of the live slot at a place a link.
-    pub fn set_link(&mut self, place: usize, head: NodeNo)
-        requires { place < length (live_slots self.old) }
-        ensures { self.new ≡ record self.old {
+    /// Returns the number of the live slot at a place.
+    pub fn number(&self, place: usize) -> usize
+        requires { place < length (live_slots self.now) }
+        ensures { result ≡ number_at place self.now.order }
+    {
+        self.permutation.slot(place)
+    }
+
+    /// Makes the entry of the live slot at a place, a longer key's, a link, and returns what followed its slice.
+    pub fn set_link(&mut self, place: usize, head: NodeNo) -> Suffix
+        requires within { place < length (live_slots self.old) }
+        requires long { IsSome (suffix_of_first (drop place (live_slots self.old))) }
+        ensures value { self.new ≡ record self.old {
           slots = slot_changed (number_at place self.old.order) (with_entry (with_link head)) self.old.slots;
         } }
+        ensures replaced { suffix_of_first (drop place (live_slots self.old)) ≡ Some result }
     {
         let slot = self.permutation.slot(place);
-        put_link(&mut self.slots, slot, head);
+        put_link(&mut self.slots, slot, head)
     }
 
     /// Makes these entries live, after those that are.

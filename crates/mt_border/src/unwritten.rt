@@ -5,13 +5,14 @@ ghost use Rattle.mt_slice.specs.Place.{place_of};
 ghost use Rattle.mt_slice.specs.Classes.{place_at};
 ghost use Rattle.mt_border.specs.Entry.{entry_with, key_of_rest, IsEntry};
 ghost use Rattle.std.specs.Option.{option_copied};
-ghost use Rattle.mt_border.specs.Keys.{key_class, key_suffix, key_seen, IsKey, IsKeyPart};
+ghost use Rattle.mt_border.specs.Keys.{key_class, key_suffix, key_seen, unstable_with, IsKey, IsKeyPart};
 
 use crate::entry::{Content, Entry, Suffix};
 use crate::field::{KeyPart, Mark};
 use mt_slice::{Class, Length, SLICE_BYTES, slice_of};
 use mt_types::refusal::NoMemory;
 use mt_types::row::Row;
+use mt_word::Permutation;
 use std::alloc::Global;
 
 /// How the key of a row continues after its slice.
@@ -37,6 +38,26 @@ pub enum Unwritten {
     Nothing,
     /// The value of the first unused slot. Its key is this one already.
     Value(SlotKey),
+    /// The order: its upper entries are in the border to the right already. Others still read this one.
+    Order(Permutation),
+    /// The link, in the slot of this number. Its key is marked unstable already.
+    LinkAt(usize),
+    /// The mark of a layer, of the key of the slot of this number. The slot's value is the link already. This follows the
+    /// key's slice, for those that read the key.
+    MarkAt(usize, Suffix),
+}
+
+/// The key with this slice and what follows it, marked unstable. Constant cost.
+pub fn unstable_key(slice: u64, suffix: &Suffix) -> KeyPart<'_>
+    ensures { IsKeyPart (unstable_with slice suffix.now) result }
+{
+    let _some = suffix.as_slice();
+    KeyPart {
+        slice,
+        class: Class::Long,
+        suffix: Some(suffix),
+        mark: Mark::Unstable,
+    }
 }
 
 impl KeyRest {

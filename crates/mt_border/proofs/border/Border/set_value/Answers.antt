@@ -4,10 +4,10 @@ use Rattle.mt_border.proofs.SeenLemmas.{sound_value, row_seen}
 use Rattle.mt_border.proofs.border.Border.set_value.Goals as goal
 
 pub invariant_of-self : goal.invariant_of-self
-invariant_of-self c = rw c.set_row.ensures.value (sound_value c.self.inside.layer c.self.inside.low c.self.inside.right c.self.inside.version c.self.inside.table c.self.inside.unwritten c.args.place c.args.row (rw (← c.self.view_is) at c.requires.within) c.self.invariant).1
+invariant_of-self c = rw c.set_row.ensures.value (sound_value c.self.inside.layer c.self.inside.low c.self.inside.right c.self.inside.version c.self.inside.table c.self.inside.unwritten c.args.place c.args.row (rw (← c.self.view_is) at c.requires.within) (rw (← c.self.view_is) at c.requires.written) c.self.invariant).1
 
 pub returns-clause-value : goal.returns-clause-value
-returns-clause-value c = rw (c.set_row.ensures.value, ← c.self.view_is) (sound_value c.self.inside.layer c.self.inside.low c.self.inside.right c.self.inside.version c.self.inside.table c.self.inside.unwritten c.args.place c.args.row (rw (← c.self.view_is) at c.requires.within) c.self.invariant).0
+returns-clause-value c = rw (c.set_row.ensures.value, ← c.self.view_is) (sound_value c.self.inside.layer c.self.inside.low c.self.inside.right c.self.inside.version c.self.inside.table c.self.inside.unwritten c.args.place c.args.row (rw (← c.self.view_is) at c.requires.within) (rw (← c.self.view_is) at c.requires.written) c.self.invariant).0
 
 pub returns-clause-sound : goal.returns-clause-sound
 returns-clause-sound c = invariant_of-self c
