@@ -11,7 +11,7 @@ use Rattle.mt_types.specs.declared.numbers.NodeNo.{NodeNo}
 use Rattle.mt_word.specs.Version.{number_of}
 use Rattle.mt_border.specs.Entry.{entry_suffix, content_with_row, with_row, with_link}
 use Rattle.mt_border.specs.Table.{blank_slot, picked, number_at, next_number, slot_changed, with_entry, filled}
-use Rattle.mt_border.specs.Border.{BorderView, first_held, first_suffix, suffix_at, inserting_version, with_locked, with_unlocked, with_deleted, with_inserting, with_key, with_filled, with_shown, with_hidden, with_value, with_link_at, with_split, with_right}
+use Rattle.mt_border.specs.Border.{BorderView, first_held, first_suffix, suffix_at, inserting_version, with_locked, with_unlocked, with_deleted, with_inserting, with_key, with_filled, with_shown, with_hidden, with_value, with_unstable, with_link_at, with_splitting, with_half_linked, with_written, with_right}
 use Rattle.mt_border.specs.Order.{IsBorder, AwaitsValue}
 use Rattle.mt_border.proofs.BorderLemmas.{awaits}
 use Rattle.mt_border.specs.Slots.{slot_at, is_live, held_at}
@@ -183,15 +183,26 @@ fields_hidden : (b : BorderView) (place : ℕ) → Ages (fields_seen b) (fields_
 fields_hidden b place =
     still (fields_seen b) (fields_seen (with_hidden b place)) refl refl refl refl (λ d. d) (beside (fields_seen b) (fields_seen (with_hidden b place)) (λ k h. h) (λ k h. refl) (λ k h lives. hidden_lives b.order.live place k lives) (λ slice below. below))
 
--- THE UPPER ENTRIES MOVE to the right: the border is then not quiet
-fields_split : (b : BorderView) (keep : ℕ) (right : RightLink) → Ages (fields_seen b) (fields_seen (with_split b keep right))
-fields_split b keep right = record {
+-- THE BORDER IS MARKED for a split: it is then not quiet
+fields_splitting : (b : BorderView) → Ages (fields_seen b) (fields_seen (with_splitting b))
+fields_splitting b = record {
   inserts = omega arith;
   splits = omega arith;
   inserted = λ set not. let clash : true ≡ false = sym set ∙ not in absurd (cc);
   split = λ set not. absurd (cc);
   deleted = λ d. d;
   quiet = λ v q r. let clash : true ≡ false = r.no_split in absurd (cc);
+}
+
+-- THE UPPER ENTRIES MOVE to the right: the border is not quiet
+fields_half_linked : (b : BorderView) (keep : ℕ) (right : RightLink) → b.version.splitting ≡ true → Ages (fields_seen b) (fields_seen (with_half_linked b keep right))
+fields_half_linked b keep right flagged = record {
+  inserts = omega arith;
+  splits = omega arith;
+  inserted = λ set not. let clash : true ≡ false = sym set ∙ not in absurd (cc);
+  split = λ set not. let clash : true ≡ false = sym set ∙ not in absurd (cc);
+  deleted = λ d. d;
+  quiet = λ v q r. let clash : true ≡ false = sym flagged ∙ q.no_split in absurd (cc);
 }
 
 -- ---- the slot of the entry at a place
@@ -292,8 +303,17 @@ ages_shown b h room place version fresh = record { low = refl; fields = fields_s
 pub ages_hidden : (b : BorderView) (place : ℕ) → BorderAges b (with_hidden b place)
 ages_hidden b place = record { low = refl; fields = fields_hidden b place; slots = λ seen. seen_hidden b.live b.unused b.slots b.order seen place }
 
-pub ages_split : (b : BorderView) (keep : ℕ) (right : RightLink) → BorderAges b (with_split b keep right)
-ages_split b keep right = record { low = refl; fields = fields_split b keep right; slots = λ seen. seen_split b.live b.unused b.slots b.order seen keep }
+pub ages_splitting : (b : BorderView) → BorderAges b (with_splitting b)
+ages_splitting b = record { low = refl; fields = fields_splitting b; slots = λ seen. seen }
+
+pub ages_half_linked : (b : BorderView) (keep : ℕ) (right : RightLink) → b.version.splitting ≡ true → BorderAges b (with_half_linked b keep right)
+ages_half_linked b keep right flagged = record { low = refl; fields = fields_half_linked b keep right flagged; slots = λ seen. seen_split b.live b.unused b.slots b.order seen keep }
+
+pub ages_unstable : (b : BorderView) (place : ℕ) → BorderAges b (with_unstable b place)
+ages_unstable b place = record { low = refl; fields = fields_same (fields_seen b); slots = λ seen. seen }
+
+pub ages_written : (b : BorderView) → BorderAges b (with_written b)
+ages_written b = record { low = refl; fields = fields_same (fields_seen b); slots = λ seen. seen }
 
 pub ages_value : (b : BorderView) → IsBorder b → (place : ℕ) → place < length b.live → (row : Row) → BorderAges b (with_value b place row)
 ages_value b h place within row = record { low = refl; fields = fields_value b h place within row; slots = λ seen. seen_changed b.live b.unused b.slots b.order seen place (with_row row) within }

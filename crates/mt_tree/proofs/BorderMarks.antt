@@ -1,7 +1,8 @@
--- A border that is locked, unlocked or marked deleted, or whose unused slots are filled, keeps the tree at each chart.
+-- A border that is locked, unlocked or marked, whose unused slots are filled, or of which something is written that was
+-- unwritten, keeps the tree at each chart.
 use Rattle.std.proofs.Common.{ℕ, zero, suc, ◌≡◌, List, [], Option, Some, None, true, Result, Ok, Err, OnOk, OnErr, refl, ap, sym, subst, ◌∙◌}
 use Rattle.std.specs.Option.{option_map}
-use Rattle.mt_border.specs.Border.{BorderView, first_held, with_inserting, with_key, with_filled, with_locked, with_unlocked, with_deleted}
+use Rattle.mt_border.specs.Border.{BorderView, first_held, with_inserting, with_key, with_filled, with_locked, with_unlocked, with_deleted, with_splitting, with_unstable, with_written}
 use Rattle.mt_border.specs.Order.{IsBorder}
 use Rattle.mt_types.specs.declared.row.Row.{Row}
 use Rattle.mt_border.specs.Entry.{entry_with}
@@ -114,3 +115,12 @@ mark_keeps a number b is sound = marked_keeps a number b (with_deleted b) is (re
 
 pub key_keeps : (a : ArenaView) (number : ℕ) (b : BorderView) (key : SlotKey) → border_at a.nodes number ≡ Some b → IsBorder (with_key b key) → KeepsTree a (with_node_at a number (Border (with_key b key)))
 key_keeps a number b key is sound = marked_keeps a number b (with_key b key) is (record { low = refl; right = refl; live = refl; deleted = λ marked. marked }) sound
+
+pub splitting_keeps : (a : ArenaView) (number : ℕ) (b : BorderView) → border_at a.nodes number ≡ Some b → IsBorder (with_splitting b) → KeepsTree a (with_node_at a number (Border (with_splitting b)))
+splitting_keeps a number b is sound = marked_keeps a number b (with_splitting b) is (record { low = refl; right = refl; live = refl; deleted = λ marked. marked }) sound
+
+pub unstable_keeps : (a : ArenaView) (number : ℕ) (b : BorderView) (place : ℕ) → border_at a.nodes number ≡ Some b → IsBorder (with_unstable b place) → KeepsTree a (with_node_at a number (Border (with_unstable b place)))
+unstable_keeps a number b place is sound = marked_keeps a number b (with_unstable b place) is (record { low = refl; right = refl; live = refl; deleted = λ marked. marked }) sound
+
+pub written_keeps : (a : ArenaView) (number : ℕ) (b : BorderView) → border_at a.nodes number ≡ Some b → IsBorder (with_written b) → KeepsTree a (with_node_at a number (Border (with_written b)))
+written_keeps a number b is sound = marked_keeps a number b (with_written b) is (record { low = refl; right = refl; live = refl; deleted = λ marked. marked }) sound

@@ -2,7 +2,7 @@
 use Rattle.std.proofs.Common.{ℕ, ◌≡◌, ◌<◌, ◌⊎◌, ◌↔◌, List, take, Option, Some, None, IsSomeAnd, refl, sym, ap, subst, ◌∙◌}
 use Rattle.std.specs.Option.{option_map}
 use Rattle.mt_types.specs.declared.numbers.NodeNo.{NodeNo}
-use Rattle.mt_border.specs.Border.{BorderView, with_split}
+use Rattle.mt_border.specs.Border.{BorderView, with_half_linked}
 use Rattle.mt_border.specs.Order.{IsBorder, IsLeftOf}
 use Rattle.mt_border.specs.declared.entry.Entry.{Entry}
 use Rattle.mt_border.specs.declared.entry.RightLink.{RightLink}
@@ -27,9 +27,9 @@ low_below low live None h = no_right
 low_below low live (Some link) h = before_right h.0
 
 module _ (a : ArenaView) (number : ℕ) (half : NodeNo) (keep : ℕ) (b upper : BorderView) (is : border_at a.nodes number ≡ Some b) (filled : border_at a.nodes half.0 ≡ Some upper) (of : IsUpperHalf b upper keep) (upper_sound : IsBorder upper)
-    (sound : IsBorder (with_split b keep (record { low = upper.low; node = half }))) where
+    (sound : IsBorder (with_half_linked b keep (record { low = upper.low; node = half }))) where
   abbrev new : BorderView
-  new = with_split b keep (record { low = upper.low; node = half })
+  new = with_half_linked b keep (record { low = upper.low; node = half })
 
   parts : (e : PlainEntry) → Among e (entries_seen b.live) ↔ (Among e (entries_seen (take keep b.live)) ⊎ Among e (entries_seen upper.live))
   parts e = rw of.upper (seen_parts b.live keep e)
@@ -68,10 +68,10 @@ module _ (a : ArenaView) (number : ℕ) (half : NodeNo) (keep : ℕ) (b upper : 
 -- the border that `half` names is the upper half; it is the same one whoever reads it
 pub half_links : (a : ArenaView) (number : ℕ) (half : NodeNo) (keep low : ℕ) (b upper b' : BorderView) → border_at a.nodes number ≡ Some b → border_at a.nodes half.0 ≡ Some upper →
     IsSomeAnd (border_at a.nodes number) (λ own. IsSomeAnd (border_at a.nodes half.0) (λ other. IsUpperHalf own other keep)) →
-    low ≡ upper.low → b' ≡ with_split b keep (record { low = low; node = half }) → IsBorder upper → IsBorder b' → LinksHalfAt a (with_node_at a number (Border b')) number half.0
+    low ≡ upper.low → b' ≡ with_half_linked b keep (record { low = low; node = half }) → IsBorder upper → IsBorder b' → LinksHalfAt a (with_node_at a number (Border b')) number half.0
 half_links a number half keep low b upper b' is filled required low_is new upper_sound sound = record {
   links = λ other there. (let same : upper ≡ other = cc in
-      let change = new ∙ ap (λ (l : ℕ). with_split b keep (record { low = l; node = half })) low_is in
+      let change = new ∙ ap (λ (l : ℕ). with_half_linked b keep (record { low = l; node = half })) low_is in
       let of = asked (λ (u : BorderView). IsUpperHalf b u keep) (border_at a.nodes half.0) upper filled (asked (λ (own : BorderView). IsSomeAnd (border_at a.nodes half.0) (λ u. IsUpperHalf own u keep)) (border_at a.nodes number) b is required) in
       rw (change, ← same) (half_keeps a number half keep b upper is filled of upper_sound (rw change at sound)));
 }

@@ -4,14 +4,15 @@ use Rattle.mt_slice.specs.Place.{place_of}
 use Rattle.mt_types.specs.declared.row.Row.{Row}
 use Rattle.mt_types.specs.declared.numbers.NodeNo.{NodeNo}
 use Rattle.mt_word.specs.declared.permutation_word.TheConstants.{SLOTS}
-use Rattle.mt_word.specs.declared.version_word.TheConstants.{MAX_SPLITS}
+use Rattle.mt_word.specs.Slots.{Slots}
 use Rattle.mt_border.specs.Entry.{entry_row}
-use Rattle.mt_border.specs.Border.{BorderView, first_held, next_row, row_at, with_shown}
+use Rattle.mt_border.specs.Border.{BorderView, first_held, next_row, row_at, suffix_at, with_shown}
 use Rattle.mt_border.specs.Order.{IsBorder, AreBelow}
+use Rattle.mt_border.specs.Table.{number_at}
 use Rattle.mt_border.specs.declared.entry.Content.TheVariants.{Long, Link}
 use Rattle.mt_border.specs.declared.entry.Entry.{Entry}
 use Rattle.mt_border.specs.declared.slot_table.Slot.{Slot}
-use Rattle.mt_border.specs.declared.unwritten.Unwritten.TheVariants.{Nothing, Value}
+use Rattle.mt_border.specs.declared.unwritten.Unwritten.TheVariants.{Nothing, Value, Order, LinkAt, MarkAt}
 use Rattle.mt_border.specs.declared.unwritten.SlotKey.{SlotKey}
 use Rattle.mt_border.specs.Keys.{key_seen, IsKey}
 use Rattle.mt_interior.specs.Head.{HeadView}
@@ -64,17 +65,17 @@ pub record SetsRowAt (a after : ArenaView) (number place : ℕ) (row : Row) : Ty
   pub sets : (b : BorderView) (entry : Entry) → border_at a.nodes number ≡ Some b →
       slice_get b.live place ≡ Some entry → ReplacesRow a after number (entry_place entry) row
 
--- A HALF IS LINKED. The second border is filled with the upper entries of the first, which is locked, those from the
--- place `keep` on, and is to stand between it and its right neighbour.
+-- A HALF IS LINKED. The second border is filled with the upper entries of the first, which is locked and marked as one
+-- that is being split, those from the place `keep` on, and is to stand between it and its right neighbour.
 pub record IsUpperHalf (b half : BorderView) (keep : ℕ) : Type 0 where
   pub locked : b.version.locked ≡ true
+  pub splitting : b.version.splitting ≡ true
   pub written : b.unwritten ≡ Nothing
   pub within : keep ≤ length b.live
   pub upper : half.live ≡ drop keep b.live
   pub right : half.right ≡ b.right
   pub above_low : b.low < half.low
   pub above_kept : AreBelow half.low (take keep b.live)
-  pub unspent : b.version.vsplit < MAX_SPLITS
 
 -- the chart then: the border is on, in some layer, whose head is not marked deleted where it names the border; the
 -- half, of this low, was unknown, and is on in that layer from then on, but no head or interior may name it
@@ -91,9 +92,24 @@ pub record LinksHalfAt (a after : ArenaView) (number half : ℕ) : Type 0 where
   pub links : (upper : BorderView) → border_at a.nodes half ≡ Some upper →
       KeepsAlong a after (λ now twins chart next. ChartsHalf a number half upper.low chart next)
 
--- A LAYER IS MADE. The entry at the place of a border is of a longer key, with this suffix and row; the head names, at
--- level 0, a border that is not marked deleted, from low 0 on and with nothing to its right, and that has the same row
--- alone, at the place of the suffix.
+-- ITS ORDER IS CUT: it is still to be, as others read it
+abbrev pub AwaitsSomeCut : BorderView → Type 0
+AwaitsSomeCut b = (shown : Slots) × (b.unwritten ≡ Order shown)
+
+-- A KEY IS MARKED UNSTABLE, which continues after its slice. The border is locked.
+pub record MayMarkUnstable (b : BorderView) (place : ℕ) : Type 0 where
+  pub within : place < length b.live
+  pub long : IsSome (suffix_at place b.live)
+  pub locked : b.version.locked ≡ true
+  pub written : b.unwritten ≡ Nothing
+
+-- IT IS MARKED AS A LAYER'S: its value is the link
+abbrev pub AwaitsSomeMark : BorderView → Type 0
+AwaitsSomeMark b = (number : ℕ) × (suffix : List ℕ) × (b.unwritten ≡ MarkAt number suffix)
+
+-- A LAYER IS MADE. The entry at the place of a border is of a longer key, with this suffix and row, and is marked unstable;
+-- the head names, at level 0, a border that is not marked deleted, from low 0 on and with nothing to its right, and that
+-- has the same row alone, at the place of the suffix.
 pub record HasLayerFor (nodes : Nodes) (b : BorderView) (place head : ℕ) : Type 0 where
   pub slice : ℕ
   pub suffix : List ℕ
@@ -102,6 +118,7 @@ pub record HasLayerFor (nodes : Nodes) (b : BorderView) (place head : ℕ) : Typ
   pub layer_root : BorderView
   pub entry : Entry
   pub long : slice_get b.live place ≡ Some (record { slice = slice; content = Long suffix row })
+  pub unstable : b.unwritten ≡ LinkAt (number_at place b.order)
   pub is_head : head_at nodes head ≡ Some layer_head
   pub level : layer_head.level ≡ 0
   pub is_root : border_at nodes layer_head.root.0 ≡ Some layer_root

@@ -1,7 +1,7 @@
 //! What a call changes in a border node, and what each change keeps of the whole tree.
 
 ghost use Rattle.std.specs.Prelude.{◌≡◌, ◌↔◌, [], Some, true, false, IsSomeAnd, IsTrue, IsErr, OnOk, OnErr, IfErr, length, ◌<◌};
-ghost use Rattle.mt_border.specs.Border.{with_locked, with_unlocked, with_deleted, with_inserting, with_key, with_filled, with_shown, with_hidden, with_value, with_split, with_link_at, with_right, insert_is_spent, row_at};
+ghost use Rattle.mt_border.specs.Border.{with_locked, with_unlocked, with_deleted, with_inserting, with_key, with_filled, with_shown, with_hidden, with_value, with_right, insert_is_spent, row_at};
 ghost use Rattle.mt_word.specs.declared.permutation_word.TheConstants.{SLOTS};
 ghost use Rattle.mt_border.specs.Order.{IsBorder};
 ghost use Rattle.mt_border.specs.declared.unwritten.Unwritten.TheVariants.{Nothing, Value};
@@ -10,15 +10,15 @@ ghost use Rattle.mt_border.specs.Entry.{entry_with};
 ghost use Rattle.mt_arena.specs.Node.{border_at};
 ghost use Rattle.mt_arena.specs.Arena.{with_border_changed};
 ghost use Rattle.mt_tree.specs.Keeping.{KeepsTree};
-ghost use Rattle.mt_tree.specs.BorderSteps.{MayWriteKey, AwaitsSome, MayShowAt, ShowsNext, HasRowAt, HidesRowAt, SetsRowAt, IsUpperHalf, LinksHalfAt, HasLayerFor, MakesLayerAt, IsMarkedRight, UnlinksAt, HasMarkedLayerAt, DropsLayerAt};
+ghost use Rattle.mt_tree.specs.BorderSteps.{MayWriteKey, AwaitsSome, MayShowAt, ShowsNext, HasRowAt, HidesRowAt, SetsRowAt, IsMarkedRight, UnlinksAt};
 
 use crate::tree::Tree;
-use mt_border::{RightLink, SlotKey};
+use mt_border::SlotKey;
 use mt_types::numbers::NodeNo;
 use mt_types::refusal::Refusal;
 use mt_types::row::Row;
 
-#[tactic(auto, using(crate::proofs::SeenLemmas::sound_border, crate::proofs::BorderMarks::lock_keeps, crate::proofs::BorderMarks::unlock_keeps, crate::proofs::BorderMarks::mark_keeps, crate::proofs::BorderMarks::key_keeps, crate::proofs::BorderRows::shows_next, crate::proofs::BorderRows::hides_at, crate::proofs::BorderRows::sets_at, crate::proofs::UnlinkSteps::may_take_right, crate::proofs::LayerSteps::makes_layer, crate::proofs::LayerSteps::drops_layer))]
+#[tactic(auto, using(crate::proofs::SeenLemmas::sound_border, crate::proofs::BorderMarks::lock_keeps, crate::proofs::BorderMarks::unlock_keeps, crate::proofs::BorderMarks::mark_keeps, crate::proofs::BorderMarks::key_keeps, crate::proofs::BorderRows::shows_next, crate::proofs::BorderRows::hides_at, crate::proofs::BorderRows::sets_at, crate::proofs::UnlinkSteps::may_take_right))]
 impl Tree {
     /// Locks a border. Constant cost.
     pub fn lock_border(&mut self, number: NodeNo)
@@ -119,41 +119,14 @@ impl Tree {
 
     /// Replaces the row of the entry at a place of a border, which has one, and returns the old row. Constant cost.
     pub fn set_value(&mut self, number: NodeNo, place: usize, row: Row) -> Row
-        requires { IsSomeAnd (border_at self.old.nodes number.0) (λ b. HasRowAt b place) }
+        requires row { IsSomeAnd (border_at self.old.nodes number.0) (λ b. HasRowAt b place) }
+        requires written { IsSomeAnd (border_at self.old.nodes number.0) (λ b. b.unwritten ≡ Nothing) }
         ensures value { self.new ≡ with_border_changed self.old number.0 (λ b. with_value b place row) }
         ensures replaced { IsSomeAnd (border_at self.old.nodes number.0) (λ b. row_at place b.live ≡ Some result) }
         ensures sound { IsSomeAnd (border_at self.new.nodes number.0) IsBorder }
         ensures sets { SetsRowAt self.old self.new number.0 place row }
     {
         self.arena.border_mut(number).set_value(place, row)
-    }
-
-    /// The link step of a split: a border keeps the first `keep` entries, and names to its right the half, a border
-    /// that was filled with the others. It is marked as one that is being split, until it is unlocked. Constant cost.
-    pub fn link_half(&mut self, number: NodeNo, half: NodeNo, keep: usize)
-        requires { IsSomeAnd (border_at self.old.nodes number.0) (λ b.
-            IsSomeAnd (border_at self.old.nodes half.0) (λ upper. IsUpperHalf b upper keep)) }
-        ensures value { IsSomeAnd (border_at self.old.nodes half.0) (λ upper.
-            self.new ≡ with_border_changed self.old number.0 (λ b. with_split b keep
-            (record { low = upper.low; node = half }))) }
-        ensures sound { IsSomeAnd (border_at self.new.nodes number.0) IsBorder }
-        ensures links { LinksHalfAt self.old self.new number.0 half.0 }
-    {
-        let low = self.border(half).low();
-        self.arena
-            .border_mut(number)
-            .link_right(keep, RightLink { low, node: half });
-    }
-
-    /// Makes the entry at a place of a border, which has the row of a longer key, a link to the head of a layer that
-    /// has that row alone. The entry's own row is dropped. Constant cost.
-    pub fn make_link(&mut self, number: NodeNo, place: usize, head: NodeNo)
-        requires { IsSomeAnd (border_at self.old.nodes number.0) (λ b. HasLayerFor self.old.nodes b place head.0) }
-        ensures value { self.new ≡ with_border_changed self.old number.0 (λ b. with_link_at b place head) }
-        ensures sound { IsSomeAnd (border_at self.new.nodes number.0) IsBorder }
-        ensures makes { MakesLayerAt self.old self.new number.0 place head.0 }
-    {
-        self.arena.border_mut(number).make_link(place, head);
     }
 
     /// Takes a border that is marked deleted out of its chain: the border before it takes its right link. Constant
@@ -168,16 +141,5 @@ impl Tree {
     {
         let right = self.border(gone).right();
         self.arena.border_mut(number).set_right(right);
-    }
-
-    /// Hides the link at a place of a border to a layer that is marked deleted. Constant cost.
-    pub fn hide_link(&mut self, number: NodeNo, place: usize)
-        requires marked { IsSomeAnd (border_at self.old.nodes number.0) (λ b. HasMarkedLayerAt self.old.nodes b place) }
-        requires written { IsSomeAnd (border_at self.old.nodes number.0) (λ b. b.unwritten ≡ Nothing) }
-        ensures value { self.new ≡ with_border_changed self.old number.0 (λ b. with_hidden b place) }
-        ensures sound { IsSomeAnd (border_at self.new.nodes number.0) IsBorder }
-        ensures drops { DropsLayerAt self.old self.new number.0 place }
-    {
-        self.arena.border_mut(number).hide(place);
     }
 }

@@ -6,7 +6,9 @@ mod descent;
 mod head_changes;
 mod interior_changes;
 pub mod laws;
+mod layer_changes;
 mod spares;
+mod split_changes;
 mod tree;
 mod visit;
 
