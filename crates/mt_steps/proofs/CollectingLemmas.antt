@@ -1,44 +1,22 @@
 -- A collection frees one node after another.
-use Rattle.std.proofs.Common.{ℕ, zero, suc, ◌≡◌, ◌<◌, ◌≤◌, ◌+◌, inl, inr, List, [], ◌∷◌, length, take, drop, slice_get, Option, Some, None, IsSome, true, refl, sym, ap, subst, ◌∙◌, arith, add-one}
+use Rattle.std.proofs.Common.{ℕ, zero, suc, ◌≡◌, ◌<◌, ◌≤◌, ◌+◌, List, [], ◌∷◌, length, take, drop, slice_get, Option, Some, None, refl, sym, ap, subst, ◌∙◌, arith, add-one}
 use Rattle.std.specs.Prelude.{IsSomeAnd, All, slice_index_or}
 use Rattle.std.specs.List.Sorted.{IsNonDecreasingBy}
 use Rattle.std.specs.Option.{option_and_then}
 use Rattle.std.proofs.lemmas.List.Elements.{All-nil, All-cons, All-head, All-tail}
 use Rattle.mt_types.specs.declared.limits.TheConstants.{MAX_NODES}
 use Rattle.mt_types.specs.declared.numbers.NodeNo.{NodeNo}
-use Rattle.mt_interior.specs.Head.{HeadView}
-use Rattle.mt_arena.specs.Node.{head_of, border_of}
+use Rattle.mt_arena.specs.Node.{border_of}
 use Rattle.mt_arena.specs.Arena.{ArenaView, IsArena, without_first_retired}
 use Rattle.mt_arena.specs.declared.retired.Retired.{Retired}
-use Rattle.mt_arena.specs.declared.node.Node.{Node}
 use Rattle.mt_arena.proofs.ArenaLemmas.{retired_among}
 use Rattle.mt_chart.proofs.HeldNodes.{evolves_same, evolves_again}
 use Rattle.mt_tree.specs.Keeping.{FreesNode}
-use Rattle.mt_steps.specs.World.{World, IsLocked, IsTaken, IsSame}
 use Rattle.mt_steps.specs.Collecting.{CollectLaw, given_back}
 use Rattle.mt_steps.proofs.AgingLemmas.{age_same, age_less}
 use Rattle.mt_steps.proofs.LayerLemmas.{content_twice}
 use Rattle.mt_steps.proofs.CollectLemmas.{without_spot, collects}
-
--- ---- what is left
--- what is left as it was twice is left as it was
-same_twice : (a b c : ArenaView) (u v w : World) (number : ℕ) → IsSame a b u v number → IsSame b c v w number → IsSame a c u w number
-same_twice a b c u v w number one two = record {
-  node = two.node ∙ one.node;
-  spot = two.spot ∙ one.spot;
-  twins = λ x y here. ((λ h. (one.twins x y here).0 ((two.twins x y here).0 h)), (λ h. (two.twins x y here).1 ((one.twins x y here).1 h)));
-  closing = λ i. one.closing (two.closing i);
-  retired = ((λ h. one.retired.0 (two.retired.0 h)), (λ h. two.retired.1 (one.retired.1 h)));
-}
-
--- what is taken, and left as it was, is taken still
-taken_on : (a b : ArenaView) (u v : World) (number : ℕ) → IsSame a b u v number → IsTaken a u number → IsTaken b v number
-taken_on a b u v number same (inl locked) = inl (subst (λ (x : Option Node). IsLocked x) (sym same.node) locked)
-taken_on a b u v number same (inr (inl spare)) = inr (inl (subst (λ (x : Option Node). IsSome x) (sym same.node) spare.0, same.spot ∙ spare.1))
-taken_on a b u v number same (inr (inr m)) = inr (inr (record {
-  marked = subst (λ (x : Option HeadView). IsSomeAnd x (λ h. h.version.deleted ≡ true)) (ap (option_and_then head_of) (sym same.node)) m.marked;
-  kept = same.retired.1 m.kept;
-}))
+use Rattle.mt_steps.proofs.TwiceLemmas.{same_twice, taken_on}
 
 -- before any is freed
 pub law_none : (a : ArenaView) (before : ℕ) → CollectLaw a a before

@@ -1,10 +1,10 @@
 -- What a call knows of the border that it has locked after each field that it reads of it, and how many fields it has
 -- still to read.
-use Rattle.std.proofs.Common.{ℕ, suc, ◌≡◌, ◌<◌, ◌≤◌, ◌+◌, Bool, true, false, if◌then◌else◌, List, ◌∷◌, length, take, drop, get_or, slice_get, Option, Some, None, refl, sym, ap, subst, ◌∙◌, arith, length-drop}
-use Rattle.std.specs.Prelude.{◌-◌, nat_lt, nat_eq, slice_index, Result, Ok, Err, IfOk, IsSomeAnd}
+use Rattle.std.proofs.Common.{ℕ, suc, ◌≡◌, ◌≢◌, ◌<◌, ◌≤◌, ◌+◌, ◌==◌, Bool, true, false, if◌then◌else◌, List, [], ◌∷◌, ◌++◌, length, take, drop, get_or, slice_get, Option, Some, None, refl, sym, ap, subst, ◌∙◌, arith, length-drop}
+use Rattle.std.specs.Prelude.{◌-◌, nat_lt, slice_index, Result, Ok, Err, IfOk, IsSomeAnd}
 use Rattle.std.specs.Str.{bytes_eq}
-use Rattle.std.proofs.lemmas.Bool.{ltb-true, ltb-false}
-use Rattle.std.proofs.lemmas.List.{take_all, get_or-drop}
+use Rattle.std.proofs.lemmas.Bool.{ltb-true, ltb-false, eq-eqb, eqb-true}
+use Rattle.std.proofs.lemmas.List.{take_all, get_or-drop, take_more, map-append}
 use Rattle.std.proofs.lemmas.Option.{slice_get-get_or}
 use Rattle.mt_types.specs.declared.numbers.NodeNo.{NodeNo}
 use Rattle.mt_types.specs.declared.row.Row.{Row}
@@ -17,7 +17,7 @@ use Rattle.mt_border.specs.Find.{found_content}
 use Rattle.mt_border.specs.Keys.{KeyView, entry_key, content_mark, IsKeyPart}
 use Rattle.mt_border.specs.Order.{IsBorder}
 use Rattle.mt_border.specs.Parts.{IsValueOf}
-use Rattle.mt_border.specs.Slots.{slot_at, key_in, key_at}
+use Rattle.mt_border.specs.Slots.{slot_at, key_in, key_at, order_in, order_shown}
 use Rattle.mt_border.specs.Table.{blank_slot, next_number}
 use Rattle.mt_border.specs.declared.entry.Content.{Content}
 use Rattle.mt_border.specs.declared.entry.Content.TheVariants.{Short, Long, Link}
@@ -26,7 +26,7 @@ use Rattle.mt_border.specs.declared.entry.RightLink.{RightLink}
 use Rattle.mt_border.specs.declared.field.KeyPart.{KeyPart}
 use Rattle.mt_border.specs.declared.field.ValuePart.{ValuePart}
 use Rattle.mt_border.specs.declared.field.ValuePart.TheVariants.{Row as RowPart, Link as LinkPart}
-use Rattle.mt_border.specs.declared.found.Found.TheVariants.{Row as RowFound, OtherSuffix, Link as LinkFound}
+use Rattle.mt_border.specs.declared.found.Found.TheVariants.{Absent as AbsentFound, Row as RowFound, OtherSuffix, Link as LinkFound}
 use Rattle.mt_border.specs.declared.unwritten.Unwritten.{Unwritten}
 use Rattle.mt_border.specs.declared.unwritten.Unwritten.TheVariants.{Nothing}
 use Rattle.mt_border.proofs.SlotLemmas.{live_count}
@@ -48,11 +48,16 @@ use Rattle.mt_steps.specs.declared.entering.Sought.TheVariants.{Before, At, Afte
 use Rattle.mt_steps.specs.declared.entering.Entering.{Entering}
 use Rattle.mt_steps.specs.declared.entering.Entering.TheVariants.{Locked, Bounded, Reads, AtValue}
 use Rattle.mt_steps.specs.declared.entering.Entered.{Entered}
-use Rattle.mt_steps.specs.declared.entering.Entered.TheVariants.{Enters}
-use Rattle.mt_steps.specs.Entering.{part_key, match_by, sought_then, sought_for, bounded_by, bounded, keys_read, next_key, value_there, wants, entered, IsEntering, IsOutlined, EnteringIsTrue, EnteredIsTrue, entering_left, HasFewerLeft, EnterLeads}
+use Rattle.mt_steps.specs.declared.entering.Entered.TheVariants.{Enters, Here}
+use Rattle.mt_steps.specs.declared.entering.There.TheVariants.{Full, Absent as AbsentThere}
+use Rattle.mt_steps.specs.Listing.{key_read_of}
+use Rattle.mt_steps.specs.declared.listing.SlotKey.{SlotKey}
+use Rattle.mt_word.specs.declared.permutation_word.TheConstants.{SLOTS}
+use Rattle.mt_steps.specs.Entering.{part_key, match_by, sought_then, sought_for, bounded_by, bounded, key_noted, keys_with, noted, entry_noted, keys_of, absent_there, keys_read, next_key, value_there, wants, entered, IsEntering, IsOutlined, EnteringIsTrue, EnteredIsTrue, entering_left, HasFewerLeft, EnterLeads}
 use Rattle.mt_steps.proofs.PartLemmas.{lends_field}
 use Rattle.mt_steps.proofs.ReaderLemmas.{lent_of}
 use Rattle.mt_steps.proofs.SoughtLemmas.{MatchedAt, SoughtIsFound, sought_more, sought_found}
+use Rattle.mt_steps.proofs.StandLemmas.{few_shown}
 
 -- a key is what it is lent as
 key_same : (key : KeyView) (part : KeyPart) → IsKeyPart key part → part_key part ≡ key
@@ -79,7 +84,15 @@ matched_there rest b h place matched m =
       own = λ i. record { slice = (rank_tells rest m.entry whole m.rank).0 i; content = m.entry.content };
     }
 
+-- one key more is noted
+keys_more : (full : Bool) (live : List Entry) (place : ℕ) (entry : Entry) (part : KeyPart) (keys : List SlotKey) → keys ≡ keys_of full (take place live) → key_noted part ≡ entry_noted entry → take (place + 1) live ≡ take place live ++ (entry ∷ []) → keys_with full keys part ≡ keys_of full (take (place + 1) live)
+keys_more true live place entry part keys is one more = rw (is, one, more, map-append entry_noted (take place live) (entry ∷ [])) refl
+keys_more false live place entry part keys is one more = is
+
 module _ (rest : List ℕ) (b : BorderView) (h : IsBorder b) where
+  most_live : length b.live ≤ 15
+  most_live = omega (arith, h.slots)
+
   -- there are as many live slots as the order says
   live_long : (outline : Outline) → IsOutlined rest b outline → length outline.order.live ≡ length b.live
   live_long outline is = ap (λ (o : Slots). length o.live) is.order ∙ sym (live_count b.live b.unused b.slots b.order h.seen)
@@ -97,40 +110,65 @@ module _ (rest : List ℕ) (b : BorderView) (h : IsBorder b) where
       go (Some next) to = to
   right_is part is = absurd is
 
+  -- no key has the slice and class sought
+  absent_is : (outline : Outline) → IsOutlined rest b outline → outline.keys ≡ keys_of (length b.live == SLOTS) b.live → (place : ℕ) → found_for rest b.live ≡ AbsentFound place → EnteredIsTrue rest (Here (absent_there outline place)) b
+  absent_is outline is keys place found = go (length outline.order.live == SLOTS) refl
+    where
+      go : (full : Bool) → (length outline.order.live == SLOTS) ≡ full → EnteredIsTrue rest (Here (if full then Full place outline else AbsentThere place)) b
+      go true full =
+          let all : length b.live ≡ SLOTS = sym (live_long outline is) ∙ eqb-true (length outline.order.live) SLOTS full in
+          (is.bounded.within, (found, is, all, keys ∙ ap (λ (f : Bool). keys_of f b.live) (eq-eqb (length b.live) SLOTS all)))
+      go false room =
+          let other : length b.live ≢ SLOTS = λ e. (let clash : true ≡ false = sym (eq-eqb (length outline.order.live) SLOTS (live_long outline is ∙ e)) ∙ room in absurd (cc)) in
+          (is.bounded.within, (found, omega (arith, other, most_live)))
+
   -- all keys are read
-  all_read : (outline : Outline) → IsOutlined rest b outline → EnteredIsTrue rest (keys_read outline (length b.live) (sought_for rest b.live)) b
-  all_read outline is = go (sought_for rest b.live) refl (sought_found rest b.live)
+  all_read : (outline : Outline) → IsOutlined rest b outline → outline.keys ≡ keys_of (length b.live == SLOTS) b.live → EnteredIsTrue rest (keys_read outline (length b.live) (sought_for rest b.live)) b
+  all_read outline is keys = go (sought_for rest b.live) refl (sought_found rest b.live)
     where
       go : (sought : Sought) → sought ≡ sought_for rest b.live → SoughtIsFound rest b.live sought → EnteredIsTrue rest (keys_read outline (length b.live) sought) b
-      go Before same found = (is.bounded.within, found)
+      go Before same found = absent_is outline is keys (length b.live) found
       go (At place matched) same found = (is, same)
-      go (After place) same found = (is.bounded.within, found)
+      go (After place) same found = absent_is outline is keys place found
 
   -- the keys before a place are read
-  next_is : (outline : Outline) → IsOutlined rest b outline → (place : ℕ) → place ≤ length b.live → EnteredIsTrue rest (next_key outline place (sought_for rest (take place b.live))) b
-  next_is outline is place within = go (nat_lt place (length outline.order.live)) refl
+  next_is : (outline : Outline) → IsOutlined rest b outline → (place : ℕ) → place ≤ length b.live → outline.keys ≡ keys_of (length b.live == SLOTS) (take place b.live) → EnteredIsTrue rest (next_key outline place (sought_for rest (take place b.live))) b
+  next_is outline is place within keys = go (nat_lt place (length outline.order.live)) refl
     where
       go : (more : Bool) → nat_lt place (length outline.order.live) ≡ more → EnteredIsTrue rest (if more then Enters (Reads outline place (sought_for rest (take place b.live))) else keys_read outline place (sought_for rest (take place b.live))) b
-      go true less = (is, omega (arith, ltb-true place (length outline.order.live) less, live_long outline is), refl)
+      go true less = (is, omega (arith, ltb-true place (length outline.order.live) less, live_long outline is), refl, keys)
       go false full =
           let count : place ≡ length b.live = omega (arith, within, ltb-false place (length outline.order.live) full, live_long outline is) in
           let all : take place b.live ≡ b.live = take_all place b.live (omega (arith, count)) in
-          subst (λ (l : List Entry). EnteredIsTrue rest (keys_read outline place (sought_for rest l)) b) (sym all) (subst (λ (n : ℕ). EnteredIsTrue rest (keys_read outline n (sought_for rest b.live)) b) (sym count) (all_read outline is))
+          subst (λ (l : List Entry). EnteredIsTrue rest (keys_read outline place (sought_for rest l)) b) (sym all) (subst (λ (n : ℕ). EnteredIsTrue rest (keys_read outline n (sought_for rest b.live)) b) (sym count) (all_read outline is (keys ∙ ap (keys_of (length b.live == SLOTS)) all)))
 
-  order_is : (right : Option RightLink) → EnteringIsTrue rest (Bounded right) b → (part : Part) → IsFieldOf b OrderField part → EnteredIsTrue rest (entered rest (Bounded right) part) b
-  order_is right true_of (OrderPart order) is = next_is (record { right = right; order = order }) (record { bounded = true_of; order = is }) 0 (omega arith)
-  order_is right true_of part is = absurd is
+  -- all of it is written: the order that is read is its own
+  order_written : b.unwritten ≡ Nothing → order_shown b ≡ b.order
+  order_written written = ap (λ (u : Unwritten). order_in u b.order) written
+
+  order_is : b.unwritten ≡ Nothing → (right : Option RightLink) → EnteringIsTrue rest (Bounded right) b → (part : Part) → IsFieldOf b OrderField part → EnteredIsTrue rest (entered rest (Bounded right) part) b
+  order_is written right true_of (OrderPart order) is = next_is (record { right = right; order = order; keys = [] }) (record { bounded = true_of; order = is ∙ order_written written }) 0 (omega arith) (none_noted (length b.live == SLOTS))
+    where
+      none_noted : (full : Bool) → [] ≡ keys_of full []
+      none_noted true = refl
+      none_noted false = refl
+  order_is written right true_of part is = absurd is
 
   -- ---- a key
   key_is : b.unwritten ≡ Nothing → (outline : Outline) (place : ℕ) (sought : Sought) → EnteringIsTrue rest (Reads outline place sought) b → (part : Part) → IsFieldOf b (wants (Reads outline place sought)) part
       → EnteredIsTrue rest (entered rest (Reads outline place sought) part) b
-  key_is written outline place sought (is, within, so_far) (KeyPartOf part) lent =
+  key_is written outline place sought (is, within, so_far, keys) (KeyPartOf part) lent =
       let number = slice_index outline.order.live place in
-      let own : key_at b number ≡ entry_key (slot_at b number).entry = ap (λ (u : Unwritten). key_in u (nat_eq number (next_number b.order)) (entry_key (slot_at b number).entry)) written in
+      let own : key_at b number ≡ entry_key (slot_at b number).entry = ap (λ (u : Unwritten). key_in u (next_number b.order) number (entry_key (slot_at b number).entry)) written in
       let key : part_key part ≡ entry_key (get_or b.live place blank_slot.entry) = key_same (key_at b number) part lent ∙ (own ∙ ap entry_key (slot_there outline is place within)) in
       let more : sought_then rest sought place (part_key part) ≡ sought_for rest (take (place + 1) b.live) =
       ap (λ (s : Sought). sought_then rest s place (part_key part)) so_far ∙ (ap (λ (k : KeyView). sought_then rest (sought_for rest (take place b.live)) place k) key ∙ sym (sought_more rest b.live place blank_slot.entry within)) in
-      subst (λ (s : Sought). EnteredIsTrue rest (next_key outline (place + 1) s) b) (sym more) (next_is outline is (place + 1) (omega (arith, within)))
+      let entry : Entry = get_or b.live place blank_slot.entry in
+      let noted_one : key_noted part ≡ entry_noted entry = ap (λ (k : KeyView). record { slice = k.slice; rest = key_read_of k.class k.suffix }) key in
+      let outlined : IsOutlined rest b (noted outline part) = record { bounded = is.bounded; order = is.order } in
+      let all : keys_with (length outline.order.live == SLOTS) outline.keys part ≡ keys_of (length b.live == SLOTS) (take (place + 1) b.live) =
+      ap (λ (n : ℕ). keys_with (n == SLOTS) outline.keys part) (live_long outline is) ∙ keys_more (length b.live == SLOTS) b.live place entry part outline.keys keys noted_one (take_more b.live place blank_slot.entry within) in
+      subst (λ (s : Sought). EnteredIsTrue rest (next_key (noted outline part) (place + 1) s) b) (sym more) (next_is (noted outline part) outlined (place + 1) (omega (arith, within)) all)
   key_is written outline place sought true_of part lent = absurd lent
 
   -- ---- a value
@@ -162,7 +200,7 @@ module _ (rest : List ℕ) (b : BorderView) (h : IsBorder b) where
   -- WHAT IT DOES after the field that it wants is right, if what it has read is, and all of the border is written
   pub entered_is : b.unwritten ≡ Nothing → (entering : Entering) → EnteringIsTrue rest entering b → (part : Part) → IsFieldOf b (wants entering) part → EnteredIsTrue rest (entered rest entering part) b
   entered_is written Locked true_of part lent = right_is part lent
-  entered_is written (Bounded right) true_of part lent = order_is right true_of part lent
+  entered_is written (Bounded right) true_of part lent = order_is written right true_of part lent
   entered_is written (Reads outline place sought) true_of part lent = key_is written outline place sought true_of part lent
   entered_is written (AtValue outline place matched) true_of part lent = value_is outline place matched true_of part lent
 
@@ -170,20 +208,17 @@ module _ (rest : List ℕ) (b : BorderView) (h : IsBorder b) where
   pub entering_reads : (entering : Entering) → EnteringIsTrue rest entering b → IsEntering entering
   entering_reads Locked true_of = tt
   entering_reads (Bounded right) true_of = tt
-  entering_reads (Reads outline place sought) (is, within, so_far) = omega (arith, within, live_long outline is)
+  entering_reads (Reads outline place sought) (is, within, so_far, keys) = omega (arith, within, live_long outline is)
   entering_reads (AtValue outline place matched) (is, all) =
       let m : MatchedAt rest b.live place matched = subst (SoughtIsFound rest b.live) (sym all) (sought_found rest b.live) in
       omega (arith, (matched_there rest b h place matched m).within, live_long outline is)
 
   -- ---- how many fields it has still to read
-  most_live : length b.live ≤ 15
-  most_live = omega (arith, h.slots)
-
   -- AT MOST EIGHTEEN: the right link, the order, fifteen keys and a value
   pub most_left : (entering : Entering) → EnteringIsTrue rest entering b → entering_left entering ≤ 18
   most_left Locked true_of = omega arith
   most_left (Bounded right) true_of = omega arith
-  most_left (Reads outline place sought) (is, within, so_far) = omega (arith, most_live, live_long outline is)
+  most_left (Reads outline place sought) (is, within, so_far, keys) = omega (arith, most_live, live_long outline is)
   most_left (AtValue outline place matched) true_of = omega arith
 
   bounded_fewer : (slice : ℕ) (right : Option RightLink) → HasFewerLeft Locked (bounded slice right)
@@ -214,12 +249,12 @@ module _ (rest : List ℕ) (b : BorderView) (h : IsBorder b) where
   fewer_left Locked true_of (RightPart right) lent = bounded_fewer (slice_number rest) right
   fewer_left Locked true_of part lent = absurd lent
   fewer_left (Bounded right) true_of (OrderPart order) lent =
-      let few : length order.live ≤ 15 = omega (arith, most_live, live_long (record { right = right; order = order }) (record { bounded = true_of; order = lent })) in
-      next_fewer (Bounded right) (record { right = right; order = order }) 0 Before (omega (arith, few)) (omega arith)
+      let few : length order.live ≤ 15 = subst (λ (s : Slots). length s.live ≤ 15) (sym lent) (few_shown b h) in
+      next_fewer (Bounded right) (record { right = right; order = order; keys = [] }) 0 Before (omega (arith, few)) (omega arith)
   fewer_left (Bounded right) true_of part lent = absurd lent
-  fewer_left (Reads outline place sought) (is, within, so_far) (KeyPartOf part) lent =
+  fewer_left (Reads outline place sought) (is, within, so_far, keys) (KeyPartOf part) lent =
       let live : place < length outline.order.live = omega (arith, within, live_long outline is) in
-      next_fewer (Reads outline place sought) outline (place + 1) (sought_then rest sought place (part_key part)) (omega (arith, live)) (omega (arith, live))
+      next_fewer (Reads outline place sought) (noted outline part) (place + 1) (sought_then rest sought place (part_key part)) (omega (arith, live)) (omega (arith, live))
   fewer_left (Reads outline place sought) true_of part lent = absurd lent
   fewer_left (AtValue outline place matched) true_of (ValuePartOf part) lent = value_fewer outline place matched part
   fewer_left (AtValue outline place matched) true_of part lent = absurd lent

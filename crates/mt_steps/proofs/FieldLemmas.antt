@@ -9,6 +9,7 @@ use Rattle.mt_types.specs.declared.event.Request.TheVariants.{Get as GetRequest}
 use Rattle.mt_types.specs.declared.event.Answer.TheVariants.{Absent as AbsentAnswer, Found}
 use Rattle.mt_slice.specs.Place.{Place, AreBytes, place_of, slice_number, rest_at, slices_above}
 use Rattle.mt_word.specs.Slots.{Slots}
+use Rattle.mt_border.specs.Slots.{order_shown}
 use Rattle.mt_border.specs.Border.{BorderView}
 use Rattle.mt_border.specs.Slots.{slot_at}
 use Rattle.mt_border.specs.Order.{IsBorder}
@@ -52,7 +53,7 @@ use Rattle.mt_steps.specs.declared.finding.Sight.TheVariants.{Absent as AbsentSi
 use Rattle.mt_steps.specs.declared.finding.Kind.TheVariants.{Row as RowKind, Link as LinkKind}
 use Rattle.mt_steps.specs.declared.finding.Kind.{Kind}
 use Rattle.mt_steps.specs.declared.finding.Sight.{Sight}
-use Rattle.mt_steps.proofs.StandLemmas.{looks_at, holds_on, bound, there_now, few_live, orders_now, still_so}
+use Rattle.mt_steps.proofs.StandLemmas.{looks_at, holds_on, bound, there_now, few_shown, order_of_still, orders_now, still_so}
 use Rattle.mt_steps.proofs.WayLemmas.{layer_below}
 use Rattle.mt_steps.proofs.ReaderLemmas.{looked_by, bounded_by, settled_by}
 
@@ -155,12 +156,13 @@ module _ (a : ArenaView) (now : ℕ) (w : World) (world : IsWorld a now w) (begu
             (stops_at_end (shown asked) w.chart begun (arena_seen a ∷ arenas) prefix f (option_map right_seen right) order.live (place_of rest) place found (ltb-false place (length order.live) is)))
 
     -- ---- the order
-    pub leads_ordered : IsBorder at.here.b → (right : Option RightLink) → HasBound key way counters at.here.b right begun w → LeadsTo key asked way (Bounded counters right) begun past a w (at_order (Bounded counters right) at.here.b.order)
-    leads_ordered sound right bound = next_leads (Bounded counters right) right at.here.b.order 0 (omega arith) (omega arith) (few_live a now w world begun prefix slice way.node.0 counters at.here sound) bound (λ still. record {
-      was = map f.slot at.here.b.order.live;
-      order = orders_now a now w world begun prefix slice way.node.0 counters at.here (shown asked) arenas sound right bound still;
-      before = λ i slot less is. absurd (omega (arith, less));
-    })
+    pub leads_ordered : IsBorder at.here.b → (right : Option RightLink) → HasBound key way counters at.here.b right begun w → LeadsTo key asked way (Bounded counters right) begun past a w (at_order (Bounded counters right) (order_shown at.here.b))
+    leads_ordered sound right bound = next_leads (Bounded counters right) right (order_shown at.here.b) 0 (omega arith) (omega arith) (few_shown at.here.b sound) bound (λ still.
+        subst (λ (s : Slots). Searches (shown asked) w.chart begun (arena_seen a ∷ arenas) prefix f (option_map right_seen right) s.live (place_of rest) 0) (sym (order_of_still counters at.here.b sound still)) (record {
+          was = map f.slot at.here.b.order.live;
+          order = orders_now a now w world begun prefix slice way.node.0 counters at.here (shown asked) arenas sound right bound still;
+          before = λ i slot less is. absurd (omega (arith, less));
+        }))
 
     -- ---- the value of a slot
     module _ (order : Slots) (right : Option RightLink) (place : ℕ) (kind : Kind) (fits : IsPlaceOf order place) (deep : GoesDeeper key way kind)

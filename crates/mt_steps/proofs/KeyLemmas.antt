@@ -173,11 +173,11 @@ module _ (a : ArenaView) (now : ℕ) (w : World) (world : IsWorld a now w) (begu
     few = omega (arith, within, fits)
 
     -- the key that is read is that of what the slot holds
-    own_key : Still counters b → key_at b number ≡ entry_key e
-    own_key still =
+    own_key : ((key_at b number).mark ≡ Unstable → ⊥) → Still counters b → key_at b number ≡ entry_key e
+    own_key clear still =
         let found = later_searches still in
         let (slot, there, noted) = noted_at (shown asked) w.chart begun (arena_seen a ∷ arenas) prefix f found.was order.live found.order.slots place number number_at_place in
-        key_of_still counters b number sound still noted.held
+        key_of_still counters b number sound still noted.held clear
 
     -- a key that stops the search
     stops_here : ((found : Searches (shown asked) w.chart begun (arena_seen a ∷ arenas) prefix f (option_map right_seen right) order.live (place_of rest) place) → Still counters b → Stops (place_of rest) found.was place) → Leads (settles counters AbsentSight)
@@ -290,57 +290,61 @@ module _ (a : ArenaView) (now : ℕ) (w : World) (world : IsWorld a now w) (begu
       abbrev own : ℕ
       own = class_number part.class
 
-      own_slice : Still counters b → part.slice ≡ e.slice
-      own_slice still = is.slice ∙ ap (λ (k : KeyView). k.slice) (own_key still)
+      module _ (clear : part.mark ≡ Unstable → ⊥) where
+        now_key : Still counters b → key_at b number ≡ entry_key e
+        now_key still = own_key (λ set. clear (is.mark ∙ set)) still
 
-      own_class : Still counters b → own ≡ class (content_seen e.content)
-      own_class still = ap class_number (is.class ∙ ap (λ (k : KeyView). k.class) (own_key still)) ∙ sym (class_seen e.content)
+        own_slice : Still counters b → part.slice ≡ e.slice
+        own_slice still = is.slice ∙ ap (λ (k : KeyView). k.slice) (now_key still)
 
-      own_rest : IsRest part.class (option_copied part.suffix) part.mark
-      own_rest =
-          subst (λ (c : Class). IsRest c (option_copied part.suffix) part.mark) (sym is.class)
-          (subst (λ (s : Option (List ℕ)). IsRest (key_at b number).class s part.mark) (sym is.suffix)
-          (subst (λ (m : Mark). IsRest (key_at b number).class (key_at b number).suffix m) (sym is.mark) is.whole.rest))
+        own_class : Still counters b → own ≡ class (content_seen e.content)
+        own_class still = ap class_number (is.class ∙ ap (λ (k : KeyView). k.class) (now_key still)) ∙ sym (class_seen e.content)
 
-      fs : first_slice (place_of rest) ≡ slice
-      fs = slice_of_place rest
+        own_rest : IsRest part.class (option_copied part.suffix) part.mark
+        own_rest =
+            subst (λ (c : Class). IsRest c (option_copied part.suffix) part.mark) (sym is.class)
+            (subst (λ (s : Option (List ℕ)). IsRest (key_at b number).class s part.mark) (sym is.suffix)
+            (subst (λ (m : Mark). IsRest (key_at b number).class (key_at b number).suffix m) (sym is.mark) is.whole.rest))
 
-      fc : first_class (place_of rest) ≡ sought
-      fc = first_class_of rest
+        fs : first_slice (place_of rest) ≡ slice
+        fs = slice_of_place rest
 
-      before : is_before part.slice own slice sought ≡ true → Still counters b → StandsBefore (first_slice (place_of rest)) (first_class (place_of rest)) (entry_seen e)
-      before is_less still =
-          let at_slice = own_slice still in
-          let at_class = own_class still in
-          elim (before_tells part.slice own slice sought is_less) [
-            | inl less ↦ inl (omega (arith, less, at_slice, fs))
-            | inr (same, less) ↦ inr (sym at_slice ∙ same ∙ sym fs, omega (arith, less, at_class, fc))
-          ]
+        fc : first_class (place_of rest) ≡ sought
+        fc = first_class_of rest
 
-      after : is_before slice sought part.slice own ≡ true → Still counters b → StandsAfter (first_slice (place_of rest)) (first_class (place_of rest)) (entry_seen e)
-      after is_more still =
-          let at_slice = own_slice still in
-          let at_class = own_class still in
-          elim (before_tells slice sought part.slice own is_more) [
-            | inl less ↦ inl (omega (arith, less, at_slice, fs))
-            | inr (same, less) ↦ inr (sym at_slice ∙ sym same ∙ sym fs, omega (arith, less, at_class, fc))
-          ]
+        before : is_before part.slice own slice sought ≡ true → Still counters b → StandsBefore (first_slice (place_of rest)) (first_class (place_of rest)) (entry_seen e)
+        before is_less still =
+            let at_slice = own_slice still in
+            let at_class = own_class still in
+            elim (before_tells part.slice own slice sought is_less) [
+              | inl less ↦ inl (omega (arith, less, at_slice, fs))
+              | inr (same, less) ↦ inr (sym at_slice ∙ same ∙ sym fs, omega (arith, less, at_class, fc))
+            ]
 
-      at_last : is_before part.slice own slice sought ≡ false → (more : Bool) → is_before slice sought part.slice own ≡ more
-          → Leads (cond more (settles counters AbsentSight) (key_found notes part.mark (bytes_eq (part_bytes part) (drop 8 rest))))
-      at_last no_less true more =
-          stops_here (λ found still. stops_after (shown asked) w.chart begun (arena_seen a ∷ arenas) prefix f (option_map right_seen right) order.live (place_of rest) place number number_at_place found (after more still))
-      at_last no_less false no_more =
-          let (same_slice, same_class) = neither part.slice own slice sought no_less no_more in
-          by_key (λ still. sym (own_slice still) ∙ same_slice) part.class (option_copied part.suffix) part.mark own_rest
-          (λ still. let now_key = own_key still in (sym (is.class ∙ ap (λ (k : KeyView). k.class) now_key), sym (is.suffix ∙ ap (λ (k : KeyView). k.suffix) now_key), sym (is.mark ∙ ap (λ (k : KeyView). k.mark) now_key)))
-          same_class
+        after : is_before slice sought part.slice own ≡ true → Still counters b → StandsAfter (first_slice (place_of rest)) (first_class (place_of rest)) (entry_seen e)
+        after is_more still =
+            let at_slice = own_slice still in
+            let at_class = own_class still in
+            elim (before_tells slice sought part.slice own is_more) [
+              | inl less ↦ inl (omega (arith, less, at_slice, fs))
+              | inr (same, less) ↦ inr (sym at_slice ∙ sym same ∙ sym fs, omega (arith, less, at_class, fc))
+            ]
 
-      compared : (less : Bool) → is_before part.slice own slice sought ≡ less
-          → Leads (cond less (next_key (notes_at counters right order (place + 1))) (cond (is_before slice sought part.slice own) (settles counters AbsentSight) (key_found notes part.mark (bytes_eq (part_bytes part) (drop 8 rest)))))
-      compared true less = next_leads a now w world begun key asked way past counters at (Reads notes) right order (place + 1) (omega arith) few fits bound (λ still.
-          passes_key (shown asked) w.chart begun (arena_seen a ∷ arenas) prefix f (option_map right_seen right) order.live (place_of rest) place number number_at_place (later_searches still) (before less still))
-      compared false no_less = at_last no_less (is_before slice sought part.slice own) refl
+        at_last : is_before part.slice own slice sought ≡ false → (more : Bool) → is_before slice sought part.slice own ≡ more
+            → Leads (cond more (settles counters AbsentSight) (key_found notes part.mark (bytes_eq (part_bytes part) (drop 8 rest))))
+        at_last no_less true more =
+            stops_here (λ found still. stops_after (shown asked) w.chart begun (arena_seen a ∷ arenas) prefix f (option_map right_seen right) order.live (place_of rest) place number number_at_place found (after more still))
+        at_last no_less false no_more =
+            let (same_slice, same_class) = neither part.slice own slice sought no_less no_more in
+            by_key (λ still. sym (own_slice still) ∙ same_slice) part.class (option_copied part.suffix) part.mark own_rest
+            (λ still. let own_now = now_key still in (sym (is.class ∙ ap (λ (k : KeyView). k.class) own_now), sym (is.suffix ∙ ap (λ (k : KeyView). k.suffix) own_now), sym (is.mark ∙ ap (λ (k : KeyView). k.mark) own_now)))
+            same_class
+
+        compared : (less : Bool) → is_before part.slice own slice sought ≡ less
+            → Leads (cond less (next_key (notes_at counters right order (place + 1))) (cond (is_before slice sought part.slice own) (settles counters AbsentSight) (key_found notes part.mark (bytes_eq (part_bytes part) (drop 8 rest)))))
+        compared true less = next_leads a now w world begun key asked way past counters at (Reads notes) right order (place + 1) (omega arith) few fits bound (λ still.
+            passes_key (shown asked) w.chart begun (arena_seen a ∷ arenas) prefix f (option_map right_seen right) order.live (place_of rest) place number number_at_place (later_searches still) (before less still))
+        compared false no_less = at_last no_less (is_before slice sought part.slice own) refl
 
       pub leads_key : Leads (key_read rest notes part)
-      leads_key = marked_by Leads part.mark (key_compared rest notes part) (λ set. on_border a now w world begun key asked way past counters at) (λ clear. compared (is_before part.slice own slice sought) refl)
+      leads_key = marked_by Leads part.mark (key_compared rest notes part) (λ set. on_border a now w world begun key asked way past counters at) (λ clear. compared clear (is_before part.slice own slice sought) refl)

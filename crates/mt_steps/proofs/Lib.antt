@@ -1,6 +1,7 @@
 pub mod WayLemmas
 pub mod AgingLemmas
 pub mod FrameLemmas
+pub mod TwiceLemmas
 pub mod FoundLemmas
 pub mod AliveLemmas
 pub mod BorderLemmas

@@ -15,7 +15,7 @@ use Rattle.mt_border.specs.Entry.{content_class, content_suffix}
 use Rattle.mt_border.specs.Order.{IsBorder}
 use Rattle.mt_border.specs.Keys.{KeyView, IsKeyPart}
 use Rattle.mt_border.specs.Parts.{IsValueOf}
-use Rattle.mt_border.specs.Slots.{slot_at, key_at}
+use Rattle.mt_border.specs.Slots.{slot_at, key_at, order_shown}
 use Rattle.mt_border.specs.declared.entry.Content.{Content}
 use Rattle.mt_border.specs.declared.entry.Content.TheVariants.{Short, Long, Link}
 use Rattle.mt_border.specs.declared.entry.Entry.{Entry}
@@ -47,7 +47,7 @@ use Rattle.mt_steps.specs.declared.listing.Listed.{Listed}
 use Rattle.mt_steps.specs.declared.listing.KeyRead.TheVariants.{Short as ShortKey, Long as LongKey, Layer as LayerKey}
 use Rattle.mt_steps.specs.declared.reader.Reader.TheVariants.{Bounded, Reads, AtValue, Settles}
 use Rattle.mt_steps.specs.declared.reader.Reading.TheVariants.{GoesOn}
-use Rattle.mt_steps.proofs.StandLemmas.{looks_at, bound, there_now, few_live, orders_now, still_so, key_of_still}
+use Rattle.mt_steps.proofs.StandLemmas.{looks_at, bound, there_now, few_shown, order_of_still, orders_now, still_so, key_of_still}
 use Rattle.mt_steps.proofs.ReaderLemmas.{looked_by, bounded_by, marked_by, settled_by}
 
 -- ---- an entry that was read key and value apart
@@ -174,8 +174,8 @@ module _ (show : Row → Row) (a : ArenaView) (now : ℕ) (w : World) (world : I
             (at, bounded, omega (arith, fewer, few, most), λ still. (order.live, subst (λ (n : ℕ). ListsSlots show prefix right order.live n entries at.b begun (arena_seen a ∷ arenas) w) all (lists still)))
 
     -- the order
-    pub leads_ordered : IsBorder at.b → (right : Option RightLink) → IsBounded prefix slice counters at.b right begun w → Leads (list_at_order (Bounded counters right) at.b.order)
-    leads_ordered sound right bounded = next_leads right at.b.order [] 0 bounded (omega arith) (omega arith) (few_live a now w world begun prefix slice number counters at sound) (λ still. record {
+    pub leads_ordered : IsBorder at.b → (right : Option RightLink) → IsBounded prefix slice counters at.b right begun w → Leads (list_at_order (Bounded counters right) (order_shown at.b))
+    leads_ordered sound right bounded = next_leads right (order_shown at.b) [] 0 bounded (omega arith) (omega arith) (few_shown at.b sound) (λ still. subst (λ (s : Slots). ListsSlots show prefix right s.live 0 [] at.b begun (arena_seen a ∷ arenas) w) (sym (order_of_still counters at.b sound still)) (record {
       was = map f.slot at.b.order.live;
       order = orders_now a now w world begun prefix slice number counters at show arenas sound right bounded still;
       read = [];
@@ -183,7 +183,7 @@ module _ (show : Row → Row) (a : ArenaView) (now : ℕ) (w : World) (world : I
       same = tt;
       kept_are = refl;
       true = λ entry i. elim i [ ];
-    })
+    }))
 
     -- the version again
     pub leads_settled : (listed : Listed) → IsBounded prefix slice counters at.b listed.right begun w → length listed.entries ≤ 15 → (Still counters at.b → (numbers : List ℕ) × ListsSlots show prefix listed.right numbers (length numbers) listed.entries at.b begun arenas w)
@@ -226,7 +226,7 @@ module _ (show : Row → Row) (a : ArenaView) (now : ℕ) (w : World) (world : I
       λ quiet.
           let so_far = lists_later quiet in
           let (slot, here, was) = noted_at show w.chart begun (arena_seen a ∷ arenas) prefix g so_far.was notes.glance.order.live so_far.order.slots notes.place n at_place in
-          let now_key = key_of_still notes.glance.counters at.b n sound quiet was.held in
+          let now_key = key_of_still notes.glance.counters at.b n sound quiet was.held (λ set. clear (is.mark ∙ set)) in
           record {
             read = g.slot n;
             noted = record { held = was.held; same = same_key (g.slot n); true = was.true };

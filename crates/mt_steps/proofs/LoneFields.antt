@@ -1,19 +1,19 @@
 -- A call alone that reads a border field by field: where a visit of a head or an interior node leads it, and what is live
 -- at a border that nobody has locked.
 use Rattle.std.proofs.Common.{ℕ, ◌≡◌, ◌<◌, ◌≤◌, ◌-◌, [], length, slice_get, Option, Some, None, Bool, true, false, if◌then◌else◌, refl, sym, ap, subst, ◌∙◌, arith}
-use Rattle.std.specs.Prelude.{◌&&◌, nat_eq}
+use Rattle.std.specs.Prelude.{◌&&◌}
 use Rattle.std.specs.Option.{option_map, option_and_then}
 use Rattle.std.proofs.lemmas.Bool.{eq-eqb}
 use Rattle.mt_types.specs.declared.numbers.NodeNo.{NodeNo}
 use Rattle.mt_word.specs.Version.{is_flagged}
 use Rattle.mt_border.specs.Border.{BorderView}
-use Rattle.mt_border.specs.Keys.{KeyView, content_mark, entry_key}
-use Rattle.mt_border.specs.Order.{IsBorder, IsUnwritten}
-use Rattle.mt_border.specs.Slots.{slot_at, key_in, key_at}
+use Rattle.mt_border.specs.Keys.{content_mark, entry_key}
+use Rattle.mt_border.specs.Order.{IsBorder}
+use Rattle.mt_border.proofs.BorderLemmas.{unlocked_written}
+use Rattle.mt_border.specs.Slots.{slot_at, key_in, key_at, order_in, order_shown}
 use Rattle.mt_border.specs.Table.{number_at, next_number}
 use Rattle.mt_border.specs.declared.field.Mark.TheVariants.{Unstable}
 use Rattle.mt_border.specs.declared.unwritten.Unwritten.{Unwritten}
-use Rattle.mt_border.specs.declared.unwritten.Unwritten.TheVariants.{Nothing, Value}
 use Rattle.mt_border.specs.declared.entry.Content.{Content}
 use Rattle.mt_border.specs.declared.entry.Content.TheVariants.{Short, Long, Link}
 use Rattle.mt_border.specs.declared.entry.RightLink.{RightLink}
@@ -97,14 +97,11 @@ never_unstable (Link head) is = absurd (cc)
 
 -- all of it is written: the key that is read in a slot is that of what the slot holds
 pub key_of_unlocked : (b : BorderView) (number : ℕ) → IsBorder b → b.version.locked ≡ false → key_at b number ≡ entry_key (slot_at b number).entry
-key_of_unlocked b number sound unlocked = go b.unwritten sound.pending
-  where
-    own : KeyView
-    own = entry_key (slot_at b number).entry
+key_of_unlocked b number sound unlocked = ap (λ (u : Unwritten). key_in u (next_number b.order) number (entry_key (slot_at b number).entry)) (unlocked_written b sound unlocked)
 
-    go : (left : Unwritten) → IsUnwritten b left → key_in left (nat_eq number (next_number b.order)) own ≡ own
-    go Nothing pending = refl
-    go (Value key) waits = never unlocked waits.locked
+-- and so is its order
+pub order_unlocked : (b : BorderView) → IsBorder b → b.version.locked ≡ false → order_shown b ≡ b.order
+order_unlocked b sound unlocked = ap (λ (u : Unwritten). order_in u b.order) (unlocked_written b sound unlocked)
 
 module _ (a : ArenaView) (number : ℕ) (b : BorderView) (named : border_at a.nodes number ≡ Some b) (sound : IsBorder b) (alive : b.version.deleted ≡ false) where
   -- it leads to its right neighbour, and through its links

@@ -48,7 +48,8 @@ use Rattle.mt_steps.specs.declared.reader.Reading.TheVariants.{GoesOn, To, Finds
 use Rattle.mt_steps.specs.declared.finding.Sight.{Sight}
 use Rattle.mt_steps.specs.declared.finding.Sight.TheVariants.{Absent, Row as RowSight, Link as LinkSight}
 use Rattle.mt_steps.specs.declared.getting.Get.{Get}
-use Rattle.mt_steps.proofs.LoneFields.{never, IsNow, VisitMoves, head_moves, interior_moves, unflagged, counters_same, key_of_unlocked, never_unstable, right_moves, link_moves, link_among, border_alive, border_unlocked}
+use Rattle.mt_steps.proofs.LoneFields.{never, IsNow, VisitMoves, head_moves, interior_moves, unflagged, counters_same, key_of_unlocked, order_unlocked, never_unstable, right_moves, link_moves, link_among, border_alive, border_unlocked}
+use Rattle.mt_arena.specs.declared.part.Part.TheVariants.{Order as OrderPart}
 use Rattle.mt_steps.proofs.PartLemmas.{lends_field, version_part, right_part, order_part, key_part, value_part, head_part, interior_part}
 use Rattle.mt_steps.proofs.ReaderLemmas.{looked_by, bounded_by, marked_by, settled_by}
 
@@ -192,7 +193,7 @@ module _ (a : ArenaView) (get : Get) (alive : (node : Node) → node_at a.nodes 
       (goes_bounded a number b now.named field.sound (border_alive a number alive b now.named) (border_unlocked a number unlocked b now.named) (slice_number (rest_of get.key get.way)) counters now)
   find_goes (Bounded counters right) fits (b, now) part lent =
       let field = lends_field a number OrderField part lent b now.named in
-      subst (λ (p : Part). FindGoes a number (reading_of (with_finding (Bounded counters right)) p)) (sym (order_part b part field.is))
+      subst (λ (p : Part). FindGoes a number (reading_of (with_finding (Bounded counters right)) p)) (sym (order_part b part field.is ∙ ap OrderPart (order_unlocked b field.sound (border_unlocked a number unlocked b now.named))))
       (goes_next a number b now.named field.sound (border_alive a number alive b now.named) (border_unlocked a number unlocked b now.named) (notes_at counters right b.order 0) now refl)
   find_goes (Reads notes) fits (b, now, order) part lent =
       let k = slice_index notes.glance.order.live notes.place in

@@ -49,7 +49,8 @@ use Rattle.mt_steps.specs.declared.listing.Listed.{Listed}
 use Rattle.mt_steps.specs.declared.listing.KeyRead.TheVariants.{Short as ShortKey, Long as LongKey, Layer as LayerKey}
 use Rattle.mt_steps.specs.declared.reader.Reader.TheVariants.{Begins, Looked, Bounded, Reads, AtValue, Settles}
 use Rattle.mt_steps.specs.declared.reader.Reading.TheVariants.{GoesOn, To, Finds}
-use Rattle.mt_steps.proofs.LoneFields.{never, IsNow, VisitMoves, head_moves, interior_moves, unflagged, counters_same, key_of_unlocked, never_unstable, right_moves, right_seen_moves, link_moves, link_among, border_alive, border_unlocked}
+use Rattle.mt_steps.proofs.LoneFields.{never, IsNow, VisitMoves, head_moves, interior_moves, unflagged, counters_same, key_of_unlocked, order_unlocked, never_unstable, right_moves, right_seen_moves, link_moves, link_among, border_alive, border_unlocked}
+use Rattle.mt_arena.specs.declared.part.Part.TheVariants.{Order as OrderPart}
 use Rattle.mt_steps.proofs.PartLemmas.{lends_field, version_part, right_part, order_part, key_part, value_part, head_part, interior_part}
 use Rattle.mt_steps.proofs.ReaderLemmas.{looked_by, bounded_by, marked_by, settled_by}
 
@@ -270,7 +271,7 @@ module _ (a : ArenaView) (number slice : ℕ) (alive : (node : Node) → node_at
       (goes_bounded a number b now.named field.sound (border_alive a number alive b now.named) (border_unlocked a number unlocked b now.named) slice counters now)
   list_goes (Bounded counters right) may fits n part lent =
       let field = lends_field a number OrderField part lent n.b n.now.named in
-      subst (λ (p : Part). ListGoes a number (Bounded counters right) (list_reading (Bounded counters right) slice p)) (sym (order_part n.b part field.is))
+      subst (λ (p : Part). ListGoes a number (Bounded counters right) (list_reading (Bounded counters right) slice p)) (sym (order_part n.b part field.is ∙ ap OrderPart (order_unlocked n.b field.sound (border_unlocked a number unlocked n.b n.now.named))))
       (goes_next a number n.b n.now.named field.sound (border_alive a number alive n.b n.now.named) (border_unlocked a number unlocked n.b n.now.named) (Bounded counters right)
       (record { glance = record { counters = counters; right = right; order = n.b.order }; kept = []; place = 0 }) n refl (omega arith) (omega arith))
   list_goes (Reads notes) may (within, few) s part lent =

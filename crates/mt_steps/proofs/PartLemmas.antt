@@ -6,7 +6,7 @@ use Rattle.mt_border.specs.Border.{BorderView}
 use Rattle.mt_border.specs.Order.{IsBorder}
 use Rattle.mt_border.specs.Keys.{IsKeyPart}
 use Rattle.mt_border.specs.Parts.{IsValueOf}
-use Rattle.mt_border.specs.Slots.{slot_at, key_at}
+use Rattle.mt_border.specs.Slots.{slot_at, key_at, order_shown}
 use Rattle.mt_border.specs.declared.field.KeyPart.{KeyPart as KeyOf}
 use Rattle.mt_border.specs.declared.field.ValuePart.{ValuePart as ValueOf}
 use Rattle.mt_interior.specs.Head.{HeadView}
@@ -69,7 +69,7 @@ right_part b (OrderPart part) is = absurd is
 right_part b (KeyPart part) is = absurd is
 right_part b (ValuePart part) is = absurd is
 
-pub order_part : (b : BorderView) (part : Part) → IsFieldOf b Order part → part ≡ OrderPart b.order
+pub order_part : (b : BorderView) (part : Part) → IsFieldOf b Order part → part ≡ OrderPart (order_shown b)
 order_part b (HeadPart part) is = absurd is
 order_part b (InteriorPart part) is = absurd is
 order_part b (VersionPart part) is = absurd is

@@ -1,24 +1,26 @@
 -- What a call knows of a border that it reads field by field: after the version, the right link and the order, and what
 -- others leave of it.
-use Rattle.std.proofs.Common.{ℕ, ◌≡◌, ◌<◌, ◌≤◌, ◌^◌, ◌⊎◌, inl, inr, Bool, true, false, ◌||◌, ◌&&◌, ◌==◌, List, [], ◌∷◌, length, map, Option, Some, IsSome, refl, sym, ap, subst, ◌∙◌, arith}
+use Rattle.std.proofs.Common.{ℕ, ◌≡◌, ◌<◌, ◌≤◌, ◌^◌, ◌⊎◌, inl, inr, Bool, true, false, cond, ◌||◌, ◌&&◌, ◌==◌, List, [], ◌∷◌, length, map, Option, Some, IsSome, refl, sym, ap, subst, ◌∙◌, arith}
 use Rattle.std.specs.Prelude.{nat_eq}
 use Rattle.std.specs.List.{list_any}
 use Rattle.std.specs.Option.{option_map}
 use Rattle.std.proofs.lemmas.Bool.{or_right, eq-eqb, eqb-true}
 use Rattle.std.proofs.lemmas.Bool.Decides.{eqb_tells}
 use Rattle.mt_types.specs.declared.row.Row.{Row}
+use Rattle.mt_word.specs.Slots.{Slots, IsArranged}
 use Rattle.mt_word.specs.Version.{is_flagged}
+use Rattle.mt_word.proofs.PlacesLemmas.{fifteen_together}
 use Rattle.mt_border.specs.Border.{BorderView, entries_of, first_held}
-use Rattle.mt_border.specs.Keys.{KeyView, entry_key}
+use Rattle.mt_border.specs.Keys.{KeyView, entry_key, key_seen, unstable, unstable_with}
 use Rattle.mt_border.specs.Order.{IsBorder, IsUnwritten}
-use Rattle.mt_border.specs.Slots.{slot_at, held_at, key_in, key_at}
+use Rattle.mt_border.specs.Slots.{slot_at, held_at, key_in, key_at, order_in, order_shown}
 use Rattle.mt_border.specs.Table.{picked, next_number}
 use Rattle.mt_border.specs.declared.unwritten.Unwritten.{Unwritten}
-use Rattle.mt_border.specs.declared.unwritten.Unwritten.TheVariants.{Nothing, Value}
+use Rattle.mt_border.specs.declared.unwritten.Unwritten.TheVariants.{Nothing, Value, Order, LinkAt, MarkAt}
+use Rattle.mt_border.specs.declared.field.Mark.TheVariants.{Unstable}
 use Rattle.mt_border.proofs.ChangeLemmas.{first_held_is_next}
 use Rattle.mt_border.specs.declared.entry.RightLink.{RightLink}
 use Rattle.mt_border.proofs.FieldLemmas.{live_slot_held}
-use Rattle.mt_border.proofs.SlotLemmas.{live_count}
 use Rattle.mt_arena.specs.Arena.{ArenaView}
 use Rattle.mt_arena.specs.Node.{border_at}
 use Rattle.mt_chart.specs.Tree.{PlainEntry, Arena, BorderNode, Among, first, later, Below, border}
@@ -79,10 +81,7 @@ module _ (a : ArenaView) (now : ℕ) (w : World) (world : IsWorld a now w) (begu
     pub there_now : arena_seen a number ≡ Some (border (border_seen at.b))
     there_now = seen-border a number at.b at.named
 
-    -- the order: few slots, which are what the border has
-    pub few_live : IsBorder at.b → length at.b.order.live ≤ 15
-    few_live sound = let many = live_count at.b.live at.b.unused at.b.slots at.b.order sound.seen in let all = sound.slots in omega (arith, many, all)
-
+    -- the order
     pub orders_now : (show : Row → Row) (past : List Arena) → IsBorder at.b → (right : Option RightLink) → IsBounded prefix slice counters at.b right begun w → Still counters at.b
         → HasOrder show w.chart begun (arena_seen a ∷ past) prefix (fields_seen at.b) (option_map right_seen right) at.b.order.live (map (fields_seen at.b).slot at.b.order.live)
     orders_now show past sound right bound still =
@@ -110,22 +109,61 @@ still_so counters b alive unflagged same = record {
   splits = eqb-true b.version.vsplit counters.splits (and_true (b.version.vinsert == counters.inserts) (b.version.vsplit == counters.splits) same).1;
 }
 
+-- ---- the order that is read
+-- it has few slots
+few_arranged : (s : Slots) → IsArranged s → length s.live ≤ 15
+few_arranged s h = omega (arith, fifteen_together s h)
+
+pub few_shown : (b : BorderView) → IsBorder b → length (order_shown b).live ≤ 15
+few_shown b sound = go b.unwritten sound.pending
+  where
+    own : length b.order.live ≤ 15
+    own = few_arranged b.order sound.seen.table.arranged
+
+    go : (left : Unwritten) → IsUnwritten b left → length (order_in left b.order).live ≤ 15
+    go Nothing pending = own
+    go (Value key) waits = own
+    go (Order shown) waits = few_arranged shown waits.arranged
+    go (LinkAt slot) waits = own
+    go (MarkAt slot suffix) waits = own
+
+-- and of a border that is quiet still, it is the order of what the border has
+pub order_of_still : (counters : Counters) (b : BorderView) → IsBorder b → Still counters b → order_shown b ≡ b.order
+order_of_still counters b sound still = go b.unwritten sound.pending
+  where
+    go : (left : Unwritten) → IsUnwritten b left → order_in left b.order ≡ b.order
+    go Nothing pending = refl
+    go (Value key) waits = refl
+    go (Order shown) waits = absurd (let clash : true ≡ false = sym waits.splitting ∙ still.no_split in cc)
+    go (LinkAt slot) waits = refl
+    go (MarkAt slot suffix) waits = refl
+
 -- ---- the key of a slot
--- the key that is read in a slot that held a key, of a border that is quiet still, is that of what the slot holds
-pub key_of_still : (counters : Counters) (b : BorderView) (number : ℕ) → IsBorder b → Still counters b → held_at b number ≡ true → key_at b number ≡ entry_key (slot_at b number).entry
-key_of_still counters b number sound still held = go b.unwritten sound.pending
+-- the key that is read in a slot that held a key, of a border that is quiet still, is that of what the slot holds, if it
+-- isn't unstable
+pub key_of_still : (counters : Counters) (b : BorderView) (number : ℕ) → IsBorder b → Still counters b → held_at b number ≡ true → ((key_at b number).mark ≡ Unstable → ⊥) → key_at b number ≡ entry_key (slot_at b number).entry
+key_of_still counters b number sound still held clear = go b.unwritten sound.pending clear
   where
     own : KeyView
     own = entry_key (slot_at b number).entry
 
-    go : (left : Unwritten) → IsUnwritten b left → key_in left (nat_eq number (next_number b.order)) own ≡ own
-    go Nothing pending = refl
-    go (Value key) waits = elim (eqb_tells number (next_number b.order)) [
+    go : (left : Unwritten) → IsUnwritten b left → ((key_in left (next_number b.order) number own).mark ≡ Unstable → ⊥) → key_in left (next_number b.order) number own ≡ own
+    go Nothing pending clear = refl
+    go (Order shown) waits clear = refl
+    go (LinkAt slot) waits clear = elim (eqb_tells number slot) [
+      | inl (is_it, same) ↦ absurd (clear (ap (λ (is : Bool). (cond is (unstable own) own).mark) is_it))
+      | inr (is_other, other) ↦ ap (λ (is : Bool). cond is (unstable own) own) is_other
+    ]
+    go (MarkAt slot suffix) waits clear = elim (eqb_tells number slot) [
+      | inl (is_it, same) ↦ absurd (clear (ap (λ (is : Bool). (cond is (unstable_with own.slice suffix) own).mark) is_it))
+      | inr (is_other, other) ↦ ap (λ (is : Bool). cond is (unstable_with own.slice suffix) own) is_other
+    ]
+    go (Value key) waits clear = elim (eqb_tells number (next_number b.order)) [
       | inl (is_next, same) ↦ absurd (
           let next_held : first_held b.unused ≡ true = first_held_is_next b sound waits.room ∙ (ap (λ (n : ℕ). held_at b n) (sym same) ∙ held) in
           let flagged : b.version.inserting ≡ true = waits.flagged next_held in
           let clash : true ≡ false = sym flagged ∙ still.no_insert in cc)
-      | inr (is_other, other) ↦ ap (λ (is : Bool). key_in (Value key) is own) is_other
+      | inr (is_other, other) ↦ ap (λ (is : Bool). cond is (key_seen key) own) is_other
     ]
 
 -- ---- what others leave

@@ -1,5 +1,5 @@
 -- A border that a call has locked, read one field a step: what each field leads to, and what is true of it meanwhile.
-use Rattle.std.specs.Prelude.{ℕ, ◌≡◌, ◌<◌, ◌+◌, ◌-◌, nat_lt, if◌then◌else◌, List, [], ◌∷◌, length, take, drop, slice_get, slice_index, Option, Some, None, Result, IfOk, IsErr}
+use Rattle.std.specs.Prelude.{ℕ, ◌≡◌, ◌<◌, ◌+◌, ◌-◌, nat_lt, ◌==◌, Bool, true, false, if◌then◌else◌, List, [], ◌∷◌, ◌++◌, length, map, take, drop, slice_get, slice_index, Option, Some, None, Result, IfOk, IsErr}
 use Rattle.std.specs.Str.{bytes_eq}
 use Rattle.std.specs.Option.{option_copied}
 use Rattle.mt_types.specs.declared.numbers.NodeNo.{NodeNo}
@@ -9,7 +9,7 @@ use Rattle.mt_slice.specs.Classes.{class_of}
 use Rattle.mt_word.specs.Slots.{Slots}
 use Rattle.mt_word.specs.declared.permutation_word.TheConstants.{SLOTS}
 use Rattle.mt_border.specs.Border.{BorderView, right_for, row_at}
-use Rattle.mt_border.specs.Entry.{rank_at}
+use Rattle.mt_border.specs.Entry.{entry_class, entry_suffix, rank_at}
 use Rattle.mt_border.specs.Find.{entries_before}
 use Rattle.mt_border.specs.Keys.{KeyView, entry_key}
 use Rattle.mt_border.specs.declared.entry.Content.TheVariants.{Long}
@@ -30,6 +30,8 @@ use Rattle.mt_arena.specs.declared.part.Part.{Part}
 use Rattle.mt_arena.specs.declared.part.Part.TheVariants.{Right as RightPart, Order as OrderPart, Key as KeyPartOf, Value as ValuePartOf}
 use Rattle.mt_tree.specs.Descent.{found_for}
 use Rattle.mt_steps.specs.Standing.{Lends}
+use Rattle.mt_steps.specs.Listing.{key_read_of}
+use Rattle.mt_steps.specs.declared.listing.SlotKey.{SlotKey}
 use Rattle.mt_steps.specs.declared.entering.Outline.{Outline}
 use Rattle.mt_steps.specs.declared.entering.Match.{Match}
 use Rattle.mt_steps.specs.declared.entering.Match.TheVariants.{Same, Other as OtherMatch, Layer as LayerMatch}
@@ -38,7 +40,7 @@ use Rattle.mt_steps.specs.declared.entering.Sought.TheVariants.{Before, At, Afte
 use Rattle.mt_steps.specs.declared.entering.Entering.{Entering}
 use Rattle.mt_steps.specs.declared.entering.Entering.TheVariants.{Locked, Bounded, Reads, AtValue}
 use Rattle.mt_steps.specs.declared.entering.There.{There}
-use Rattle.mt_steps.specs.declared.entering.There.TheVariants.{Absent, Row, Other}
+use Rattle.mt_steps.specs.declared.entering.There.TheVariants.{Absent, Full, Row, Other}
 use Rattle.mt_steps.specs.declared.entering.Entered.{Entered}
 use Rattle.mt_steps.specs.declared.entering.Entered.TheVariants.{Enters, Right, Below, Here}
 
@@ -96,11 +98,27 @@ bounded_by right (Some next) = Right next
 abbrev pub bounded : ℕ → Option RightLink → Entered
 bounded slice right = bounded_by right (right_for right slice)
 
+-- the key of a slot, as it is noted
+abbrev pub key_noted : KeyPart → SlotKey
+key_noted part = record { slice = part.slice; rest = key_read_of part.class (option_copied part.suffix) }
+
+-- the keys of a full border are noted, and no others
+abbrev pub keys_with : Bool → List SlotKey → KeyPart → List SlotKey
+keys_with true keys part = keys ++ (key_noted part ∷ [])
+keys_with false keys part = keys
+
+abbrev pub noted : Outline → KeyPart → Outline
+noted outline part = record outline { keys = keys_with (length outline.order.live == SLOTS) outline.keys part }
+
+-- no key has the slice and class sought
+abbrev pub absent_there : Outline → ℕ → There
+absent_there outline place = if length outline.order.live == SLOTS then Full place outline else Absent place
+
 -- all keys are read, as many as are counted
 abbrev pub keys_read : Outline → ℕ → Sought → Entered
-keys_read outline count Before = Here (Absent count)
+keys_read outline count Before = Here (absent_there outline count)
 keys_read outline count (At place matched) = Enters (AtValue outline place matched)
-keys_read outline count (After place) = Here (Absent place)
+keys_read outline count (After place) = Here (absent_there outline place)
 
 -- the key at a place is next, if there is one
 abbrev pub next_key : Outline → ℕ → Sought → Entered
@@ -148,12 +166,12 @@ WantsValue _ = ⊥
 
 -- what it does after the order, a key and a value, if it wants that
 abbrev pub at_order : Entering → Slots → Entered
-at_order (Bounded right) order = next_key (record { right = right; order = order }) 0 Before
+at_order (Bounded right) order = next_key (record { right = right; order = order; keys = [] }) 0 Before
 at_order entering order = Enters entering
 
 abbrev pub at_key : List ℕ → Entering → KeyPart → Entered
 at_key rest (Reads outline place sought) part =
-    next_key outline (place + 1) (sought_then rest sought place (part_key part))
+    next_key (noted outline part) (place + 1) (sought_then rest sought place (part_key part))
 at_key rest entering part = Enters entering
 
 abbrev pub at_value : Entering → ValuePart → Entered
@@ -193,18 +211,30 @@ pub record IsOutlined (rest : List ℕ) (b : BorderView) (outline : Outline) : T
   pub bounded : IsBounded rest b outline.right
   pub order : outline.order ≡ b.order
 
+-- the key of an entry, as it is noted
+abbrev pub entry_noted : Entry → SlotKey
+entry_noted entry = record { slice = entry.slice; rest = key_read_of (entry_class entry) (entry_suffix entry) }
+
+-- the keys of these entries are noted, if the border is full
+abbrev pub keys_of : Bool → List Entry → List SlotKey
+keys_of true entries = map entry_noted entries
+keys_of false entries = []
+
 -- HOW FAR IT HAS READ is true of the border
 abbrev pub EnteringIsTrue : List ℕ → Entering → BorderView → Type 0
 EnteringIsTrue rest Locked b = Unit {0}
 EnteringIsTrue rest (Bounded right) b = IsBounded rest b right
 EnteringIsTrue rest (Reads outline place sought) b =
     IsOutlined rest b outline × (place < length b.live) × (sought ≡ sought_for rest (take place b.live))
+    × (outline.keys ≡ keys_of (length b.live == SLOTS) (take place b.live))
 EnteringIsTrue rest (AtValue outline place matched) b =
     IsOutlined rest b outline × (At place matched ≡ sought_for rest b.live)
 
 -- what it finds is what a search finds
 abbrev pub ThereIsTrue : List ℕ → There → BorderView → Type 0
-ThereIsTrue rest (Absent place) b = found_for rest b.live ≡ AbsentFound place
+ThereIsTrue rest (Absent place) b = (found_for rest b.live ≡ AbsentFound place) × (length b.live < SLOTS)
+ThereIsTrue rest (Full place outline) b = (found_for rest b.live ≡ AbsentFound place) × IsOutlined rest b outline
+    × (length b.live ≡ SLOTS) × (outline.keys ≡ map entry_noted b.live)
 ThereIsTrue rest (Row place row) b = (found_for rest b.live ≡ RowFound place) × (row_at place b.live ≡ Some row)
 ThereIsTrue rest (Other place suffix row) b = (found_for rest b.live ≡ OtherSuffix place)
     × (slice_get b.live place ≡ Some (record { slice = slice_number rest; content = Long suffix row }))

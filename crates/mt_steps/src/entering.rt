@@ -4,24 +4,27 @@
 ghost use Rattle.std.specs.Prelude.{◌≡◌, ◌+◌, ◌*◌, ◌≤◌, nat_lt, IfOk, IsSome};
 ghost use Rattle.mt_arena.specs.Node.{border_at};
 ghost use Rattle.mt_arena.specs.Parts.{IsField};
-ghost use Rattle.mt_steps.specs.Entering.{part_key, match_of, sought_at, sought_then, keys_read, next_key, bounded, value_there, wants, IsEntering, WantsRight, WantsOrder, WantsKey, WantsValue, at_order, at_key, at_value, EnterReads, EnterLeads};
+ghost use Rattle.mt_steps.specs.Entering.{part_key, match_of, sought_at, sought_then, noted, absent_there, keys_read, next_key, bounded, value_there, wants, IsEntering, WantsRight, WantsOrder, WantsKey, WantsValue, at_order, at_key, at_value, EnterReads, EnterLeads};
 
+use crate::listing::{SlotKey, key_read};
 use mt_arena::{Field, Part};
 use mt_border::{KeyPart, Mark, RightLink, Suffix, ValuePart};
 use mt_slice::{rest_of, slice_of};
 use mt_tree::Tree;
 use mt_types::copying::TryCopy;
+use mt_types::items::Items;
 use mt_types::numbers::NodeNo;
 use mt_types::refusal::NoMemory;
 use mt_types::row::Row;
-use mt_word::Permutation;
+use mt_word::{Permutation, SLOTS};
 use std::alloc::Global;
 
-/// What was read of a locked border before its keys.
-#[derive(Clone, Copy)]
+/// What was read of a locked border: its right link, its order, and, if no slot is unused, the keys so far.
+#[derive(Drop)]
 pub struct Outline {
     pub right: Option<RightLink>,
     pub order: Permutation,
+    pub keys: Items<SlotKey>,
 }
 
 /// What a key that has the slice and class of the key sought is to it.
@@ -70,8 +73,10 @@ pub enum Entering {
 /// What a call finds at the border that it has locked.
 #[derive(Drop)]
 pub enum There {
-    /// No key of its slice and class: its own belongs at this place.
+    /// No key of its slice and class: its own belongs at this place. A slot is unused.
     Absent(usize),
+    /// The same, but no slot is unused. This was read of the border.
+    Full(usize, Outline),
     /// Its key, at this place, with this row.
     Row(usize, Row),
     /// Another key of its slice, at this place: what follows its slice, and its row.
@@ -101,14 +106,25 @@ fn bound(right: Option<RightLink>, slice: u64) -> Entered
     }
 }
 
+// No key has the slice and class sought: its own belongs at a place.
+fn absent_there(outline: Outline, place: usize) -> There
+    ensures { result ≡ absent_there outline place }
+{
+    if outline.order.len() == SLOTS {
+        There::Full(place, outline)
+    } else {
+        There::Absent(place)
+    }
+}
+
 // All keys are read, and there are as many as `count`: the value of the slot that has the slice and class sought is
 // next, if there is one.
 fn keys_read(outline: Outline, count: usize, sought: Sought) -> Entered
     ensures { result ≡ keys_read outline count sought }
 {
     match sought {
-        Sought::Before => Entered::Here(There::Absent(count)),
-        Sought::After(place) => Entered::Here(There::Absent(place)),
+        Sought::Before => Entered::Here(absent_there(outline, count)),
+        Sought::After(place) => Entered::Here(absent_there(outline, place)),
         Sought::At(place, matched) => Entered::Enters(Entering::AtValue {
             outline,
             place,
@@ -129,6 +145,27 @@ fn next_key(outline: Outline, place: usize, sought: Sought) -> Entered
         });
     }
     keys_read(outline, place, sought)
+}
+
+// What was read, with the key of one more slot, if no slot is unused. Costs at the first key the room for all.
+fn noted(alloc: Global, outline: Outline, part: &KeyPart<'_>) -> Result<Outline, NoMemory>
+    ensures { IfOk result (λ next. next ≡ noted outline part.now) }
+{
+    if outline.order.len() != SLOTS {
+        return Ok(outline);
+    }
+    let Outline { right, order, keys } = outline;
+    let mut keys = keys.into_vec();
+    keys.reserve(SLOTS.saturating_sub(keys.len()))?;
+    keys.push(SlotKey {
+        slice: part.slice,
+        rest: key_read(alloc, part)?,
+    })?;
+    Ok(Outline {
+        right,
+        order,
+        keys: Items::from_vec(keys),
+    })
 }
 
 // Whether a slice and the number of a class are before others.
@@ -238,18 +275,22 @@ impl Entering {
     }
 
     /// Returns what a call does after it has read the order. Constant cost.
-    pub fn at_order(self, order: Permutation) -> Entered
+    pub fn at_order(self, alloc: Global, order: Permutation) -> Entered
         requires { WantsOrder self }
         ensures { result ≡ at_order self order }
     {
         match self {
-            Entering::Bounded(right) => next_key(Outline { right, order }, 0, Sought::Before),
+            Entering::Bounded(right) => {
+                let keys = Items::new(alloc);
+                next_key(Outline { right, order, keys }, 0, Sought::Before)
+            }
             _ => unreachable!(),
         }
     }
 
     /// Returns what a call does after it has read the key of a slot. `rest` is what the layers above have left of the
-    /// key sought. Costs a look at what follows the slice, which is shared if it is another key's.
+    /// key sought. Costs a look at what follows the slice, which is shared if it is another key's, or if no slot of the
+    /// border is unused.
     ///
     /// # Errors
     ///
@@ -265,7 +306,7 @@ impl Entering {
                 sought,
             } => {
                 let then = sought_then(alloc, sought, place, part, rest)?;
-                Ok(next_key(outline, place + 1, then))
+                Ok(next_key(noted(alloc, outline, part)?, place + 1, then))
             }
             _ => unreachable!(),
         }
@@ -310,7 +351,7 @@ pub fn read(
 {
     match tree.part(number, entering.wants()) {
         Part::Right(right) => Ok(entering.at_right(right, slice_of(rest).0)),
-        Part::Order(order) => Ok(entering.at_order(order)),
+        Part::Order(order) => Ok(entering.at_order(alloc, order)),
         Part::Key(key) => entering.at_key(alloc, &key, rest),
         Part::Value(value) => entering.at_value(alloc, &value),
         Part::Head(_) | Part::Interior(_) | Part::Version(_) => unreachable!(),

@@ -91,7 +91,7 @@ fn with_room(notes: ListNotes) -> Result<ListNotes, NoMemory>
 
 // What a slot's key is, without its slice. It shares what follows the slice. Only a layer's key continues past its slice
 // and has no bytes there.
-fn key_read(alloc: Global, part: &KeyPart<'_>) -> Result<KeyRead, NoMemory>
+pub fn key_read(alloc: Global, part: &KeyPart<'_>) -> Result<KeyRead, NoMemory>
     ensures { IfOk result (λ key. key ≡ key_read_of part.now.class (option_copied part.now.suffix)) }
 {
     match (part.class, part.suffix) {
@@ -102,7 +102,7 @@ fn key_read(alloc: Global, part: &KeyPart<'_>) -> Result<KeyRead, NoMemory>
 }
 
 // The entry of a row, whose key was not that of a layer.
-fn entry_for(slice: u64, key: KeyRead, row: Row) -> Option<Entry>
+pub fn entry_for(slice: u64, key: KeyRead, row: Row) -> Option<Entry>
     ensures { result ≡ entry_for slice key row }
 {
     let content = match key {
