@@ -6,7 +6,7 @@ use Rattle.mt_write.specs.declared.writing.Halves.{Halves}
 use Rattle.mt_write.specs.declared.writing.Edit.{Edit}
 use Rattle.mt_steps.specs.declared.progress.Progress.TheVariants.{Refused}
 use Rattle.mt_write.specs.declared.writing.Stage.{Stage}
-use Rattle.mt_write.specs.declared.writing.Stage.TheVariants.{Failed}
+use Rattle.mt_write.specs.declared.writing.Stage.TheVariants.{Failed, GivesBack}
 use Rattle.std.specs.Prelude.{ℕ, List, IsSomeAnd}
 use Rattle.mt_commit.specs.Log.{LogView}
 use Rattle.mt_border.specs.Border.{BorderView}
@@ -17,6 +17,7 @@ use Rattle.mt_tree.specs.Descent.{found_for}
 use Rattle.mt_steps.specs.declared.way.Way.{Way}
 use Rattle.mt_steps.specs.Way.{rest_of}
 use Rattle.mt_steps.proofs.FoundLemmas.{some_and}
+use Rattle.mt_write.specs.Follows.{EndsRefused}
 use Rattle.mt_write.specs.Causes.{ReadyFor, FailsBy, IsNotFailed, StageFails, put_fault, split_fault, fill_fault}
 use Rattle.std.proofs.lemmas.Bool.{eq-eqb}
 use Rattle.mt_word.specs.declared.permutation_word.TheConstants.{SLOTS}
@@ -55,6 +56,7 @@ pub room_ready : (a : ArenaView) (log : LogView) (b : BorderView) (place : ℕ) 
 room_ready a log b place made room ready = subst (λ (t : Bool). ReadyFor (if t then split_fault a b else fill_fault log b) made) (sym (eqb-ne (length b.live) SLOTS (λ e. omega (arith, room, e)))) ready
 
 -- ---- a call is refused for what it had failed for
-pub stage_refused : (a : ArenaView) (log : LogView) (key : List ℕ) (edit : Edit) (way : Way) (stage : Stage) (refusal : Refusal) (new : Stage) → StageFails a log key edit way stage (Refused refusal) new → stage ≡ Failed refusal None
-stage_refused a log key edit way (Failed refused split) refusal new (same, none) = ap (λ (r : Refusal). Failed r split) (sym same) ∙ ap (Failed refusal) none
+pub stage_refused : (a : ArenaView) (log : LogView) (key : List ℕ) (edit : Edit) (way : Way) (stage : Stage) (refusal : Refusal) (new : Stage) → StageFails a log key edit way stage (Refused refusal) new → EndsRefused stage refusal
+stage_refused a log key edit way (Failed refused split) refusal new (same, none) = (sym same, none)
+stage_refused a log key edit way (GivesBack half) refusal new ends = ends
 stage_refused a log key edit way _ refusal new (never, h) = absurd never

@@ -319,7 +319,7 @@ module _ (C : ℕ) (a : ArenaView) (log : LogView) (key : List ℕ) (edit : Edit
   })
 
   -- what it tells is so
-  tells_version : (w : World) (now : ℕ) → IsWorld a now w → (own : Edit) (refusal : Refusal) → Tells a w key way refusal None → TellsVersion a (edit_request key own) refusal
+  pub tells_version : (w : World) (now : ℕ) → IsWorld a now w → (own : Edit) (refusal : Refusal) → Tells a w key way refusal None → TellsVersion a (edit_request key own) refusal
   tells_version w now world (PutEdit sets (Some version)) (OtherVersion other) tells = record {
     bytes = tells.bytes;
     there = row_found tells.b.live (found_for rest tells.b.live);

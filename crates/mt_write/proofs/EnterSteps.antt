@@ -40,7 +40,7 @@ use Rattle.mt_steps.specs.declared.entering.Entering.TheVariants.{Locked}
 use Rattle.mt_steps.specs.declared.entering.Entered.{Entered}
 use Rattle.mt_steps.specs.declared.entering.Entered.TheVariants.{Enters as EntersNext, Right as EntersRight, Below as EntersBelow, Here as EntersHere}
 use Rattle.mt_steps.specs.declared.entering.There.{There}
-use Rattle.mt_steps.specs.declared.entering.There.TheVariants.{Absent as AbsentThere, Row as RowThere, Other as OtherThere}
+use Rattle.mt_steps.specs.declared.entering.There.TheVariants.{Absent as AbsentThere, Full as FullThere, Row as RowThere, Other as OtherThere}
 use Rattle.mt_steps.specs.Entering.{EnteredIsTrue, IsEntering, ThereIsTrue, TakesMemory, entered, wants}
 use Rattle.mt_steps.specs.Standing.{Lends}
 use Rattle.mt_steps.specs.Step.{MayRefuse, StepLaw}
@@ -68,7 +68,8 @@ use Rattle.mt_write.proofs.WriteLemmas.{known_on, quiet_step}
 
 -- what was found is the last on the way of the key
 found_last : (rest : List ℕ) (b : BorderView) (there : There) → ThereIsTrue rest there b → IsLast (found_for rest b.live)
-found_last rest b (AbsentThere place) told = subst IsLast (sym told) tt
+found_last rest b (AbsentThere place) told = subst IsLast (sym told.0) tt
+found_last rest b (FullThere place outline) told = subst IsLast (sym told.0) tt
 found_last rest b (RowThere place row) told = subst IsLast (sym told.0) tt
 found_last rest b (OtherThere place suffix row) told = subst IsLast (sym told.0) tt
 

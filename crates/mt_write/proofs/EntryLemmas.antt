@@ -1,5 +1,6 @@
 -- The entry of a key, and the slot that is filled with it.
-use Rattle.std.proofs.Common.{ℕ, ◌≡◌, ◌<◌, List, [], ◌∷◌, length, drop, Option, Some, None, Bool, true, false, refl, sym, ◌∙◌, arith}
+use Rattle.std.proofs.Common.{ℕ, ◌≡◌, ◌<◌, List, [], ◌∷◌, length, drop, slice_get, Option, Some, None, Bool, true, false, refl, sym, ap, ◌∙◌, arith}
+use Rattle.mt_border.specs.declared.entry.Content.TheVariants.{Long}
 use Rattle.std.specs.Option.{option_map}
 use Rattle.mt_types.specs.declared.row.Row.{Row}
 use Rattle.mt_slice.specs.Place.{place_of, slice_number}
@@ -58,3 +59,11 @@ marked_locked false v = refl
 pub is_marked : (held : Bool) (v : VersionView) → held ≡ true → (inserting_version held v).inserting ≡ true
 is_marked true v held = refl
 is_marked false v held = cc
+
+-- an entry of a longer key has one suffix and one row
+pub same_long : (live : List Entry) (place slice least : ℕ) (suffix other : List ℕ) (row old : Row) → slice_get live place ≡ Some (record { slice = slice; content = Long suffix row }) → slice_get live place ≡ Some (record { slice = least; content = Long other old }) → (other ≡ suffix) × (old ≡ row)
+same_long live place slice least suffix other row old one two =
+    let both : ◌≡◌ {A = Option Entry} (Some (record { slice = slice; content = Long suffix row })) (Some (record { slice = least; content = Long other old })) = sym one ∙ two in
+    let entry : ◌≡◌ {A = Entry} (record { slice = slice; content = Long suffix row }) (record { slice = least; content = Long other old }) = cc in
+    let content : Long suffix row ≡ Long other old = ap (λ (e : Entry). e.content) entry in
+    (cc, cc)

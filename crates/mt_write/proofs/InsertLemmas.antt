@@ -35,7 +35,6 @@ use Rattle.mt_steps.specs.Step.{StepLaw}
 use Rattle.mt_steps.proofs.BorderLemmas.{keys_same, goes_border, locked_may, mine_free, now_named}
 use Rattle.mt_steps.proofs.FoundLemmas.{some_at}
 use Rattle.mt_write.specs.declared.writing.Edit.{Edit}
-use Rattle.mt_write.specs.declared.writing.Halves.{Halves}
 use Rattle.mt_write.specs.declared.writing.Insertion.{Insertion}
 use Rattle.mt_write.specs.declared.writing.Stage.{Stage}
 use Rattle.mt_write.specs.declared.writing.Stage.TheVariants.{Reserved, KeyWritten, Filled}
@@ -46,20 +45,20 @@ use Rattle.mt_write.proofs.WriteLemmas.{others_changed, others_written, owned_at
 
 -- ---- a change of the border of which the tree sees nothing
 module _ (a : ArenaView) (n : ℕ) (change : BorderView → BorderView) (after : ArenaView) (is : after ≡ with_border_changed a n change) (keeps : KeepsTree a after) where
-  pub goes_marked : (split : Option Halves) (Then : World → Type 0) (now : ℕ) (w : World) (b : BorderView) (named : border_at a.nodes n ≡ Some b) → IsWorld a now w → BorderAges b (change b) → (change b).right ≡ b.right → b.version.locked ≡ true → (change b).version.deleted ≡ false → NotAmong n w.closing → Among n (owned n split) → Then w
-      → Goes now a after w (owned n split) (owned n split) Then × SameContent (arena_seen a) (arena_seen after)
-  goes_marked split Then now w b named world ages right locked alive free own truth =
+  pub goes_marked : (mine : List ℕ) (Then : World → Type 0) (now : ℕ) (w : World) (b : BorderView) (named : border_at a.nodes n ≡ Some b) → IsWorld a now w → BorderAges b (change b) → (change b).right ≡ b.right → b.version.locked ≡ true → (change b).version.deleted ≡ false → NotAmong n w.closing → Among n mine → Then w
+      → Goes now a after w mine mine Then × SameContent (arena_seen a) (arena_seen after)
+  goes_marked mine Then now w b named world ages right locked alive free own truth =
       let kept = keeps.keeps now w.twins w.chart world.index in (
-        subst (λ (x : ArenaView). Goes now a x w (owned n split) (owned n split) Then) (sym is)
-            (goes_border a n b change named now w (owned n split) (owned n split) Then world (λ known. (ages, inr right))
+        subst (λ (x : ArenaView). Goes now a x w mine mine Then) (sym is)
+            (goes_border a n b change named now w mine mine Then world (λ known. (ages, inr right))
             (subst (λ (x : ArenaView). IsIndexAt x now w.twins w.chart) is kept.index)
             (subst (λ (x : ArenaView). RowsAreOfKeys x) is (keys_same a after kept.content world.keys))
-            (mine_free a n w (owned n split) own) (λ other i. inl i) (λ other ne i. i) (λ locked. own) (locked_may a n b change named now w world locked free (inr alive)) truth),
+            (mine_free a n w mine own) (λ other i. inl i) (λ other ne i. i) (λ locked. own) (locked_may a n b change named now w world locked free (inr alive)) truth),
         kept.content,
       )
 
 -- what a border is under its number, once it is changed, is sound
-sound_now : (a after : ArenaView) (n : ℕ) (b : BorderView) (change : BorderView → BorderView) → border_at a.nodes n ≡ Some b → after ≡ with_border_changed a n change → IsSomeAnd (border_at after.nodes n) IsBorder → IsBorder (change b)
+pub sound_now : (a after : ArenaView) (n : ℕ) (b : BorderView) (change : BorderView → BorderView) → border_at a.nodes n ≡ Some b → after ≡ with_border_changed a n change → IsSomeAnd (border_at after.nodes n) IsBorder → IsBorder (change b)
 sound_now a after n b change named is sound = some_at IsBorder (border_at after.nodes n) (change b) sound (subst (λ (x : ArenaView). border_at x.nodes n ≡ Some (change b)) (sym is) (now_named a n b change named))
 
 -- once a key is written there, its value is to be written
@@ -87,7 +86,7 @@ module _ (C : ℕ) (a : ArenaView) (log : LogView) (key : List ℕ) (edit : Edit
     steps = λ now begun moves past w world before truth.
         let (b, at, p, f, k, has) = truth in
         let change : BorderView → BorderView = λ x. with_key x slot_key in
-        let (goes, content) = goes_marked a way.node.0 change after is keeps new.split (λ next. StageIsTrue C key edit way (KeyWritten new row) begun after next) now w b at.named world (ages_keyed b slot_key) refl at.locked at.alive at.free has.own (subst (λ (x : ArenaView). StageIsTrue C key edit way (KeyWritten new row) begun x w) (sym is) (
+        let (goes, content) = goes_marked a way.node.0 change after is keeps (owned way.node.0 new.split) (λ next. StageIsTrue C key edit way (KeyWritten new row) begun after next) now w b at.named world (ages_keyed b slot_key) refl at.locked at.alive at.free has.own (subst (λ (x : ArenaView). StageIsTrue C key edit way (KeyWritten new row) begun x w) (sym is) (
           change b,
           owned_at-changed a key way b w change at.named at.layer at.stands at.last refl refl refl at.alive at.locked at.free,
           p,
@@ -143,7 +142,7 @@ module _ (C : ℕ) (a : ArenaView) (log : LogView) (key : List ℕ) (edit : Edit
         let low : b.low ≤ slice_number (rest_of key way) = subst (λ (s : ℕ). b.low ≤ s) slices at.stands.from_low in
         let right = left_of_right (slice_number (rest_of key way)) b.right (subst (λ (s : ℕ). Below s (option_map right_seen b.right)) slices at.stands.to_right) in
         let there = written_at _ key way (change b) w refl (owned_at-changed a key way b w change at.named at.layer at.stands at.last refl refl refl at.alive at.locked at.free) in
-        let (goes, content) = goes_marked a way.node.0 change after is keeps new.split (λ next. StageIsTrue C key edit way (Filled new.place new.key new.logged new.split) begun after next) now w b at.named world (ages_filled b f.sound slot_key k (new_entry key way new.logged)) refl at.locked at.alive at.free has.own (subst (λ (x : ArenaView). StageIsTrue C key edit way (Filled new.place new.key new.logged new.split) begun x w) (sym is) (
+        let (goes, content) = goes_marked a way.node.0 change after is keeps (owned way.node.0 new.split) (λ next. StageIsTrue C key edit way (Filled new.place new.key new.logged new.split) begun after next) now w b at.named world (ages_filled b f.sound slot_key k (new_entry key way new.logged)) refl at.locked at.alive at.free has.own (subst (λ (x : ArenaView). StageIsTrue C key edit way (Filled new.place new.key new.logged new.split) begun x w) (sym is) (
           change b,
           there,
           p,

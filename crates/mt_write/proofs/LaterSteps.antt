@@ -5,7 +5,7 @@ use Rattle.mt_types.specs.declared.numbers.NodeNo.{NodeNo}
 use Rattle.mt_types.specs.declared.refusal.Refusal.{Refusal}
 use Rattle.mt_types.specs.declared.event.Answer.{Answer}
 use Rattle.mt_commit.specs.Log.{LogView}
-use Rattle.mt_border.specs.Border.{BorderView, with_entries, with_link_at, with_unlocked, with_split}
+use Rattle.mt_border.specs.Border.{BorderView, with_entries, with_unstable, with_link_at, with_unlocked, with_half_linked, with_written}
 use Rattle.mt_border.specs.declared.entry.Entry.{Entry}
 use Rattle.mt_interior.specs.Head.{with_lock as with_head_lock}
 use Rattle.mt_arena.specs.Node.{border_at}
@@ -30,16 +30,17 @@ use Rattle.mt_write.specs.declared.writing.Layer.{Layer}
 use Rattle.mt_write.specs.declared.writing.Ending.{Ending}
 use Rattle.mt_write.specs.declared.writing.Ending.TheVariants.{Stored as EndStored, Failed as EndFailed}
 use Rattle.mt_write.specs.declared.writing.Stage.{Stage}
-use Rattle.mt_write.specs.declared.writing.Stage.TheVariants.{Seeks, Spared, HalfFilled, Halved, Posts, LayerSpared, LayerFilled, LayerReady, Layered, Reserved, KeyWritten, Filled, Made, Stored, Failed}
+use Rattle.mt_write.specs.declared.writing.Stage.TheVariants.{Seeks, Copies, Spared, HalfFilled, HalfLinked, Halved, Posts, LayerSpared, LayerFilled, LayerReady, LayerMarked, LayerLinked, Layered, Reserved, KeyWritten, Filled, Made, Stored, Failed}
 use Rattle.mt_write.specs.Held.{write_held, written_answer, ending_stage}
-use Rattle.mt_write.specs.Writing.{WriteIsTrue, IsHalfOf, way_below}
+use Rattle.mt_write.specs.Writing.{WriteIsTrue, way_below}
+use Rattle.mt_write.specs.Splitting.{IsHalfOf}
 use Rattle.mt_write.specs.Ready.{SomeSets, Prepares}
 use Rattle.mt_write.specs.Causes.{IsNotFailed, EndsWith, FailsBy, fill_fault}
 use Rattle.mt_write.specs.Follows.{WriteStep, TreeStep, PostingSteps, IsNewPosting, IsReadyIn}
 use Rattle.mt_write.proofs.ReadyLemmas.{half_readies, one_or_none}
 use Rattle.mt_write.proofs.CommitLemmas.{answers, refuses}
-use Rattle.mt_write.proofs.HalfLemmas.{fills_half, links, half_prefix}
-use Rattle.mt_write.proofs.NewLayerLemmas.{fills_root, unlocks_head, links_layer, goes_below}
+use Rattle.mt_write.proofs.HalfLemmas.{fills_half, links, half_prefix, cuts}
+use Rattle.mt_write.proofs.NewLayerLemmas.{fills_root, unlocks_head, marks_unstable, links_layer, marks_layer, goes_below}
 use Rattle.mt_write.proofs.PostLemmas.{unlocks_left, posts_on, posts_again, posts_end}
 use Rattle.mt_write.proofs.InsertLemmas.{keys, values}
 use Rattle.mt_write.proofs.StageSteps.{closes, leads}
@@ -56,7 +57,7 @@ use Rattle.mt_write.specs.declared.writing.Insertion.{Insertion}
 half_ready : (C : ℕ) (a after : ArenaView) (log left : LogView) (key : List ℕ) (sets : List (ℕ × List ℕ)) (way : Way) (split : Halves) (stage : Stage) → Prepares C key sets way a log (Some split) stage after left → IsReadyIn split stage
 half_ready C a after log left key sets way split (Reserved new slot_key row) f = f.0
 half_ready C a after log left key sets way split (Failed refusal halves) f = f.0
-half_ready C a after log left key sets way split (Spared half cut entries) f = absurd (one_or_none f.0)
+half_ready C a after log left key sets way split (Copies half cut place outline entries) f = absurd (one_or_none f.0)
 half_ready C a after log left key sets way split (LayerSpared layer entries) f = absurd (one_or_none f.0)
 half_ready C a after log left key sets way split (Made place stored columns logged) f = absurd (one_or_none f.0)
 half_ready C a after log left key sets way split _ f = absurd f
@@ -65,14 +66,14 @@ edit_ready : (C : ℕ) (a after : ArenaView) (log left : LogView) (key : List �
 edit_ready C a after log left key (PutEdit sets only) way split stage ready = half_ready C a after log left key sets way split stage ready
 edit_ready C a after log left key RemoveEdit way split stage ready = absurd ready
 
-pub readies_half : (C : ℕ) (a after : ArenaView) (log left : LogView) (write : Write) (split : Halves) (stage : Stage) → SomeSets write.edit (λ sets. Prepares C write.key sets write.way a log (Some split) stage after left)
-    → IsSomeAnd (border_at a.nodes write.way.node.0) (λ b. FailsBy (fill_fault log b) (Some split) stage) → WriteStep C a after log left write (Halved split) Moved (record write { stage = stage })
-readies_half C a after log left write split stage ready fault =
-    leads C a after log left write (Halved split) Moved stage write.way refl (half_readies C a log write.key write.edit write.way split stage after left ready) tt (tt, fault)
+pub readies_half : (C : ℕ) (a after : ArenaView) (log left : LogView) (write : Write) (split : Halves) (there : ℕ) (stage : Stage) → SomeSets write.edit (λ sets. Prepares C write.key sets write.way a log (Some split) stage after left)
+    → IsSomeAnd (border_at a.nodes write.way.node.0) (λ b. FailsBy (fill_fault log b) (Some split) stage) → WriteStep C a after log left write (Halved split there) Moved (record write { stage = stage })
+readies_half C a after log left write split there stage ready fault =
+    leads C a after log left write (Halved split there) Moved stage write.way refl (half_readies C a log write.key write.edit write.way split there stage after left ready) tt (tt, fault)
     (edit_ready C a after log left write.key write.edit write.way split stage ready, refl) refl tt
 
-same_layer : (a : ArenaView) (key : List ℕ) (way goal : Way) (half : NodeNo) → IsSomeAnd (border_at a.nodes half.0) (λ upper. IsHalfOf key way half upper.low goal) → goal.layer ≡ way.layer
-same_layer a key way goal half either =
+same_layer : (a : ArenaView) (key : List ℕ) (way goal : Way) (half : NodeNo) (cut place there : ℕ) → IsSomeAnd (border_at a.nodes half.0) (λ upper. IsHalfOf key way half upper.low cut place goal there) → goal.layer ≡ way.layer
+same_layer a key way goal half cut place there either =
     let (r, read, one) = some_and _ (border_at a.nodes half.0) either in
     elim one [ inl left ↦ ap (λ (w : Way). w.layer) left.1 | inr right ↦ ap (λ (w : Way). w.layer) right.1 ]
 
@@ -81,16 +82,21 @@ ends_so posting (EndStored commit) = tt
 ends_so posting (EndFailed refusal) = tt
 
 module _ (a after : ArenaView) (write : Write) where
-  pub fills_spared : (half : NodeNo) (cut : ℕ) (entries : List Entry) → IsSomeAnd (border_at a.nodes write.way.node.0) (λ b. after ≡ with_border_changed a half.0 (λ spare. with_entries spare entries b.right)) → KeepsUnknown a after half.0
-      → TreeStep a after write (Spared half cut entries) Moved (record write { stage = HalfFilled half cut })
-  fills_spared half cut entries filled keeps = λ C log.
-      leads C a after log log write (Spared half cut entries) Moved (HalfFilled half cut) write.way refl (fills_half C a log write.key write.edit write.way half cut entries after filled keeps) tt (tt, tt) (refl, refl) refl tt
+  pub fills_spared : (half : NodeNo) (cut place : ℕ) (entries : List Entry) → IsSomeAnd (border_at a.nodes write.way.node.0) (λ b. after ≡ with_border_changed a half.0 (λ spare. with_entries spare entries b.right)) → KeepsUnknown a after half.0
+      → TreeStep a after write (Spared half cut place entries) Moved (record write { stage = HalfFilled half cut place })
+  fills_spared half cut place entries filled keeps = λ C log.
+      leads C a after log log write (Spared half cut place entries) Moved (HalfFilled half cut place) write.way refl (fills_half C a log write.key write.edit write.way half cut place entries after filled keeps) tt (tt, tt) (refl, refl) refl tt
 
-  pub links_half : (half : NodeNo) (cut : ℕ) (goal : Way) → IsSomeAnd (border_at a.nodes half.0) (λ upper. after ≡ with_border_changed a write.way.node.0 (λ b. with_split b cut (record { low = upper.low; node = half }))) → LinksHalfAt a after write.way.node.0 half.0
-      → IsSomeAnd (border_at a.nodes half.0) (λ upper. IsHalfOf write.key write.way half upper.low goal) → TreeStep a after write (HalfFilled half cut) Moved (record write { way = goal; stage = Halved (record { left = write.way.node; half = half }) })
-  links_half half cut goal linked keeps either = λ C log.
-      leads C a after log log write (HalfFilled half cut) Moved (Halved (record { left = write.way.node; half = half })) goal (half_prefix a write.key write.way goal half either)
-      (links C a log write.key write.edit write.way half cut goal after linked keeps either) tt (tt, tt) (refl, same_layer a write.key write.way goal half either) refl tt
+  pub links_half : (half : NodeNo) (cut place : ℕ) → IsSomeAnd (border_at a.nodes half.0) (λ upper. after ≡ with_border_changed a write.way.node.0 (λ b. with_half_linked b cut (record { low = upper.low; node = half }))) → LinksHalfAt a after write.way.node.0 half.0
+      → TreeStep a after write (HalfFilled half cut place) Moved (record write { stage = HalfLinked half cut place })
+  links_half half cut place linked keeps = λ C log.
+      leads C a after log log write (HalfFilled half cut place) Moved (HalfLinked half cut place) write.way refl (links C a log write.key write.edit write.way half cut place after linked keeps) tt (tt, tt) (refl, refl) refl tt
+
+  pub cuts_order : (half : NodeNo) (cut place : ℕ) (goal : Way) (there : ℕ) → after ≡ with_border_changed a write.way.node.0 with_written → KeepsTree a after → IsSomeAnd (border_at a.nodes half.0) (λ upper. IsHalfOf write.key write.way half upper.low cut place goal there)
+      → TreeStep a after write (HalfLinked half cut place) Moved (record write { way = goal; stage = Halved (record { left = write.way.node; half = half }) there })
+  cuts_order half cut place goal there changed keeps either = λ C log.
+      leads C a after log log write (HalfLinked half cut place) Moved (Halved (record { left = write.way.node; half = half }) there) goal (half_prefix a write.key write.way goal half cut place there either)
+      (cuts C a log write.key write.edit write.way half cut place after changed keeps goal there either) tt (tt, tt) (there, refl, same_layer a write.key write.way goal half cut place there either) refl tt
 
   -- ---- a new layer
   pub fills_layer : (layer : Layer) (entries : List Entry) → after ≡ with_border_changed a layer.root.0 (λ b. with_entries b entries None) → KeepsUnknown a after layer.root.0 → TreeStep a after write (LayerSpared layer entries) Moved (record write { stage = LayerFilled layer })
@@ -101,9 +107,17 @@ module _ (a after : ArenaView) (write : Write) where
   unlocks_layer layer unlocked keeps = λ C log.
       leads C a after log log write (LayerFilled layer) Moved (LayerReady layer) write.way refl (unlocks_head C a log write.key write.edit write.way layer after unlocked keeps) tt (tt, tt) (refl, refl) refl tt
 
-  pub links_below : (layer : Layer) → after ≡ with_border_changed a write.way.node.0 (λ b. with_link_at b layer.place layer.head) → MakesLayerAt a after write.way.node.0 layer.place layer.head.0 → TreeStep a after write (LayerReady layer) Moved (record write { stage = Layered layer.head })
+  pub marks_key : (layer : Layer) → after ≡ with_border_changed a write.way.node.0 (λ b. with_unstable b layer.place) → KeepsTree a after → IsSomeAnd (border_at after.nodes write.way.node.0) IsBorder → TreeStep a after write (LayerReady layer) Moved (record write { stage = LayerMarked layer })
+  marks_key layer marked keeps sound = λ C log.
+      leads C a after log log write (LayerReady layer) Moved (LayerMarked layer) write.way refl (marks_unstable C a log write.key write.edit write.way layer after marked keeps sound) tt (tt, tt) (refl, refl) refl tt
+
+  pub links_below : (layer : Layer) → after ≡ with_border_changed a write.way.node.0 (λ b. with_link_at b layer.place layer.head) → MakesLayerAt a after write.way.node.0 layer.place layer.head.0 → TreeStep a after write (LayerMarked layer) Moved (record write { stage = LayerLinked layer.head })
   links_below layer linked makes = λ C log.
-      leads C a after log log write (LayerReady layer) Moved (Layered layer.head) write.way refl (links_layer C a log write.key write.edit write.way layer after linked makes) tt (tt, tt) (refl, refl) refl tt
+      leads C a after log log write (LayerMarked layer) Moved (LayerLinked layer.head) write.way refl (links_layer C a log write.key write.edit write.way layer after linked makes) tt (tt, tt) (refl, refl) refl tt
+
+  pub marks_done : (head : NodeNo) → after ≡ with_border_changed a write.way.node.0 with_written → KeepsTree a after → TreeStep a after write (LayerLinked head) Moved (record write { stage = Layered head })
+  marks_done head marked keeps = λ C log.
+      leads C a after log log write (LayerLinked head) Moved (Layered head) write.way refl (marks_layer C a log write.key write.edit write.way head after marked keeps) tt (tt, tt) (refl, refl) refl tt
 
   -- ---- a new key
   pub writes_key : (new : Insertion) (slot_key : SlotKey) (row : Row) → after ≡ with_border_changed a write.way.node.0 (λ b. with_key b slot_key) → KeepsTree a after → IsSomeAnd (border_at after.nodes write.way.node.0) IsBorder → TreeStep a after write (Reserved new slot_key row) Moved (record write { stage = KeyWritten new row })
@@ -135,7 +149,7 @@ module _ (a after : ArenaView) (write : Write) where
 
     pub ends_failed : (refusal : Refusal) (split : Option Halves) → split ≡ None → after ≡ with_border_changed a write.way.node.0 with_unlocked → TreeStep a after write (Failed refusal split) (Refused refusal) write
     ends_failed refusal split none unlocked = λ C log. subst (λ (s : Option Halves). WriteStep C a after log log write (Failed refusal s) (Refused refusal) write) (sym none)
-        (closes C a after log log write (Failed refusal None) (Refused refusal) (refuses C a log write.key write.edit write.way refusal (write_held write) (WriteIsTrue C write) after unlocked keeps) tt (refl, refl) refl refl tt)
+        (closes C a after log log write (Failed refusal None) (Refused refusal) (refuses C a log write.key write.edit write.way refusal (write_held write) (WriteIsTrue C write) after unlocked keeps) tt (refl, refl) (refl, refl) refl tt)
 
     -- the left half is unlocked, and the posting of the other begins
     pub begins_posting : (split : Halves) (posting : Posting) → IsNewPosting write.head split.half posting → NewPostingIsTrue posting → (b : BorderView) → border_at a.nodes split.half.0 ≡ Some b → posting.low ≡ b.low → after ≡ with_border_changed a split.left.0 with_unlocked

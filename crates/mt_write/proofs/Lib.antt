@@ -8,6 +8,7 @@ pub mod WriteLemmas
 pub mod ReadyLemmas
 pub mod CommitLemmas
 pub mod HalfLemmas
+pub mod CopyLemmas
 mod InsertLemmas
 pub mod PostLemmas
 pub mod LinkLemmas

@@ -1,6 +1,8 @@
 -- A put or remove that runs alone: it waits nowhere, and with each step that gets on what is left of it falls.
-use Rattle.std.proofs.Common.{ℕ, ◌≡◌, ◌≢◌, ◌<◌, ◌≤◌, ◌+◌, ◌-◌, inl, inr, List, [], ◌∷◌, length, Option, Some, None, true, refl, sym, ap, subst, ◌∙◌, arith}
-use Rattle.std.specs.Prelude.{IsSomeAnd}
+use Rattle.std.proofs.Common.{ℕ, ◌≡◌, ◌≢◌, ◌<◌, ◌≤◌, ◌+◌, ◌-◌, ◌==◌, inl, inr, Bool, List, [], ◌∷◌, length, length-append, Option, Some, None, true, false, refl, sym, ap, subst, ◌∙◌, arith}
+use Rattle.std.specs.Prelude.{cond, IsSomeAnd}
+use Rattle.mt_word.specs.declared.permutation_word.TheConstants.{SLOTS}
+use Rattle.mt_border.specs.declared.entry.Entry.{Entry}
 use Rattle.std.specs.Option.{option_and_then}
 use Rattle.mt_types.specs.declared.limits.TheConstants.{MAX_KEY_BYTES}
 use Rattle.mt_types.specs.declared.numbers.NodeNo.{NodeNo}
@@ -43,8 +45,10 @@ use Rattle.mt_write.specs.declared.writing.Halves.{Halves}
 use Rattle.mt_write.specs.declared.writing.Ending.{Ending}
 use Rattle.mt_write.specs.declared.writing.Ending.TheVariants.{Stored as EndStored, Failed as EndFailed}
 use Rattle.mt_write.specs.declared.writing.Stage.{Stage}
-use Rattle.mt_write.specs.declared.writing.Stage.TheVariants.{Seeks, Enters, Rightward, Searched, Spared, HalfFilled, Halved, Posts, LayerSpared, LayerFilled, LayerReady, Layered, Reserved, KeyWritten, Filled, Made, Taken, Stored, Failed}
+use Rattle.mt_write.specs.declared.writing.Stage.TheVariants.{Seeks, Enters, Rightward, Searched, Copies, GivesBack, Spared, HalfFilled, HalfLinked, Halved, Posts, LayerSpared, LayerFilled, LayerReady, LayerMarked, LayerLinked, Layered, Reserved, KeyWritten, Filled, Made, Taken, Stored, Failed}
 use Rattle.mt_write.specs.Held.{edit_request, stage_held, write_held, ending_stage}
+use Rattle.mt_steps.specs.declared.entering.Outline.{Outline}
+use Rattle.mt_write.specs.Splitting.{CopiesOn, copied_stage}
 use Rattle.mt_write.specs.Writing.{StageIsTrue, entered_stage, way_below, way_right}
 use Rattle.mt_write.specs.Causes.{StageWaits, WriteWaits, IsPosting}
 use Rattle.mt_write.specs.Runs.{Advances}
@@ -60,13 +64,18 @@ stage_left posting_left most a way Seeks = times most (way_left a way.layer way.
 stage_left posting_left most a way (Enters entering) = times most (way_left a way.layer way.node.0 - 1) + (most + 41 + entering_left entering)
 stage_left posting_left most a way (Rightward next) = times most (way_left a way.layer next.0) + 2
 stage_left posting_left most a way (Searched there) = times most (layer_left way.layer) + (most + 40)
-stage_left posting_left most a way (LayerSpared layer entries) = times most (layer_left way.layer) + 5
-stage_left posting_left most a way (LayerFilled layer) = times most (layer_left way.layer) + 4
-stage_left posting_left most a way (LayerReady layer) = times most (layer_left way.layer) + 3
+stage_left posting_left most a way (LayerSpared layer entries) = times most (layer_left way.layer) + 7
+stage_left posting_left most a way (LayerFilled layer) = times most (layer_left way.layer) + 6
+stage_left posting_left most a way (LayerReady layer) = times most (layer_left way.layer) + 5
+stage_left posting_left most a way (LayerMarked layer) = times most (layer_left way.layer) + 4
+stage_left posting_left most a way (LayerLinked head) = times most (layer_left way.layer) + 3
 stage_left posting_left most a way (Layered head) = times most (layer_left way.layer) + 2
-stage_left posting_left most a way (Spared half cut entries) = most + 20
-stage_left posting_left most a way (HalfFilled half cut) = most + 19
-stage_left posting_left most a way (Halved split) = most + 18
+stage_left posting_left most a way (Copies half cut place outline entries) = most + (22 + (SLOTS - (cut + length entries)))
+stage_left posting_left most a way (GivesBack half) = 1
+stage_left posting_left most a way (Spared half cut place entries) = most + 21
+stage_left posting_left most a way (HalfFilled half cut place) = most + 20
+stage_left posting_left most a way (HalfLinked half cut place) = most + 19
+stage_left posting_left most a way (Halved split place) = most + 18
 stage_left posting_left most a way (Reserved new slot_key row) = most + 17
 stage_left posting_left most a way (KeyWritten new row) = most + 16
 stage_left posting_left most a way (Filled place stored logged split) = most + 15
@@ -165,7 +174,7 @@ module _ (post_stands : ArenaView → World → Posting → Type 0) (posting_lef
 
   -- from what it has found on
   readied : (a after : ArenaView) (next : World) (key : List ℕ) (way : Way) (there : There) (new : Stage) → IsMadeReady a way new → Nearer a after next key way (Searched there) way new
-  readied a after next key way there (Spared half cut entries) ready = (tt, above _ _ _ (omega arith))
+  readied a after next key way there (Copies half cut place outline entries) ready = (tt, above _ _ _ (omega arith))
   readied a after next key way there (LayerSpared layer entries) ready = (tt, more _ _ _ (omega arith))
   readied a after next key way there (Reserved new slot_key row) ready = (tt, above _ _ _ (omega arith))
   readied a after next key way there (Made place stored columns logged) ready = (tt, above _ _ _ (omega arith))
@@ -174,11 +183,23 @@ module _ (post_stands : ArenaView → World → Posting → Type 0) (posting_lef
   readied a after next key way there (Failed refusal (Some split)) ready = (tt, above _ _ _ (omega arith))
   readied a after next key way there _ ready = absurd ready
 
-  half_readied : (a after : ArenaView) (next : World) (key : List ℕ) (way : Way) (split : Halves) (new : Stage) → IsReadyIn split new → Nearer a after next key way (Halved split) way new
-  half_readied a after next key way split (Reserved insertion slot_key row) ready = (tt, omega arith)
-  half_readied a after next key way split (Failed refusal None) ready = (tt, omega arith)
-  half_readied a after next key way split (Failed refusal (Some halves)) ready = (tt, omega arith)
-  half_readied a after next key way split _ ready = absurd ready
+  half_readied : (a after : ArenaView) (next : World) (key : List ℕ) (way : Way) (split : Halves) (place : ℕ) (new : Stage) → IsReadyIn split new → Nearer a after next key way (Halved split place) way new
+  half_readied a after next key way split place (Reserved insertion slot_key row) ready = (tt, omega arith)
+  half_readied a after next key way split place (Failed refusal None) ready = (tt, omega arith)
+  half_readied a after next key way split place (Failed refusal (Some halves)) ready = (tt, omega arith)
+  half_readied a after next key way split place _ ready = absurd ready
+
+  -- an entry more is copied, or the half is to be given back
+  copied : (a after : ArenaView) (next : World) (key : List ℕ) (way : Way) (half : NodeNo) (cut place : ℕ) (outline : Outline) (entries : List Entry) (new : Stage) → cut + length entries < SLOTS → CopiesOn a way.node.0 half cut place outline entries new
+      → Nearer a after next key way (Copies half cut place outline entries) way new
+  copied a after next key way half cut place outline entries new some (inr is) = leads a after next key way way (Copies half cut place outline entries) new (GivesBack half) is (tt, omega arith)
+  copied a after next key way half cut place outline entries new some (inl (copies, c, is)) =
+      let count : length copies ≡ length entries + 1 = ap (λ (es : List Entry). length es) c.more ∙ length-append entries (c.entry ∷ []) in
+      leads a after next key way way (Copies half cut place outline entries) new (copied_stage half cut place outline copies) is (go copies count (cut + length copies == SLOTS))
+    where
+      go : (copies : List Entry) → length copies ≡ length entries + 1 → (all : Bool) → Nearer a after next key way (Copies half cut place outline entries) way (cond all (Spared half cut place copies) (Copies half cut place outline copies))
+      go copies count true = (tt, omega arith)
+      go copies count false = (tt, omega (arith, some, count))
 
   -- a posting that has ended
   posted : (a after : ArenaView) (next : World) (key : List ℕ) (way : Way) (posting : Posting) (ending : Ending) → Nearer a after next key way (Posts posting ending) way (ending_stage ending None)
@@ -292,13 +313,20 @@ module _ (post_stands : ArenaView → World → Posting → Type 0) (posting_lef
         (subst (λ (g : Way). KeepsSpots w next (way.node.0 ∷ []) (stage_held g.node.0 new).owns) to spots) reads)
     moved (Rightward right) new truth then stands spots goes follows = went_right right stands.0 stands.1 new spots follows
     moved (Searched there) new truth then stands spots goes (ready, to) = stays a after next key way goal (Searched there) new to (readied a after next key way there new ready)
-    moved (Spared half cut entries) new truth then stands spots goes follows = stays_at a after next key way goal (Spared half cut entries) new (HalfFilled half cut) follows (tt, omega arith)
-    moved (HalfFilled half cut) new truth then stands spots goes (is, layer) = leads a after next key way goal (HalfFilled half cut) new _ is (tt, omega arith)
-    moved (Halved split) new truth then stands spots goes (ready, to) = stays a after next key way goal (Halved split) new to (half_readied a after next key way split new ready)
+    moved (Copies half cut place outline entries) new truth then stands spots goes (copies, to) =
+        let (b, at, flagged, c, spare, read, are, p) = truth in
+        stays a after next key way goal (Copies half cut place outline entries) new to (copied a after next key way half cut place outline entries new are.some copies)
+    moved (GivesBack half) new truth then stands spots goes follows = absurd follows
+    moved (Spared half cut place entries) new truth then stands spots goes follows = stays_at a after next key way goal (Spared half cut place entries) new (HalfFilled half cut place) follows (tt, omega arith)
+    moved (HalfFilled half cut place) new truth then stands spots goes follows = stays_at a after next key way goal (HalfFilled half cut place) new (HalfLinked half cut place) follows (tt, omega arith)
+    moved (HalfLinked half cut place) new truth then stands spots goes (there, is, layer) = leads a after next key way goal (HalfLinked half cut place) new _ is (tt, omega arith)
+    moved (Halved split place) new truth then stands spots goes (ready, to) = stays a after next key way goal (Halved split place) new to (half_readied a after next key way split place new ready)
     moved (LayerSpared layer entries) new truth then stands spots goes follows =
         stays_at a after next key way goal (LayerSpared layer entries) new (LayerFilled layer) follows (tt, more _ _ _ (omega arith))
     moved (LayerFilled layer) new truth then stands spots goes follows = stays_at a after next key way goal (LayerFilled layer) new (LayerReady layer) follows (tt, more _ _ _ (omega arith))
-    moved (LayerReady layer) new truth then stands spots goes follows = stays_at a after next key way goal (LayerReady layer) new (Layered layer.head) follows (tt, more _ _ _ (omega arith))
+    moved (LayerReady layer) new truth then stands spots goes follows = stays_at a after next key way goal (LayerReady layer) new (LayerMarked layer) follows (tt, more _ _ _ (omega arith))
+    moved (LayerMarked layer) new truth then stands spots goes follows = stays_at a after next key way goal (LayerMarked layer) new (LayerLinked layer.head) follows (tt, more _ _ _ (omega arith))
+    moved (LayerLinked head) new truth then stands spots goes follows = stays_at a after next key way goal (LayerLinked head) new (Layered head) follows (tt, more _ _ _ (omega arith))
     moved (Layered below) new truth then stands spots goes follows = went_below below truth (linked_head_is_on (prefix_of key way) a now w way.node.0 below world truth.0) new spots follows
     moved (Posts posting ending) new truth then stands spots goes (follows, to) = posts_on posting ending new goes follows to
     moved (Stored commit None) new truth then stands spots goes (is, split) = absurd (split refl)

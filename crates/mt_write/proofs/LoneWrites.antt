@@ -44,7 +44,7 @@ use Rattle.mt_write.specs.declared.writing.Halves.{Halves}
 use Rattle.mt_write.specs.declared.writing.Ending.{Ending}
 use Rattle.mt_chart.proofs.Basics.{same_number}
 use Rattle.mt_write.specs.declared.writing.Stage.{Stage}
-use Rattle.mt_write.specs.declared.writing.Stage.TheVariants.{Seeks, Enters, Rightward, Searched, Spared, HalfFilled, Halved, Posts, LayerSpared, LayerFilled, LayerReady, Layered, Reserved, KeyWritten, Filled, Made, Taken, Stored, Failed}
+use Rattle.mt_write.specs.declared.writing.Stage.TheVariants.{Seeks, Enters, Rightward, Searched, Copies, GivesBack, Spared, HalfFilled, HalfLinked, Halved, Posts, LayerSpared, LayerFilled, LayerReady, LayerMarked, LayerLinked, Layered, Reserved, KeyWritten, Filled, Made, Taken, Stored, Failed}
 use Rattle.mt_write.specs.Held.{stage_held, write_held, owned}
 use Rattle.mt_write.specs.Writing.{StageIsTrue, HasLocked, HasOthers}
 use Rattle.mt_write.specs.Causes.{WriteWaits}
@@ -129,12 +129,17 @@ module _ (a : ArenaView) (w : World) where
   stage_no_head C begun key edit way (Enters entering) (k, held, read) = one_more way.node.0 [] (of_border way.node.0 k.b k.named) no_others
   stage_no_head C begun key edit way (Rightward next) (k, held) = one_more way.node.0 [] (of_border way.node.0 k.b k.named) no_others
   stage_no_head C begun key edit way (Searched there) (b, at, found) = one_more way.node.0 [] (of_border way.node.0 b at.named) no_others
-  stage_no_head C begun key edit way (Spared half cut entries) (b, at, c, spare, same, p) = one_more half.0 _ (of_border half.0 _ spare.named) (one_more way.node.0 [] (of_border way.node.0 b at.named) no_others)
-  stage_no_head C begun key edit way (HalfFilled half cut) (b, at, c, spare, p) = one_more half.0 _ (of_border half.0 _ spare.named) (one_more way.node.0 [] (of_border way.node.0 b at.named) no_others)
-  stage_no_head C begun key edit way (Halved split) (b, at, half, has, p) = halves_no_head (prefix_of key way) way.node.0 (Some split) has
+  stage_no_head C begun key edit way (Copies half cut place outline entries) (b, at, f, c, spare, r, e, p) = one_more half.0 _ (of_border half.0 _ spare.named) (one_more way.node.0 [] (of_border way.node.0 b at.named) no_others)
+  stage_no_head C begun key edit way (GivesBack half) (k, u, spare) = one_more half.0 _ (of_border half.0 _ spare.named) (one_more way.node.0 [] (of_border way.node.0 k.b k.named) no_others)
+  stage_no_head C begun key edit way (Spared half cut place entries) (b, at, f, c, spare, same, p) = one_more half.0 _ (of_border half.0 _ spare.named) (one_more way.node.0 [] (of_border way.node.0 b at.named) no_others)
+  stage_no_head C begun key edit way (HalfFilled half cut place) (b, at, f, c, spare, p) = one_more half.0 _ (of_border half.0 _ spare.named) (one_more way.node.0 [] (of_border way.node.0 b at.named) no_others)
+  stage_no_head C begun key edit way (HalfLinked half cut place) (h, p) = one_more half.0 _ (of_border half.0 _ h.filled) (one_more way.node.0 [] (of_border way.node.0 _ h.named) no_others)
+  stage_no_head C begun key edit way (Halved split place) (b, at, half, has, p) = halves_no_head (prefix_of key way) way.node.0 (Some split) has
   stage_no_head C begun key edit way (LayerSpared layer entries) (b, at, fill) = one_more layer.head.0 _ (inr fill.has.head_unknown) (one_more layer.root.0 _ (of_border layer.root.0 _ fill.has.is_root) (one_more way.node.0 [] (of_border way.node.0 b at.named) no_others))
   stage_no_head C begun key edit way (LayerFilled layer) (b, at, link) = one_more layer.head.0 _ (inr link.has.head_unknown) (one_more layer.root.0 _ (of_border layer.root.0 _ link.has.is_root) (one_more way.node.0 [] (of_border way.node.0 b at.named) no_others))
   stage_no_head C begun key edit way (LayerReady layer) (b, at, link) = one_more layer.head.0 _ (inr link.has.head_unknown) (one_more layer.root.0 _ (of_border layer.root.0 _ link.has.is_root) (one_more way.node.0 [] (of_border way.node.0 b at.named) no_others))
+  stage_no_head C begun key edit way (LayerMarked layer) (b, at, link, unstable) = one_more layer.head.0 _ (inr link.has.head_unknown) (one_more layer.root.0 _ (of_border layer.root.0 _ link.has.is_root) (one_more way.node.0 [] (of_border way.node.0 b at.named) no_others))
+  stage_no_head C begun key edit way (LayerLinked below) (has, onward, head) = one_more way.node.0 [] (of_border way.node.0 has.b has.named) no_others
   stage_no_head C begun key edit way (Layered below) (has, onward, head) = one_more way.node.0 [] (of_border way.node.0 has.border.b has.border.named) no_others
   stage_no_head C begun key edit way (Reserved new slot_key row) (b, at, p, made, awaits, has) = halves_no_head (prefix_of key way) way.node.0 new.split has
   stage_no_head C begun key edit way (KeyWritten new row) (b, at, p, made, awaits, has) = others_no_head (prefix_of key way) way new.split b at.named has

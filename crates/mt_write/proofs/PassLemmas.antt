@@ -22,7 +22,7 @@ use Rattle.mt_steps.specs.declared.entering.Entering.TheVariants.{Locked}
 use Rattle.mt_steps.specs.declared.entering.Entered.{Entered}
 use Rattle.mt_steps.specs.declared.entering.Entered.TheVariants.{Enters, Right, Below as BelowEntered, Here}
 use Rattle.mt_steps.specs.declared.entering.There.{There}
-use Rattle.mt_steps.specs.declared.entering.There.TheVariants.{Absent, Row, Other}
+use Rattle.mt_steps.specs.declared.entering.There.TheVariants.{Absent, Full, Row, Other}
 use Rattle.mt_steps.specs.declared.progress.Progress.{Progress}
 use Rattle.mt_steps.specs.declared.progress.Progress.TheVariants.{Moved}
 use Rattle.mt_steps.specs.declared.way.Way.{Way}
@@ -39,7 +39,9 @@ use Rattle.mt_write.specs.declared.writing.Stage.{Stage}
 use Rattle.mt_write.specs.declared.writing.Stage.TheVariants.{Seeks, Enters as StageEnters, Searched}
 use Rattle.mt_write.specs.Writing.{entered_stage, way_below, way_right}
 use Rattle.mt_write.specs.Follows.{MayLock, TreeStep, WriteStep}
-use Rattle.mt_write.specs.Runs.{HasRun, IsTrimmed, MayAct, MayRun, PassesAt, WriteState, passed_fields, state, values_read}
+use Rattle.mt_write.specs.declared.writing.Edit.{Edit}
+use Rattle.mt_write.specs.declared.writing.Edit.TheVariants.{Put as PutEdit, Remove as RemoveEdit}
+use Rattle.mt_write.specs.Runs.{HasRun, IsStraight, IsTrimmed, MayAct, MayRun, PassesAt, WriteState, passed_fields, state, values_read}
 use Rattle.mt_write.proofs.FindLemmas.{finds_changed, found_is}
 use Rattle.mt_write.proofs.RunLemmas.{Running, ends_run, may_again, may_step, one_step, run_step, runs_further, runs_none, stays_trimmed}
 use Rattle.mt_write.proofs.StageSteps.{at_step, may_be, may_seek}
@@ -97,7 +99,8 @@ module _ (rest : List ℕ) (b : BorderView) where
 
   -- a row that it has found, or none, is no link
   no_link : (there : There) → EnteredIsTrue rest (Here there) b → IsLast (found_for rest b.live)
-  no_link (Absent place) (right, found) = subst IsLast (sym found) tt
+  no_link (Absent place) (right, (found, room)) = subst IsLast (sym found) tt
+  no_link (Full place keys) (right, (found, outlined, full, noted)) = subst IsLast (sym found) tt
   no_link (Row place row) (right, (found, holds)) = subst IsLast (sym found) tt
   no_link (Other place suffix row) (right, (found, stands)) = subst IsLast (sym found) tt
 
@@ -179,6 +182,14 @@ stays_here way (To next) went is on here = (let clash : ◌≡◌ {A = Went} (We
 stays_here way (Below head) went is on here = (let clash : ◌≡◌ {A = Went} (WentTo (way_below way head)) WentHere = sym is ∙ here in cc)
 stays_here way VisitHere went is on here = on refl
 
+-- the lock leaves room
+straight_locked : (edit : Edit) (b : BorderView) (found : Found) → IsStraight edit b found → IsStraight edit (with_locked b) found
+straight_locked (PutEdit sets only) b (AbsentFound place) room = room
+straight_locked (PutEdit sets only) b (RowFound place) straight = straight
+straight_locked (PutEdit sets only) b (OtherSuffix place) straight = straight
+straight_locked (PutEdit sets only) b (LinkFound place head) straight = straight
+straight_locked RemoveEdit b found straight = straight
+
 module _ (C : ℕ) (a locked : ArenaView) (log : LogView) (write : Write) (may : MayRun C (state a log write)) (is_trimmed : IsTrimmed log) (idle : write.stage ≡ Seeks) (lock : MayLock a write.way.node.0) (value : locked ≡ with_border_changed a write.way.node.0 with_locked) (keeps : KeepsTree a locked) where
   abbrev at_lock : Write
   at_lock = record write { stage = StageEnters Locked }
@@ -226,8 +237,9 @@ module _ (C : ℕ) (a locked : ArenaView) (log : LogView) (write : Write) (may :
           finds_there = let (there, here) = ends_here key_rest (with_locked b) none is all.0 all.2 all.3 in (there, reads_to (Here there) here)
 
       -- at the border of its key
-      pub at_key : (found : Found) → Finds a write.key write.way found → IsSomeAnd (border_at a.nodes write.way.node.0) (λ x. visit_border key_rest x ≡ VisitHere) → (n : ℕ) → n ≡ 2 + length b.live + values_read found → AtKey C a locked log write found n
-      at_key found finds here n count =
+      pub at_key : (found : Found) → Finds a write.key write.way found → IsSomeAnd (border_at a.nodes write.way.node.0) (λ x. visit_border key_rest x ≡ VisitHere) → IsSomeAnd (border_at a.nodes write.way.node.0) (λ x. IsStraight write.edit x found)
+          → (n : ℕ) → n ≡ 2 + length b.live + values_read found → AtKey C a locked log write found n
+      at_key found finds here straight n count =
           let (none, last) = leads key_rest b VisitHere (sym (some_at (λ (x : BorderView). visit_border key_rest x ≡ VisitHere) (border_at a.nodes write.way.node.0) b here named)) (some_at _ (border_at a.nodes write.way.node.0) b lock named).2 in
           let (there, reads) = finds_there none last in
           let same : values_read found ≡ values_read (found_for key_rest b.live) = ap values_read (found_is a write.key write.way found finds b named) in
@@ -241,6 +253,7 @@ module _ (C : ℕ) (a locked : ArenaView) (log : LogView) (write : Write) (may :
               arena = arena_locked;
               sound = sound;
               finds = subst (λ (x : ArenaView). Finds x write.key write.way found) (sym value) (finds_changed a write.key write.way found finds (λ (x : BorderView). with_locked x) (λ x. refl));
+              straight = subst (λ (o : Option BorderView). IsSomeAnd o (λ x. IsStraight write.edit x found)) (sym named_locked) (straight_locked write.edit b found (some_at (λ (x : BorderView). IsStraight write.edit x found) (border_at a.nodes write.way.node.0) b straight named));
             };
             read = read;
           }

@@ -1,6 +1,6 @@
 -- Which fields a call reads of a border that it has locked, if the border does not change meanwhile: the right link alone,
 -- or the right link, the order, each key and at most one value. What it does then is right.
-use Rattle.std.proofs.Common.{ℕ, zero, suc, ◌≡◌, ◌<◌, ◌+◌, Bool, true, false, if◌then◌else◌, List, length, take, drop, get_or, Option, Some, None, refl, sym, ap, subst, ◌∙◌, arith}
+use Rattle.std.proofs.Common.{ℕ, zero, suc, ◌≡◌, ◌<◌, ◌+◌, ◌==◌, Bool, true, false, if◌then◌else◌, List, [], length, take, drop, get_or, Option, Some, None, refl, sym, ap, subst, ◌∙◌, arith}
 use Rattle.std.specs.Prelude.{nat_lt, nat_eq, slice_index}
 use Rattle.std.specs.Borrow.{Bor}
 use Rattle.std.specs.Cmp.Lexicographic.{pointwise}
@@ -15,7 +15,7 @@ use Rattle.mt_border.specs.Find.{found_content}
 use Rattle.mt_border.specs.Keys.{KeyView, content_mark, entry_key, IsKeyPart, IsRest}
 use Rattle.mt_border.specs.Order.{IsBorder}
 use Rattle.mt_border.specs.Parts.{IsValueOf}
-use Rattle.mt_border.specs.Slots.{slot_at, key_at, key_in}
+use Rattle.mt_border.specs.Slots.{slot_at, key_at, key_in, order_in, order_shown}
 use Rattle.mt_border.specs.Table.{blank_slot, next_number}
 use Rattle.mt_border.specs.declared.entry.Content.{Content}
 use Rattle.mt_border.specs.declared.entry.Content.TheVariants.{Short, Long, Link}
@@ -40,8 +40,10 @@ use Rattle.mt_arena.proofs.NodeLemmas.{node-from_border}
 use Rattle.mt_tree.specs.Descent.{found_for, IsLast}
 use Rattle.mt_tree.proofs.AgeLemmas.{entry_read}
 use Rattle.mt_steps.specs.Standing.{Lends}
-use Rattle.mt_steps.specs.Entering.{part_key, sought_then, sought_for, bounded_by, keys_read, next_key, value_there, wants, entered, IsOutlined, EnteredIsTrue}
+use Rattle.mt_steps.specs.Entering.{part_key, sought_then, sought_for, bounded_by, keys_read, next_key, value_there, wants, entered, EnteredIsTrue, EnteringIsTrue, absent_there, keys_with}
 use Rattle.mt_steps.specs.declared.entering.Outline.{Outline}
+use Rattle.mt_steps.specs.declared.listing.SlotKey.{SlotKey}
+use Rattle.mt_word.specs.declared.permutation_word.TheConstants.{SLOTS}
 use Rattle.mt_steps.specs.declared.entering.Match.{Match}
 use Rattle.mt_steps.specs.declared.entering.Match.TheVariants.{Same, Other as OtherMatch, Layer as LayerMatch}
 use Rattle.mt_steps.specs.declared.entering.Sought.{Sought}
@@ -49,7 +51,7 @@ use Rattle.mt_steps.specs.declared.entering.Sought.TheVariants.{Before, At, Afte
 use Rattle.mt_steps.specs.declared.entering.Entering.{Entering}
 use Rattle.mt_steps.specs.declared.entering.Entering.TheVariants.{Locked, Bounded, Reads as ReadsKey, AtValue}
 use Rattle.mt_steps.specs.declared.entering.There.{There}
-use Rattle.mt_steps.specs.declared.entering.There.TheVariants.{Absent, Row as RowThere, Other}
+use Rattle.mt_steps.specs.declared.entering.There.TheVariants.{Absent, Full, Row as RowThere, Other}
 use Rattle.mt_steps.specs.declared.entering.Entered.{Entered}
 use Rattle.mt_steps.specs.declared.entering.Entered.TheVariants.{Enters, Right, Here}
 use Rattle.mt_steps.proofs.EnterLemmas.{entered_is}
@@ -146,8 +148,8 @@ module _ (a : ArenaView) (number : ℕ) (rest : List ℕ) (b : BorderView) (name
   pub reads_right : (next : NodeNo) → right_for b.right (slice_number rest) ≡ Some next → Reads a number rest (Enters Locked) 1 (Right next)
   reads_right next is = (Locked, refl, (RightPart b.right, lends (wants Locked) (RightPart b.right) refl, ap (bounded_by b.right) is))
 
-  abbrev outline : Outline
-  outline = record { right = b.right; order = b.order }
+  abbrev outline : List SlotKey → Outline
+  outline keys = record { right = b.right; order = b.order; keys = keys }
 
   abbrev number_of : ℕ → ℕ
   number_of place = slice_index b.order.live place
@@ -163,30 +165,27 @@ module _ (a : ArenaView) (number : ℕ) (rest : List ℕ) (b : BorderView) (name
 
   -- ---- if the slice is before what is to the right
   module _ (none : right_for b.right (slice_number rest) ≡ None) where
-    outlined : IsOutlined rest b outline
-    outlined = record { bounded = record { same = refl; within = none }; order = refl }
-
     -- the value
-    goes_value : (place : ℕ) (matched : Match) → At place matched ≡ sought_for rest b.live → Goes (Enters (AtValue outline place matched)) 1
-    goes_value place matched all =
-        let entering = AtValue outline place matched in
+    goes_value : (keys : List SlotKey) (place : ℕ) (matched : Match) → EnteringIsTrue rest (AtValue (outline keys) place matched) b → Goes (Enters (AtValue (outline keys) place matched)) 1
+    goes_value keys place matched true_of =
+        let entering = AtValue (outline keys) place matched in
         let value = value_lent (entry_of place).content in
         let is : IsFieldOf b (ValueField (number_of place)) (ValuePartOf value) = value_is (entry_of place).content in
-        one_more entering (ValuePartOf value) 0 is (value_there place matched value, refl, last_value place matched value, entered_is rest b sound written entering (outlined, all) (ValuePartOf value) is)
+        one_more entering (ValuePartOf value) 0 is (value_there place matched value, refl, last_value place matched value, entered_is rest b sound written entering true_of (ValuePartOf value) is)
 
     -- all keys are read
-    goes_all : (count : ℕ) → count ≡ length b.live → Goes (keys_read outline count (sought_for rest b.live)) values
-    goes_all count all = go (sought_for rest b.live) refl (sought_found rest b.live)
+    goes_all : (keys : List SlotKey) (count : ℕ) → count ≡ length b.live → EnteredIsTrue rest (keys_read (outline keys) count (sought_for rest b.live)) b → Goes (keys_read (outline keys) count (sought_for rest b.live)) values
+    goes_all keys count all = go (sought_for rest b.live) (sought_found rest b.live)
       where
-        go : (sought : Sought) → sought ≡ sought_for rest b.live → SoughtIsFound rest b.live sought → Goes (keys_read outline count sought) values
-        go Before same found =
+        go : (sought : Sought) → SoughtIsFound rest b.live sought → EnteredIsTrue rest (keys_read (outline keys) count sought) b → Goes (keys_read (outline keys) count sought) values
+        go Before found true_of =
             let is : found_for rest b.live ≡ AbsentFound count = found ∙ ap AbsentFound (sym all) in
-            subst (λ (f : Found). Goes (Here (Absent count)) (values_read f)) (sym is) (Here (Absent count), refl, tt, (none, is))
-        go (At place matched) same found =
+            subst (λ (f : Found). Goes (Here (absent_there (outline keys) count)) (values_read f)) (sym is) (Here (absent_there (outline keys) count), refl, tt, true_of)
+        go (At place matched) found true_of =
             let once : values ≡ 1 = ap values_read found.found ∙ one_value (drop 8 rest) place found.entry.content in
-            subst (λ (n : ℕ). Goes (Enters (AtValue outline place matched)) n) (sym once) (goes_value place matched same)
-        go (After place) same found =
-            subst (λ (f : Found). Goes (Here (Absent place)) (values_read f)) (sym found) (Here (Absent place), refl, tt, (none, found))
+            subst (λ (n : ℕ). Goes (Enters (AtValue (outline keys) place matched)) n) (sym once) (goes_value keys place matched true_of)
+        go (After place) found true_of =
+            subst (λ (f : Found). Goes (Here (absent_there (outline keys) place)) (values_read f)) (sym found) (Here (absent_there (outline keys) place), refl, tt, true_of)
 
     -- the key at a place
     module _ (place : ℕ) (within : place < length b.live) where
@@ -196,7 +195,7 @@ module _ (a : ArenaView) (number : ℕ) (rest : List ℕ) (b : BorderView) (name
       key_there : IsFieldOf b (KeyField (number_of place)) (KeyPartOf (key_lent (entry_of place)))
       key_there =
           let whole : IsEntry (entry_of place) = subst IsEntry (sym entry_there) (sound.entries.each place blank_slot.entry within) in
-          let own : key_at b (number_of place) ≡ entry_key (entry_of place) = ap (λ (u : Unwritten). key_in u (nat_eq (number_of place) (next_number b.order)) (entry_key (entry_of place))) written in
+          let own : key_at b (number_of place) ≡ entry_key (entry_of place) = ap (λ (u : Unwritten). key_in u (next_number b.order) (number_of place) (entry_key (entry_of place))) written in
           subst (λ (k : KeyView). IsKeyPart k (key_lent (entry_of place))) (sym own) (key_is (entry_of place) whole)
 
       -- what the keys are once it is read
@@ -206,48 +205,61 @@ module _ (a : ArenaView) (number : ℕ) (rest : List ℕ) (b : BorderView) (name
           ap (λ (s : Sought). sought_then rest s place (part_key (key_lent (entry_of place)))) so_far
           ∙ (ap (λ (k : KeyView). sought_then rest (sought_for rest (take place b.live)) place k) key ∙ sym (sought_more rest b.live place blank_slot.entry within))
 
+    -- the keys that are noted once it is read
+    abbrev keys_after : List SlotKey → ℕ → List SlotKey
+    keys_after keys place = keys_with (length b.order.live == SLOTS) keys (key_lent (entry_of place))
+
     -- no key is left
-    goes_end : (place : ℕ) (sought : Sought) → place ≡ length b.live → sought ≡ sought_for rest (take place b.live) → Goes (next_key outline place sought) values
-    goes_end place sought all so_far = go (nat_lt place (length b.order.live)) refl
+    goes_end : (keys : List SlotKey) (place : ℕ) (sought : Sought) → place ≡ length b.live → sought ≡ sought_for rest (take place b.live) → EnteredIsTrue rest (next_key (outline keys) place sought) b → Goes (next_key (outline keys) place sought) values
+    goes_end keys place sought all so_far = go (nat_lt place (length b.order.live)) refl
       where
         told : sought ≡ sought_for rest b.live
         told = so_far ∙ ap (sought_for rest) (take_all place b.live (omega (arith, all)))
 
-        go : (more : Bool) → nat_lt place (length b.order.live) ≡ more → Goes (if more then Enters (ReadsKey outline place sought) else keys_read outline place sought) values
-        go true less = absurd (omega (arith, all, live_long, ltb-true place (length b.order.live) less))
-        go false full = subst (λ (s : Sought). Goes (keys_read outline place s) values) (sym told) (goes_all place all)
+        go : (more : Bool) → nat_lt place (length b.order.live) ≡ more → EnteredIsTrue rest (if more then Enters (ReadsKey (outline keys) place sought) else keys_read (outline keys) place sought) b
+            → Goes (if more then Enters (ReadsKey (outline keys) place sought) else keys_read (outline keys) place sought) values
+        go true less true_of = absurd (omega (arith, all, live_long, ltb-true place (length b.order.live) less))
+        go false full true_of = subst (λ (s : Sought). Goes (keys_read (outline keys) place s) values) (sym told) (goes_all keys place all (subst (λ (s : Sought). EnteredIsTrue rest (keys_read (outline keys) place s) b) told true_of))
 
     -- the key at a place is read, and then what is left
-    goes_key : (n place : ℕ) (sought : Sought) → (within : place < length b.live) → Goes (next_key outline (place + 1) (sought_then rest sought place (part_key (key_lent (entry_of place))))) n → Goes (next_key outline place sought) (suc n)
-    goes_key n place sought within left = go (nat_lt place (length b.order.live)) refl
+    goes_key : (keys : List SlotKey) (n place : ℕ) (sought : Sought) → (within : place < length b.live) → EnteredIsTrue rest (next_key (outline keys) place sought) b
+        → (EnteredIsTrue rest (next_key (outline (keys_after keys place)) (place + 1) (sought_then rest sought place (part_key (key_lent (entry_of place))))) b → Goes (next_key (outline (keys_after keys place)) (place + 1) (sought_then rest sought place (part_key (key_lent (entry_of place))))) n)
+        → Goes (next_key (outline keys) place sought) (suc n)
+    goes_key keys n place sought within true_of left = go (nat_lt place (length b.order.live)) refl true_of
       where
-        go : (more : Bool) → nat_lt place (length b.order.live) ≡ more → Goes (if more then Enters (ReadsKey outline place sought) else keys_read outline place sought) (suc n)
-        go true less = one_more (ReadsKey outline place sought) (KeyPartOf (key_lent (entry_of place))) n (key_there place within) left
-        go false full = absurd (omega (arith, within, live_long, ltb-false place (length b.order.live) full))
+        go : (more : Bool) → nat_lt place (length b.order.live) ≡ more → EnteredIsTrue rest (if more then Enters (ReadsKey (outline keys) place sought) else keys_read (outline keys) place sought) b
+            → Goes (if more then Enters (ReadsKey (outline keys) place sought) else keys_read (outline keys) place sought) (suc n)
+        go true less true_of =
+            let key = KeyPartOf (key_lent (entry_of place)) in
+            one_more (ReadsKey (outline keys) place sought) key n (key_there place within) (left (entered_is rest b sound written (ReadsKey (outline keys) place sought) true_of key (key_there place within)))
+        go false full true_of = absurd (omega (arith, within, live_long, ltb-false place (length b.order.live) full))
 
     -- the keys from a place on, n of them
-    goes_next : (n place : ℕ) (sought : Sought) → place + n ≡ length b.live → sought ≡ sought_for rest (take place b.live) → Goes (next_key outline place sought) (n + values)
-    goes_next zero place sought count so_far =
+    goes_next : (keys : List SlotKey) (n place : ℕ) (sought : Sought) → place + n ≡ length b.live → sought ≡ sought_for rest (take place b.live) → EnteredIsTrue rest (next_key (outline keys) place sought) b → Goes (next_key (outline keys) place sought) (n + values)
+    goes_next keys zero place sought count so_far true_of =
         let some : values ≡ zero + values = omega arith in
-        subst (λ (k : ℕ). Goes (next_key outline place sought) k) some (goes_end place sought (omega (arith, count)) so_far)
-    goes_next (suc n) place sought count so_far =
+        subst (λ (k : ℕ). Goes (next_key (outline keys) place sought) k) some (goes_end keys place sought (omega (arith, count)) so_far true_of)
+    goes_next keys (suc n) place sought count so_far true_of =
         let within : place < length b.live = omega (arith, count) in
-        let left = goes_next n (place + 1) (sought_then rest sought place (part_key (key_lent (entry_of place)))) (omega (arith, count)) (key_more place within sought so_far) in
         let some : suc (n + values) ≡ suc n + values = omega arith in
-        subst (λ (k : ℕ). Goes (next_key outline place sought) k) some (goes_key (n + values) place sought within left)
+        subst (λ (k : ℕ). Goes (next_key (outline keys) place sought) k) some (goes_key keys (n + values) place sought within true_of
+        (goes_next (keys_after keys place) n (place + 1) (sought_then rest sought place (part_key (key_lent (entry_of place)))) (omega (arith, count)) (key_more place within sought so_far)))
 
     -- OTHERWISE THE RIGHT LINK, THE ORDER, EACH KEY, and a value
     pub reads_all : (final : Entered) × Reads a number rest (Enters Locked) (2 + length b.live + values_read (found_for rest b.live)) final × IsLastField final × EnteredIsTrue rest final b
     reads_all =
         let n : ℕ = length b.live + values in
-        let keys : Goes (next_key outline 0 Before) n = goes_next (length b.live) 0 Before (omega arith) refl in
-        let order : Goes (Enters (Bounded b.right)) (suc n) = one_more (Bounded b.right) (OrderPart b.order) n refl keys in
+        let own_order : b.order ≡ order_shown b = sym (ap (λ (u : Unwritten). order_in u b.order) written) in
+        let bounded : EnteringIsTrue rest (Bounded b.right) b = record { same = refl; within = none } in
+        let keys : Goes (next_key (outline []) 0 Before) n = goes_next [] (length b.live) 0 Before (omega arith) refl (entered_is rest b sound written (Bounded b.right) bounded (OrderPart b.order) own_order) in
+        let order : Goes (Enters (Bounded b.right)) (suc n) = one_more (Bounded b.right) (OrderPart b.order) n own_order keys in
         let right : Goes (bounded_by b.right (right_for b.right (slice_number rest))) (suc n) = subst (λ (o : Option NodeNo). Goes (bounded_by b.right o) (suc n)) (sym none) order in
         let some : suc (suc n) ≡ 2 + length b.live + values = omega arith in
         subst (λ (k : ℕ). Goes (Enters Locked) k) some (one_more Locked (RightPart b.right) (suc n) refl right)
 
   -- if it finds something at the border, a search finds no link
   pub here_is_last : (there : There) → EnteredIsTrue rest (Here there) b → IsLast (found_for rest b.live)
-  here_is_last (Absent place) (below, found) = subst IsLast (sym found) tt
+  here_is_last (Absent place) (below, (found, room)) = subst IsLast (sym found) tt
+  here_is_last (Full place keys) (below, (found, outlined, full, noted)) = subst IsLast (sym found) tt
   here_is_last (RowThere place row) (below, (found, holds)) = subst IsLast (sym found) tt
   here_is_last (Other place suffix row) (below, (found, stands)) = subst IsLast (sym found) tt

@@ -1,21 +1,18 @@
 -- What a put makes ready at its border, or at the half to which its key belongs.
-use Rattle.std.proofs.Common.{ℕ, ◌≡◌, ◌≢◌, ◌<◌, inl, inr, List, [], ◌∷◌, length, Option, Some, None, true, false, refl, sym, ap, subst, ◌∙◌, arith}
+use Rattle.std.proofs.Common.{ℕ, ◌≡◌, ◌<◌, inl, inr, List, [], ◌∷◌, length, Option, Some, None, true, false, refl, sym, ap, subst, ◌∙◌, arith}
 use Rattle.mt_types.specs.declared.row.Row.{Row}
 use Rattle.mt_types.specs.declared.event.Request.TheVariants.{Put as PutRequest}
 use Rattle.mt_types.specs.declared.refusal.Refusal.{Refusal}
 use Rattle.mt_commit.specs.Log.{LogView}
 use Rattle.mt_word.specs.declared.permutation_word.TheConstants.{SLOTS}
-use Rattle.mt_border.specs.Border.{BorderView, with_inserting, first_held, row_at}
+use Rattle.mt_border.specs.Border.{BorderView, with_inserting, with_splitting, first_held, row_at}
 use Rattle.mt_border.specs.Order.{IsBorder}
+use Rattle.mt_border.specs.declared.entry.Entry.{Entry}
 use Rattle.mt_border.specs.declared.found.Found.{Found}
 use Rattle.mt_border.proofs.BorderLemmas.{inserting_deleted}
-use Rattle.std.specs.Option.{option_and_then}
-use Rattle.mt_arena.specs.Node.{border_at, border_of}
-use Rattle.mt_arena.specs.declared.node.Node.TheVariants.{Border}
-use Rattle.mt_steps.proofs.SplitLemmas.{goes_occupied, vacant_root}
+use Rattle.mt_arena.specs.Node.{border_at}
 use Rattle.mt_steps.proofs.LayerLemmas.{goes_given_back}
-use Rattle.mt_write.proofs.SpareLemmas.{vacant_border, has_locked_back, spares_go}
-use Rattle.mt_write.proofs.WorkLemmas.{locked_at_stays}
+use Rattle.mt_write.proofs.SpareLemmas.{has_locked_back, half_goes, spares_go}
 use Rattle.mt_arena.specs.Arena.{ArenaView, with_border_changed}
 use Rattle.mt_chart.specs.Tree.{Arena}
 use Rattle.mt_tree.specs.Descent.{found_for, row_found}
@@ -23,7 +20,7 @@ use Rattle.mt_steps.specs.declared.way.Way.{Way}
 use Rattle.mt_write.specs.declared.writing.Edit.{Edit}
 use Rattle.mt_write.specs.declared.writing.Edit.TheVariants.{Put as PutEdit, Remove as RemoveEdit}
 use Rattle.mt_write.specs.declared.writing.Stage.{Stage}
-use Rattle.mt_write.specs.declared.writing.Stage.TheVariants.{Searched, Spared, Halved, LayerSpared, Reserved, Made, Failed}
+use Rattle.mt_write.specs.declared.writing.Stage.TheVariants.{Searched, Copies, Halved, LayerSpared, Reserved, Made, Failed}
 use Rattle.mt_write.specs.declared.writing.Halves.{Halves}
 use Rattle.mt_write.specs.declared.writing.Insertion.{Insertion}
 use Rattle.mt_border.specs.declared.unwritten.SlotKey.{SlotKey}
@@ -34,15 +31,20 @@ use Rattle.mt_steps.specs.Way.{rest_of, prefix_of}
 use Rattle.mt_steps.specs.Step.{Stepped, StepLaw, bounds, MayFail}
 use Rattle.mt_write.specs.Causes.{version_fault}
 use Rattle.mt_write.specs.Held.{put_request, edit_request, stage_held, owned}
-use Rattle.mt_write.specs.Writing.{IsLockedAt, HasLocked, empty_half, IsNewRow, IsMade, StageIsTrue}
+use Rattle.mt_write.specs.Writing.{IsLockedAt, HasLocked, IsNewRow, IsMade, StageIsTrue}
+use Rattle.mt_write.specs.Splitting.{AreCopied}
 use Rattle.mt_write.specs.Ready.{SomeSets, IsBack, Reserves, Prepares}
-use Rattle.mt_steps.proofs.FrameLemmas.{goes_same, quiet_same, retired_same}
+use Rattle.mt_steps.proofs.FrameLemmas.{goes_same, quiet_same}
 use Rattle.mt_write.proofs.EntryLemmas.{is_marked, marked_locked}
 use Rattle.mt_write.proofs.InsertLemmas.{goes_marked}
 use Rattle.mt_tree.proofs.AgeLemmas.{ages_inserting}
 use Rattle.mt_steps.proofs.BorderLemmas.{now_named}
 use Rattle.mt_steps.proofs.FoundLemmas.{some_at}
-use Rattle.mt_write.proofs.WriteLemmas.{alone, as_put, fails_at, has_changed, owned_at-changed, written_at, no_get, none_agrees, otherwise_tells, own_agrees, put_otherwise, quiet_step}
+use Rattle.mt_write.proofs.WriteLemmas.{alone, as_put, fails_at, has_changed, owned_at-changed, written_at, no_get, otherwise_tells, own_agrees, put_otherwise, quiet_step}
+
+-- no entry of the upper half is copied yet
+none_copied : (b : BorderView) (cut : ℕ) (entries : List Entry) → entries ≡ [] → cut < SLOTS → AreCopied (with_splitting b) cut entries
+none_copied b cut entries empty last = subst (λ (es : List Entry). AreCopied (with_splitting b) cut es) (sym empty) (record { first = refl; some = omega (arith, last) })
 
 -- ---- ready
 module _ (C : ℕ) (a : ArenaView) (log : LogView) (key : List ℕ) (sets : List (ℕ × List ℕ)) (only : Option ℕ) (way : Way) where
@@ -61,7 +63,7 @@ module _ (C : ℕ) (a : ArenaView) (log : LogView) (key : List ℕ) (sets : List
       let sound : IsBorder (with_inserting b) = some_at IsBorder (border_at after.nodes way.node.0) (with_inserting b) f.sound (subst (λ (x : ArenaView). border_at x.nodes way.node.0 ≡ Some (with_inserting b)) (sym f.marked) here) in
       let made : IsNewRow C key sets way b new row = subst (λ (x : BorderView). IsNewRow C key sets way x new row) same f.made in
       let owned_is : owned way.node.0 split ≡ owned way.node.0 new.split = ap (owned way.node.0) (sym split_is) in
-      let (goes, content) = goes_marked a way.node.0 with_inserting after f.marked f.keeps split (λ next. StageIsTrue C key (PutEdit sets only) way (Reserved new slot_key row) begun after next) now w b at.named world (ages_inserting b) refl at.locked alive at.free has.own (subst (λ (x : ArenaView). StageIsTrue C key (PutEdit sets only) way (Reserved new slot_key row) begun x w) (sym f.marked) (
+      let (goes, content) = goes_marked a way.node.0 with_inserting after f.marked f.keeps (owned way.node.0 split) (λ next. StageIsTrue C key (PutEdit sets only) way (Reserved new slot_key row) begun after next) now w b at.named world (ages_inserting b) refl at.locked alive at.free has.own (subst (λ (x : ArenaView). StageIsTrue C key (PutEdit sets only) way (Reserved new slot_key row) begun x w) (sym f.marked) (
         with_inserting b,
         written_at _ key way (with_inserting b) w at.written (owned_at-changed a key way b w with_inserting at.named at.layer at.stands at.last refl refl refl alive locked at.free),
         record { sets = sets; only = only; is_put = refl; agrees = agrees },
@@ -102,24 +104,15 @@ module _ (C : ℕ) (a : ArenaView) (log : LogView) (key : List ℕ) (sets : List
   ready there agrees (Reserved new slot_key row) after left (none, f) = record {
     steps = λ now begun moves past w world before truth. let (b, at, told) = truth in ready_reserve (subst (λ (o : Found). version_fault only (row_found f.b.live o) ≡ None) f.made.absent (agrees f.b f.named)) None new slot_key row after left none f now begun moves past w world b at (alone a key way b w at);
   }
-  ready there agrees (Spared half cut entries) after left (none, f, same_log) = record {
+  ready there agrees (Copies half cut place outline entries) after left (none, f, empty, same_log) = record {
     steps = λ now begun moves past w world before truth.
         let (b, was, told) = truth in
         let same : f.b ≡ b = (let both : ◌≡◌ {A = Option BorderView} (Some f.b) (Some b) = sym f.named ∙ was.named in cc) in
         let at : IsLockedAt a key way f.b w = subst (λ (x : BorderView). IsLockedAt a key way x w) (sym same) was in
-        let differ : way.node.0 ≢ half.0 = λ e. vacant_border a half.0 f.b f.occupied.vacant (ap (λ (m : ℕ). border_at a.nodes m) (sym e) ∙ at.named) in
-        let now_is : border_at after.nodes half.0 ≡ Some (empty_half f.b f.cut_at.middle) = ap (option_and_then border_of) f.occupied.updates.changed in
-        subst (λ (l : LogView). Stepped C now moves past a after log l w (put_request key sets only) (stage_held way.node.0 (Searched there)) Moved (stage_held way.node.0 (Spared half cut entries)) (λ m next. StageIsTrue C key (PutEdit sets only) way (Spared half cut entries) begun after next)) (sym same_log)
-        (quiet_step key (PutEdit sets only)
-        (goes_occupied now a after w half.0 (Border (empty_half f.b f.cut_at.middle)) (way.node.0 ∷ []) _ f.occupied.vacant f.occupied.updates f.occupied.retired f.occupied.unknown f.occupied.keeps world (
-          f.b,
-          locked_at_stays a after w w key way f.b (record { node = f.occupied.updates.others way.node.0 differ; spot = refl; twins = λ one other here. ((λ h. h), (λ h. h)); closing = λ i. i; retired = retired_same a.retired after.retired way.node.0 f.occupied.retired }) at,
-          f.cut_at,
-          record { named = now_is; unknown = f.occupied.unknown.unknown now w.twins w.chart world.index; locked = refl; free = vacant_root a w half.0 f.occupied.vacant world.heads },
-          f.copied,
-          record { sets = sets; only = only; is_put = refl; agrees = none_agrees only f.b.live (found_for (rest_of key way) f.b.live) f.cut_at.absent (agrees f.b f.named) },
-        ))
-        ((f.occupied.keeps.keeps now w.twins w.chart world.index).content) refl refl (inl refl));
+        let (goes, content) = half_goes now begun a after w key way half cut place outline f world at (λ next. StageIsTrue C key (PutEdit sets only) way (Copies half cut place outline entries) begun after next)
+        (λ at c s. (with_splitting f.b, at, refl, c, s, record { order = f.read.order; keys = f.read.keys }, none_copied f.b cut entries empty c.best.lawful.last, record { sets = sets; only = only; is_put = refl; agrees = subst (λ (o : Found). version_fault only (row_found f.b.live o) ≡ None) f.cut_at.absent (agrees f.b f.named) })) in
+        subst (λ (l : LogView). Stepped C now moves past a after log l w (put_request key sets only) (stage_held way.node.0 (Searched there)) Moved (stage_held way.node.0 (Copies half cut place outline entries)) (λ m next. StageIsTrue C key (PutEdit sets only) way (Copies half cut place outline entries) begun after next)) (sym same_log)
+        (quiet_step key (PutEdit sets only) goes content refl refl (inl refl));
   }
   ready there agrees (LayerSpared layer entries) after left (none, f, same_log) = record {
     steps = λ now begun moves past w world before truth.
@@ -160,20 +153,20 @@ module _ (C : ℕ) (a : ArenaView) (log : LogView) (key : List ℕ) (sets : List
 pub one_or_none : {x : Halves} → ◌≡◌ {A = Option Halves} (Some x) None → ⊥
 one_or_none e = cc
 
-half_ready : (C : ℕ) (a : ArenaView) (log : LogView) (key : List ℕ) (sets : List (ℕ × List ℕ)) (only : Option ℕ) (way : Way) (split : Halves) (stage : Stage) (after : ArenaView) (left : LogView) → Prepares C key sets way a log (Some split) stage after left
-    → StepLaw C a after log left (put_request key sets only) (stage_held way.node.0 (Halved split)) Moved (stage_held way.node.0 stage) (λ begun moves past x w. StageIsTrue C key (PutEdit sets only) way (Halved split) begun x w) (λ begun moves past x w. StageIsTrue C key (PutEdit sets only) way stage begun x w)
-half_ready C a log key sets only way split (Reserved new slot_key row) after left (is, f) = record {
+half_ready : (C : ℕ) (a : ArenaView) (log : LogView) (key : List ℕ) (sets : List (ℕ × List ℕ)) (only : Option ℕ) (way : Way) (split : Halves) (there : ℕ) (stage : Stage) (after : ArenaView) (left : LogView) → Prepares C key sets way a log (Some split) stage after left
+    → StepLaw C a after log left (put_request key sets only) (stage_held way.node.0 (Halved split there)) Moved (stage_held way.node.0 stage) (λ begun moves past x w. StageIsTrue C key (PutEdit sets only) way (Halved split there) begun x w) (λ begun moves past x w. StageIsTrue C key (PutEdit sets only) way stage begun x w)
+half_ready C a log key sets only way split there (Reserved new slot_key row) after left (is, f) = record {
   steps = λ now begun moves past w world before truth. let (b, at, h, has, p) = truth in ready_reserve C a log key sets only way (own_agrees sets only p) (Some split) new slot_key row after left is f now begun moves past w world b at has;
 }
-half_ready C a log key sets only way split (Failed refusal halves) after left (is, may, same, same_log) = subst (λ (s : Option Halves). StepLaw C a after log left (put_request key sets only) (stage_held way.node.0 (Halved split)) Moved (stage_held way.node.0 (Failed refusal s)) (λ begun moves past x w. StageIsTrue C key (PutEdit sets only) way (Halved split) begun x w) (λ begun moves past x w. StageIsTrue C key (PutEdit sets only) way (Failed refusal s) begun x w)) (sym is) (record {
+half_ready C a log key sets only way split there (Failed refusal halves) after left (is, may, same, same_log) = subst (λ (s : Option Halves). StepLaw C a after log left (put_request key sets only) (stage_held way.node.0 (Halved split there)) Moved (stage_held way.node.0 (Failed refusal s)) (λ begun moves past x w. StageIsTrue C key (PutEdit sets only) way (Halved split there) begun x w) (λ begun moves past x w. StageIsTrue C key (PutEdit sets only) way (Failed refusal s) begun x w)) (sym is) (record {
   steps = λ now begun moves past w world before truth. let (b, at, h, has, p) = truth in ready_fail C a log key sets only way (Some split) refusal after left (may, same, same_log) now begun moves past w world has;
 })
-half_ready C a log key sets only way split (Spared half cut entries) after left (is, f, same_log) = absurd (one_or_none is)
-half_ready C a log key sets only way split (LayerSpared layer entries) after left (is, f, same_log) = absurd (one_or_none is)
-half_ready C a log key sets only way split (Made place stored columns logged) after left (is, f) = absurd (one_or_none is)
-half_ready C a log key sets only way split _ after left f = absurd f
+half_ready C a log key sets only way split there (Copies half cut place outline entries) after left (is, f, empty, same_log) = absurd (one_or_none is)
+half_ready C a log key sets only way split there (LayerSpared layer entries) after left (is, f, same_log) = absurd (one_or_none is)
+half_ready C a log key sets only way split there (Made place stored columns logged) after left (is, f) = absurd (one_or_none is)
+half_ready C a log key sets only way split there _ after left f = absurd f
 
-pub half_readies : (C : ℕ) (a : ArenaView) (log : LogView) (key : List ℕ) (edit : Edit) (way : Way) (split : Halves) (stage : Stage) (after : ArenaView) (left : LogView) → SomeSets edit (λ sets. Prepares C key sets way a log (Some split) stage after left)
-    → StepLaw C a after log left (edit_request key edit) (stage_held way.node.0 (Halved split)) Moved (stage_held way.node.0 stage) (λ begun moves past x w. StageIsTrue C key edit way (Halved split) begun x w) (λ begun moves past x w. StageIsTrue C key edit way stage begun x w)
-half_readies C a log key (PutEdit sets only) way split stage after left p = half_ready C a log key sets only way split stage after left p
-half_readies C a log key RemoveEdit way split stage after left p = absurd p
+pub half_readies : (C : ℕ) (a : ArenaView) (log : LogView) (key : List ℕ) (edit : Edit) (way : Way) (split : Halves) (there : ℕ) (stage : Stage) (after : ArenaView) (left : LogView) → SomeSets edit (λ sets. Prepares C key sets way a log (Some split) stage after left)
+    → StepLaw C a after log left (edit_request key edit) (stage_held way.node.0 (Halved split there)) Moved (stage_held way.node.0 stage) (λ begun moves past x w. StageIsTrue C key edit way (Halved split there) begun x w) (λ begun moves past x w. StageIsTrue C key edit way stage begun x w)
+half_readies C a log key (PutEdit sets only) way split there stage after left p = half_ready C a log key sets only way split there stage after left p
+half_readies C a log key RemoveEdit way split there stage after left p = absurd p

@@ -6,7 +6,7 @@ use Rattle.mt_types.specs.declared.row.Row.{Row}
 use Rattle.mt_types.specs.declared.refusal.Refusal.{Refusal}
 use Rattle.mt_types.specs.declared.event.Answer.TheVariants.{Absent as AbsentAnswer}
 use Rattle.mt_commit.specs.Log.{LogView, newest, with_delta}
-use Rattle.mt_border.specs.Cut.{IsBestCut}
+use Rattle.mt_border.specs.Cut.{IsBestCut, slices}
 use Rattle.mt_border.specs.Border.{BorderView, row_at, with_hidden, with_unlocked, with_shown, with_value}
 use Rattle.mt_border.specs.Entry.{entry_row}
 use Rattle.mt_border.specs.declared.entry.Entry.{Entry}
@@ -19,7 +19,7 @@ use Rattle.mt_tree.specs.Descent.{found_for, row_found}
 use Rattle.mt_slice.specs.Place.{AreBytes}
 use Rattle.mt_border.specs.Order.{IsBorder}
 use Rattle.std.specs.Option.{IfSome, option_or}
-use Rattle.mt_tree.specs.BorderSteps.{AwaitsSome, MayWriteKey, HasLayerFor, HasRowAt, HidesRowAt, IsUpperHalf, MayShowAt, SetsRowAt, ShowsNext}
+use Rattle.mt_tree.specs.BorderSteps.{AwaitsSome, AwaitsSomeCut, AwaitsSomeMark, MayMarkUnstable, MayWriteKey, HasLayerFor, HasRowAt, HidesRowAt, IsUpperHalf, MayShowAt, SetsRowAt, ShowsNext}
 use Rattle.mt_tree.proofs.RowLemmas.{stands_at}
 use Rattle.mt_steps.specs.declared.entering.There.{There}
 use Rattle.mt_steps.specs.declared.way.Way.{Way}
@@ -41,7 +41,7 @@ use Rattle.mt_write.specs.declared.writing.Halves.{Halves}
 use Rattle.mt_write.specs.declared.writing.Layer.{Layer}
 use Rattle.mt_write.specs.declared.writing.Ending.{Ending}
 use Rattle.mt_write.specs.declared.writing.Stage.{Stage}
-use Rattle.mt_write.specs.declared.writing.Stage.TheVariants.{Seeks, Searched, Spared, HalfFilled, Posts, LayerSpared, LayerFilled, LayerReady, Layered, Reserved, KeyWritten, Filled, Made, Taken, Stored, Failed}
+use Rattle.mt_write.specs.declared.writing.Stage.TheVariants.{Seeks, Searched, Copies, Spared, HalfFilled, HalfLinked, Posts, LayerSpared, LayerFilled, LayerReady, LayerMarked, LayerLinked, Layered, Reserved, KeyWritten, Filled, Made, Taken, Stored, Failed}
 use Rattle.mt_write.specs.Held.{edit_request, write_held, stage_held, ending_stage}
 use Rattle.mt_write.specs.Writing.{HasLocked, StageIsTrue, WriteIsTrue, MayStage}
 use Rattle.mt_write.specs.Ready.{Prepares, PreparesRemove, put_delta, remove_delta}
@@ -50,13 +50,13 @@ use Rattle.mt_write.specs.Follows.{WriteStep, TreeStep, MayBeAt, FindsNone, Foll
 use Rattle.mt_write.proofs.WriteLemmas.{seek_waits, may_at}
 use Rattle.mt_write.proofs.ReadyLemmas.{readies}
 use Rattle.mt_write.proofs.CommitLemmas.{differs, takes, lacks, shows, writes, hides}
-use Rattle.mt_write.proofs.HalfLemmas.{spared_fill, filled_link}
+use Rattle.mt_write.proofs.HalfLemmas.{spared_fill, filled_link, linked_cut}
 use Rattle.mt_chart.specs.Tree.{first}
 use Rattle.mt_border.specs.Entry.{key_of_rest}
 use Rattle.mt_border.specs.declared.unwritten.SlotKey.{SlotKey}
 use Rattle.mt_steps.specs.World.{World, IsLockedBorder}
 use Rattle.mt_write.specs.declared.writing.Insertion.{Insertion}
-use Rattle.mt_write.proofs.NewLayerLemmas.{spared_root, filled_head, ready_link}
+use Rattle.mt_write.proofs.NewLayerLemmas.{spared_root, filled_head, ready_mark, ready_link, linked_mark}
 use Rattle.mt_write.proofs.PostLemmas.{headed, headed_end, restarts, moves_on, halves_locked}
 
 -- ---- at the stage of a write, what was proved of a stage that was taken out of it
@@ -115,11 +115,14 @@ row_there (one ∷ live) zero entry e has =
 row_there (one ∷ live) (suc place) entry e has = let (less, row) = row_there live place entry e has in (omega (arith, less), row)
 
 module _ (a : ArenaView) (write : Write) where
-  pub may_fill_half : (half : NodeNo) (cut : ℕ) (entries : List Entry) → MayBeAt a write (Spared half cut entries) → IsSomeAnd (border_at a.nodes write.way.node.0) (λ b. IsSomeAnd (border_at a.nodes half.0) (λ spare. MayFill spare entries b.right))
-  may_fill_half half cut entries (C, log, may) = spared_fill C may.begun a may.w write.key write.edit write.way half cut entries may.true.0
+  pub may_fill_half : (half : NodeNo) (cut place : ℕ) (entries : List Entry) → MayBeAt a write (Spared half cut place entries) → IsSomeAnd (border_at a.nodes write.way.node.0) (λ b. IsSomeAnd (border_at a.nodes half.0) (λ spare. MayFill spare entries b.right))
+  may_fill_half half cut place entries (C, log, may) = spared_fill C may.begun a may.w write.key write.edit write.way half cut place entries may.true.0
 
-  pub may_link_half : (half : NodeNo) (cut : ℕ) → MayBeAt a write (HalfFilled half cut) → IsSomeAnd (border_at a.nodes write.way.node.0) (λ b. IsSomeAnd (border_at a.nodes half.0) (λ upper. IsUpperHalf b upper cut))
-  may_link_half half cut (C, log, may) = filled_link C may.begun a may.w write.key write.edit write.way half cut may.true.0
+  pub may_link_half : (half : NodeNo) (cut place : ℕ) → MayBeAt a write (HalfFilled half cut place) → IsSomeAnd (border_at a.nodes write.way.node.0) (λ b. IsSomeAnd (border_at a.nodes half.0) (λ upper. IsUpperHalf b upper cut))
+  may_link_half half cut place (C, log, may) = filled_link C may.begun a may.w write.key write.edit write.way half cut place may.true.0
+
+  pub may_cut : (half : NodeNo) (cut place : ℕ) → MayBeAt a write (HalfLinked half cut place) → IsSomeAnd (border_at a.nodes write.way.node.0) AwaitsSomeCut × IsSome (border_at a.nodes half.0)
+  may_cut half cut place (C, log, may) = linked_cut C may.begun a may.w write.key write.edit write.way half cut place may.true.0
 
   pub may_fill_root : (layer : Layer) (entries : List Entry) → MayBeAt a write (LayerSpared layer entries) → IsSomeAnd (border_at a.nodes layer.root.0) (λ b. MayFill b entries None)
   may_fill_root layer entries (C, log, may) = spared_root C may.begun a may.w write.key write.edit write.way layer entries may.true.0
@@ -127,7 +130,13 @@ module _ (a : ArenaView) (write : Write) where
   pub head_locked : (layer : Layer) → MayBeAt a write (LayerFilled layer) → IsSomeAnd (head_at a.nodes layer.head.0) (λ head. head.version.locked ≡ true)
   head_locked layer (C, log, may) = filled_head C may.begun a may.w write.key write.edit write.way layer may.true.0
 
-  pub may_link_layer : (layer : Layer) → MayBeAt a write (LayerReady layer) → IsSomeAnd (border_at a.nodes write.way.node.0) (λ b. HasLayerFor a.nodes b layer.place layer.head.0)
+  pub may_mark_unstable : (layer : Layer) → MayBeAt a write (LayerReady layer) → IsSomeAnd (border_at a.nodes write.way.node.0) (λ b. MayMarkUnstable b layer.place)
+  may_mark_unstable layer (C, log, may) = ready_mark C may.begun a may.w write.key write.edit write.way layer may.true.0
+
+  pub may_mark_layer : (head : NodeNo) → MayBeAt a write (LayerLinked head) → IsSomeAnd (border_at a.nodes write.way.node.0) AwaitsSomeMark
+  may_mark_layer head (C, log, may) = linked_mark C may.begun a may.w write.key write.edit write.way head may.true.0
+
+  pub may_link_layer : (layer : Layer) → MayBeAt a write (LayerMarked layer) → IsSomeAnd (border_at a.nodes write.way.node.0) (λ b. HasLayerFor a.nodes b layer.place layer.head.0)
   may_link_layer layer (C, log, may) = ready_link C may.begun a may.w write.key write.edit write.way layer may.true.0
 
   -- the border that it has locked
@@ -229,8 +238,8 @@ seeks_led a write Here p then visits idle on no_border marked again to = absurd 
 -- ---- at its border
 -- what a put makes ready, which has split no border
 put_ready : (C : ℕ) (a after : ArenaView) (log left : LogView) (key : List ℕ) (sets : List (ℕ × List ℕ)) (way : Way) (stage : Stage) → Prepares C key sets way a log None stage after left → IsMadeReady a way stage
-put_ready C a after log left key sets way (Spared half cut entries) f =
-    subst (λ (o : Option BorderView). IsSomeAnd o (λ b. IsBestCut b.live cut)) (sym f.1.named) f.1.cut_at.place
+put_ready C a after log left key sets way (Copies half cut place outline entries) f =
+    subst (λ (o : Option BorderView). IsSomeAnd o (λ b. IsBestCut (slices b.live) cut)) (sym f.1.named) f.1.cut_at.best
 put_ready C a after log left key sets way (LayerSpared layer entries) f = tt
 put_ready C a after log left key sets way (Reserved new slot_key row) f = f.0
 put_ready C a after log left key sets way (Made place stored columns logged) f = tt

@@ -16,7 +16,7 @@ use Rattle.mt_steps.specs.declared.entering.Entering.{Entering}
 use Rattle.mt_write.specs.declared.writing.Write.{Write}
 use Rattle.mt_write.specs.declared.writing.Edit.{Edit}
 use Rattle.mt_write.specs.declared.writing.Stage.{Stage}
-use Rattle.mt_write.specs.declared.writing.Stage.TheVariants.{Seeks, Enters, Rightward, Searched, Spared, HalfFilled, Halved, Posts, LayerSpared, LayerFilled, LayerReady, Layered, Reserved, KeyWritten, Filled, Made, Taken, Stored, Failed}
+use Rattle.mt_write.specs.declared.writing.Stage.TheVariants.{Seeks, Enters, Rightward, Searched, Copies, GivesBack, Spared, HalfFilled, HalfLinked, Halved, Posts, LayerSpared, LayerFilled, LayerReady, LayerMarked, LayerLinked, Layered, Reserved, KeyWritten, Filled, Made, Taken, Stored, Failed}
 use Rattle.mt_write.specs.declared.writing.Halves.{Halves}
 use Rattle.mt_write.specs.declared.writing.Layer.{Layer}
 use Rattle.mt_chart.proofs.Basics.{same_number}
@@ -26,7 +26,8 @@ use Rattle.mt_chart.specs.Chart.{top}
 use Rattle.mt_chart.proofs.Walk.{known_kept}
 use Rattle.mt_post.proofs.PostingLasts.{posting_stays, posting_taken}
 use Rattle.mt_write.specs.Held.{stage_held, owned, layer_owned, write_held}
-use Rattle.mt_write.specs.Writing.{StageIsTrue, IsLockedAt, IsOwnedAt, HasLocked, HasOthers, AreHalves, HasLayer, HasLink, IsSpare, way_below, way_right, WriteIsTrue, Tells}
+use Rattle.mt_write.specs.Writing.{StageIsTrue, IsLockedAt, IsOwnedAt, HasLocked, HasOthers, AreHalves, HasLayer, HasLink, IsSpare, way_below, way_right, WriteIsTrue, Tells, HasMarkedLink}
+use Rattle.mt_write.specs.Splitting.{IsHalfLinked}
 use Rattle.mt_types.specs.declared.refusal.Refusal.{Refusal}
 use Rattle.mt_types.specs.declared.refusal.Refusal.TheVariants.{OtherVersion}
 use Rattle.mt_steps.specs.World.{IsLockedBorder}
@@ -102,6 +103,51 @@ module _ (a after : ArenaView) (w next : World) where
     linked = has.linked;
   }
 
+  marked_link_stays : (prefix : List ℕ) (number : ℕ) (head : NodeNo) → IsSame a after w next number → HasMarkedLink prefix a w number head → HasMarkedLink prefix after next number head
+  marked_link_stays prefix number head same has = record {
+    b = has.b;
+    named = same_border number has.b same has.named;
+    stands = record { low = has.stands.low; posted = has.stands.posted; place = same.spot ∙ has.stands.place };
+    locked = has.locked;
+    alive = has.alive;
+    free = λ i. has.free (same.closing i);
+    unmarked = has.unmarked;
+    slice = has.slice;
+    linked = has.linked;
+  }
+
+  half_linked_stays : (key : List ℕ) (way : Way) (half : NodeNo) (cut place : ℕ) → IsSame a after w next way.node.0 → IsSame a after w next half.0 → IsHalfLinked a w key way half cut place → IsHalfLinked after next key way half cut place
+  half_linked_stays key way half cut place same same_half h = record {
+    layer = h.layer;
+    b = h.b;
+    named = same_border way.node.0 h.b same h.named;
+    upper = h.upper;
+    filled = same_border half.0 h.upper same_half h.filled;
+    posted = h.posted;
+    charted = same.spot ∙ h.charted;
+    halves = record {
+      apart = h.halves.apart;
+      low = h.halves.low;
+      place = same_half.spot ∙ h.halves.place;
+      low_is = λ b is. h.halves.low_is b (ap (option_and_then border_of) (sym same_half.node) ∙ is);
+    };
+    right = h.right;
+    from_low = h.from_low;
+    to_right = h.to_right;
+    locked = h.locked;
+    alive = h.alive;
+    free = λ i. h.free (same.closing i);
+    upper_locked = h.upper_locked;
+    upper_alive = h.upper_alive;
+    upper_written = h.upper_written;
+    upper_free = λ i. h.upper_free (same_half.closing i);
+    lower_half = h.lower_half;
+    upper_half = h.upper_half;
+    shown = h.shown;
+    uncut = h.uncut;
+    moved = h.moved;
+  }
+
   halves_stay : (prefix : List ℕ) (split : Option Halves) → ((half : Halves) → split ≡ Some half → IsSame a after w next half.half.0) → AreHalves prefix a w split → AreHalves prefix after next split
   halves_stay prefix None same halves = tt
   halves_stay prefix (Some split) same halves = record {
@@ -146,12 +192,17 @@ module _ (a after : ArenaView) (w next : World) where
     stage_stays key edit way (Enters entering) same truth = enters_stays key edit way entering (same way.node.0 first) truth
     stage_stays key edit way (Rightward next) same truth = (locked_stays way.node.0 (same way.node.0 first) truth.0, way_stays begun key (way_right way next) evolves truth.1)
     stage_stays key edit way (Searched there) same truth = let (b, at, found) = truth in (b, locked_at_stays key way b (same way.node.0 first) at, found)
-    stage_stays key edit way (Spared half cut entries) same truth = let (b, at, c, s, e, p) = truth in (b, locked_at_stays key way b (same way.node.0 (later first)) at, c, spare_stays half.0 _ (same half.0 first) s, e, p)
-    stage_stays key edit way (HalfFilled half cut) same truth = let (b, at, c, s, p) = truth in (b, locked_at_stays key way b (same way.node.0 (later first)) at, c, spare_stays half.0 _ (same half.0 first) s, p)
-    stage_stays key edit way (Halved split) same truth = let (b, at, h, has, p) = truth in (b, locked_at_stays key way b (same way.node.0 has.own) at, h, has_locked_stays (prefix_of key way) way.node.0 (Some split) same has, p)
+    stage_stays key edit way (Copies half cut place outline entries) same truth = let (b, at, f, c, s, r, e, p) = truth in (b, locked_at_stays key way b (same way.node.0 (later first)) at, f, c, spare_stays half.0 _ (same half.0 first) s, r, e, p)
+    stage_stays key edit way (GivesBack half) same truth = (locked_stays way.node.0 (same way.node.0 (later first)) truth.0, truth.1, spare_stays half.0 _ (same half.0 first) truth.2)
+    stage_stays key edit way (Spared half cut place entries) same truth = let (b, at, f, c, s, e, p) = truth in (b, locked_at_stays key way b (same way.node.0 (later first)) at, f, c, spare_stays half.0 _ (same half.0 first) s, e, p)
+    stage_stays key edit way (HalfFilled half cut place) same truth = let (b, at, f, c, s, p) = truth in (b, locked_at_stays key way b (same way.node.0 (later first)) at, f, c, spare_stays half.0 _ (same half.0 first) s, p)
+    stage_stays key edit way (HalfLinked half cut place) same truth = (half_linked_stays key way half cut place (same way.node.0 (later first)) (same half.0 first) truth.0, truth.1)
+    stage_stays key edit way (Halved split place) same truth = let (b, at, h, has, p) = truth in (b, locked_at_stays key way b (same way.node.0 has.own) at, h, has_locked_stays (prefix_of key way) way.node.0 (Some split) same has, p)
     stage_stays key edit way (LayerSpared layer entries) same truth = let (b, at, f) = truth in (b, locked_at_stays key way b (same way.node.0 (later (later first))) at, record { number = f.number; at = f.at; has = layer_stays layer true _ (same layer.head.0 first) (same layer.root.0 (later first)) f.has; moved = f.moved; whole = f.whole })
     stage_stays key edit way (LayerFilled layer) same truth = let (b, at, f) = truth in (b, locked_at_stays key way b (same way.node.0 (later (later first))) at, record { number = f.number; at = f.at; has = layer_stays layer true _ (same layer.head.0 first) (same layer.root.0 (later first)) f.has })
     stage_stays key edit way (LayerReady layer) same truth = let (b, at, f) = truth in (b, locked_at_stays key way b (same way.node.0 (later (later first))) at, record { number = f.number; at = f.at; has = layer_stays layer false _ (same layer.head.0 first) (same layer.root.0 (later first)) f.has })
+    stage_stays key edit way (LayerMarked layer) same truth = let (b, at, f, u) = truth in (b, owned_at_stays key way b (same way.node.0 (later (later first))) at, record { number = f.number; at = f.at; has = layer_stays layer false _ (same layer.head.0 first) (same layer.root.0 (later first)) f.has }, u)
+    stage_stays key edit way (LayerLinked head) same truth = (marked_link_stays (prefix_of key way) way.node.0 head (same way.node.0 first) truth.0, way_stays begun key (way_below way head) evolves truth.1, known_kept begun head.0 top (prefix_of key (way_below way head)) 0 w.chart next.chart evolves truth.2)
     stage_stays key edit way (Layered head) same truth = (link_stays (prefix_of key way) way.node.0 head (same way.node.0 first) truth.0, way_stays begun key (way_below way head) evolves truth.1, known_kept begun head.0 top (prefix_of key (way_below way head)) 0 w.chart next.chart evolves truth.2)
     stage_stays key edit way (Reserved new slot_key row) same truth = let (b, at, p, f, k, has) = truth in (b, locked_at_stays key way b (same way.node.0 has.own) at, p, f, k, has_locked_stays (prefix_of key way) way.node.0 new.split same has)
     stage_stays key edit way (KeyWritten new row) same truth = let (b, at, p, f, k, has) = truth in (b, owned_at_stays key way b (same way.node.0 has.own) at, p, f, k, has_others_stays (prefix_of key way) way.node.0 new.split same has)
@@ -190,17 +241,26 @@ module _ (C begun moves : ℕ) (past : List Arena) (a : ArenaView) (w : World) w
   layer_taken n number layer locked root has b named is_locked (later first) = inr (inl (subst (λ (x : Option Node). IsSome x) (sym (node-from_border a.nodes layer.root.0 root has.is_root)) refl, has.root_unknown))
   layer_taken n number layer locked root has b named is_locked (later (later i)) = border_taken a w n number b named is_locked i
 
+  linked_taken : (key : List ℕ) (way : Way) (half : NodeNo) (cut place : ℕ) → IsHalfLinked a w key way half cut place → (number : ℕ) → Among number (half.0 ∷ way.node.0 ∷ []) → IsTaken a w number
+  linked_taken key way half cut place h number first = border_taken a w half.0 half.0 h.upper h.filled h.upper_locked first
+  linked_taken key way half cut place h number (later i) = border_taken a w way.node.0 number h.b h.named h.locked i
+
   stage_taken : (key : List ℕ) (edit : Edit) (way : Way) (stage : Stage) → StageIsTrue C key edit way stage begun a w → (number : ℕ) → Among number (stage_held way.node.0 stage).owns → IsTaken a w number
   stage_taken key edit way Seeks truth number i = elim i [ ]
   stage_taken key edit way (Enters entering) truth number i = border_taken a w way.node.0 number truth.0.b truth.0.named truth.0.locked i
   stage_taken key edit way (Rightward next) truth number i = border_taken a w way.node.0 number truth.0.b truth.0.named truth.0.locked i
   stage_taken key edit way (Searched there) truth number i = let (b, at, found) = truth in border_taken a w way.node.0 number b at.named at.locked i
-  stage_taken key edit way (Spared half cut entries) truth number i = let (b, at, c, s, e, p) = truth in spare_taken half.0 way.node.0 number _ s b at.named at.locked i
-  stage_taken key edit way (HalfFilled half cut) truth number i = let (b, at, c, s, p) = truth in spare_taken half.0 way.node.0 number _ s b at.named at.locked i
-  stage_taken key edit way (Halved split) truth number i = let (b, at, h, has, p) = truth in all_taken (prefix_of key way) way.node.0 (Some split) has number i
+  stage_taken key edit way (Copies half cut place outline entries) truth number i = let (b, at, f, c, s, r, e, p) = truth in spare_taken half.0 way.node.0 number _ s b at.named at.locked i
+  stage_taken key edit way (GivesBack half) truth number i = spare_taken half.0 way.node.0 number _ truth.2 truth.0.b truth.0.named truth.0.locked i
+  stage_taken key edit way (Spared half cut place entries) truth number i = let (b, at, f, c, s, e, p) = truth in spare_taken half.0 way.node.0 number _ s b at.named at.locked i
+  stage_taken key edit way (HalfFilled half cut place) truth number i = let (b, at, f, c, s, p) = truth in spare_taken half.0 way.node.0 number _ s b at.named at.locked i
+  stage_taken key edit way (HalfLinked half cut place) truth number i = let (h, p) = truth in linked_taken key way half cut place h number i
+  stage_taken key edit way (Halved split place) truth number i = let (b, at, h, has, p) = truth in all_taken (prefix_of key way) way.node.0 (Some split) has number i
   stage_taken key edit way (LayerSpared layer entries) truth number i = let (b, at, f) = truth in layer_taken way.node.0 number layer true _ f.has b at.named at.locked i
   stage_taken key edit way (LayerFilled layer) truth number i = let (b, at, f) = truth in layer_taken way.node.0 number layer true _ f.has b at.named at.locked i
   stage_taken key edit way (LayerReady layer) truth number i = let (b, at, f) = truth in layer_taken way.node.0 number layer false _ f.has b at.named at.locked i
+  stage_taken key edit way (LayerMarked layer) truth number i = let (b, at, f, u) = truth in layer_taken way.node.0 number layer false _ f.has b at.named at.locked i
+  stage_taken key edit way (LayerLinked head) truth number i = border_taken a w way.node.0 number truth.0.b truth.0.named truth.0.locked i
   stage_taken key edit way (Layered head) truth number i = border_taken a w way.node.0 number truth.0.border.b truth.0.border.named truth.0.border.locked i
   stage_taken key edit way (Reserved new slot_key row) truth number i = let (b, at, p, f, k, has) = truth in all_taken (prefix_of key way) way.node.0 new.split has number i
   stage_taken key edit way (KeyWritten new row) truth number i = let (b, at, p, f, k, has) = truth in others_taken (prefix_of key way) way new.split b at.named at.locked has number i

@@ -11,7 +11,7 @@ use Rattle.mt_post.proofs.PostingLasts.{posting_since}
 use Rattle.mt_write.specs.declared.writing.Write.{Write}
 use Rattle.mt_write.specs.declared.writing.Edit.{Edit}
 use Rattle.mt_write.specs.declared.writing.Stage.{Stage}
-use Rattle.mt_write.specs.declared.writing.Stage.TheVariants.{Seeks, Enters, Rightward, Searched, Spared, HalfFilled, Halved, Posts, LayerSpared, LayerFilled, LayerReady, Layered, Reserved, KeyWritten, Filled, Made, Taken, Stored, Failed}
+use Rattle.mt_write.specs.declared.writing.Stage.TheVariants.{Seeks, Enters, Rightward, Searched, Copies, GivesBack, Spared, HalfFilled, HalfLinked, Halved, Posts, LayerSpared, LayerFilled, LayerReady, LayerMarked, LayerLinked, Layered, Reserved, KeyWritten, Filled, Made, Taken, Stored, Failed}
 use Rattle.mt_write.specs.declared.writing.Halves.{Halves}
 use Rattle.mt_write.specs.declared.writing.Layer.{Layer}
 use Rattle.mt_chart.proofs.Basics.{same_number}
@@ -44,12 +44,17 @@ module _ (C : ℕ) (a : ArenaView) (now begun : ℕ) (w : World) (world : IsWorl
   stage_since key edit way (Enters entering) truth = border_since way.node.0 truth.0.b truth.0.named
   stage_since key edit way (Rightward next) truth = border_since way.node.0 truth.0.b truth.0.named
   stage_since key edit way (Searched there) truth = let (b, at, found) = truth in border_since way.node.0 b at.named
-  stage_since key edit way (Spared half cut entries) truth = let (b, at, c, s, e, p) = truth in both_since half.0 _ (border_since half.0 _ s.named) (border_since way.node.0 b at.named)
-  stage_since key edit way (HalfFilled half cut) truth = let (b, at, c, s, p) = truth in both_since half.0 _ (border_since half.0 _ s.named) (border_since way.node.0 b at.named)
-  stage_since key edit way (Halved split) truth = let (b, at, h, has, p) = truth in locked_since _ way.node.0 (Some split) has
+  stage_since key edit way (Copies half cut place outline entries) truth = let (b, at, f, c, s, r, e, p) = truth in both_since half.0 _ (border_since half.0 _ s.named) (border_since way.node.0 b at.named)
+  stage_since key edit way (GivesBack half) truth = both_since half.0 _ (border_since half.0 _ truth.2.named) (border_since way.node.0 _ truth.0.named)
+  stage_since key edit way (Spared half cut place entries) truth = let (b, at, f, c, s, e, p) = truth in both_since half.0 _ (border_since half.0 _ s.named) (border_since way.node.0 b at.named)
+  stage_since key edit way (HalfFilled half cut place) truth = let (b, at, f, c, s, p) = truth in both_since half.0 _ (border_since half.0 _ s.named) (border_since way.node.0 b at.named)
+  stage_since key edit way (HalfLinked half cut place) truth = let (h, p) = truth in both_since half.0 _ (border_since half.0 _ h.filled) (border_since way.node.0 _ h.named)
+  stage_since key edit way (Halved split place) truth = let (b, at, h, has, p) = truth in locked_since _ way.node.0 (Some split) has
   stage_since key edit way (LayerSpared layer entries) truth = let (b, at, f) = truth in layer_since way.node.0 b layer true _ at.named f.has
   stage_since key edit way (LayerFilled layer) truth = let (b, at, f) = truth in layer_since way.node.0 b layer true _ at.named f.has
   stage_since key edit way (LayerReady layer) truth = let (b, at, f) = truth in layer_since way.node.0 b layer false _ at.named f.has
+  stage_since key edit way (LayerMarked layer) truth = let (b, at, f, u) = truth in layer_since way.node.0 b layer false _ at.named f.has
+  stage_since key edit way (LayerLinked head) truth = border_since way.node.0 truth.0.b truth.0.named
   stage_since key edit way (Layered head) truth = border_since way.node.0 truth.0.border.b truth.0.border.named
   stage_since key edit way (Reserved new slot_key row) truth = let (b, at, p, f, k, has) = truth in locked_since _ way.node.0 new.split has
   stage_since key edit way (KeyWritten new row) truth = let (b, at, p, f, k, has) = truth in others_since _ way b new.split at.named has

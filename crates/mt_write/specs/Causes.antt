@@ -28,7 +28,7 @@ use Rattle.mt_write.specs.declared.writing.Edit.{Edit}
 use Rattle.mt_write.specs.declared.writing.Edit.TheVariants.{Put, Remove}
 use Rattle.mt_write.specs.declared.writing.Halves.{Halves}
 use Rattle.mt_write.specs.declared.writing.Stage.{Stage}
-use Rattle.mt_write.specs.declared.writing.Stage.TheVariants.{Seeks, Enters, Searched, Halved, Posts, Failed}
+use Rattle.mt_write.specs.declared.writing.Stage.TheVariants.{Seeks, Enters, Searched, Copies, GivesBack, Halved, Posts, Failed}
 use Rattle.mt_write.specs.declared.writing.Ending.{Ending}
 use Rattle.mt_write.specs.declared.writing.Ending.TheVariants.{Stored as EndStored, Failed as EndFailed}
 use Rattle.mt_post.specs.declared.posting.Posting.{Posting}
@@ -97,6 +97,7 @@ edit_fault a log Remove b found = remove_fault log found
 -- it doesn't fail, and isn't refused
 abbrev pub IsNotFailed : Stage → Type 0
 IsNotFailed (Failed refusal split) = ⊥
+IsNotFailed (GivesBack half) = ⊥
 IsNotFailed _ = Unit {0}
 
 abbrev pub IsNotRefused : Progress → Type 0
@@ -134,8 +135,13 @@ abbrev pub FailsReading : Entering → Stage → Type 0
 FailsReading entering (Failed refusal split) = (refusal ≡ NoMemory) × TakesMemory entering
 FailsReading entering _ = Unit {0}
 
--- WHY A PUT OR REMOVE FAILS. It fails in a step that reads a key or a value of a border that it has locked, if it is out
--- of memory; or in the step that makes ready at its key's border, or at the half to which its key belongs: for a fault
+-- and so does one that copies a value
+abbrev pub FailsCopying : Stage → Type 0
+FailsCopying (GivesBack half) = Unit {0}
+FailsCopying stage = IsNotFailed stage
+
+-- WHY A PUT OR REMOVE FAILS. It fails in a step that reads a key or a value of a border that it has locked, or copies one,
+-- if it is out of memory; or in the step that makes ready at its key's border, or at the half to which its key belongs: for a fault
 -- there, or, if there is none, only if out of memory. It is refused only if it had failed, for the same reason.
 abbrev pub StageFails : ArenaView → LogView → List ℕ → Edit → Way → Stage → Progress → Stage → Type 0
 StageFails a log key edit way (Enters entering) p new = IsNotRefused p × FailsReading entering new
@@ -144,7 +150,10 @@ StageFails a log key edit way (Searched there) (Answered answer) new =
 StageFails a log key edit way (Searched there) p new = IsNotRefused p
     × IsSomeAnd (border_at a.nodes way.node.0)
     (λ b. FailsBy (edit_fault a log edit b (found_for (rest_of key way) b.live)) None new)
-StageFails a log key edit way (Halved split) p new = IsNotRefused p
+StageFails a log key edit way (Copies half cut place outline entries) p new = IsNotRefused p × FailsCopying new
+StageFails a log key edit way (GivesBack half) (Refused refused) new = refused ≡ NoMemory
+StageFails a log key edit way (GivesBack half) p new = ⊥
+StageFails a log key edit way (Halved split place) p new = IsNotRefused p
     × IsSomeAnd (border_at a.nodes way.node.0) (λ b. FailsBy (fill_fault log b) (Some split) new)
 StageFails a log key edit way (Failed refusal split) (Refused refused) new = (refused ≡ refusal) × (split ≡ None)
 StageFails a log key edit way (Failed refusal split) p new = IsNotRefused p × IsPosting (EndFailed refusal) new

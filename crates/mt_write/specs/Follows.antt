@@ -1,6 +1,8 @@
 -- Which stage of a put or remove follows which: said of the nodes before the step, and of the call before and after it.
 use Rattle.std.specs.Prelude.{ℕ, ◌≡◌, ◌≢◌, ◌⊎◌, ◌+◌, List, [], Option, Some, None, IsSomeAnd, false}
-use Rattle.mt_border.specs.Cut.{IsBestCut}
+use Rattle.mt_border.specs.Cut.{IsBestCut, slices}
+use Rattle.mt_types.specs.declared.refusal.Refusal.{Refusal}
+use Rattle.mt_write.specs.Splitting.{CopiesOn}
 use Rattle.mt_arena.specs.Node.{border_at}
 use Rattle.mt_arena.specs.Arena.{ArenaView, with_border_changed}
 use Rattle.mt_arena.specs.declared.part.Part.{Part}
@@ -34,7 +36,7 @@ use Rattle.mt_write.specs.declared.writing.Halves.{Halves}
 use Rattle.mt_write.specs.declared.writing.Ending.{Ending}
 use Rattle.mt_write.specs.declared.writing.Ending.TheVariants.{Stored as EndStored, Failed as EndFailed}
 use Rattle.mt_write.specs.declared.writing.Stage.{Stage}
-use Rattle.mt_write.specs.declared.writing.Stage.TheVariants.{Seeks, Enters, Rightward, Searched, Spared, HalfFilled, Halved, Posts, LayerSpared, LayerFilled, LayerReady, Layered, Reserved, KeyWritten, Filled, Made, Taken, Stored, Failed}
+use Rattle.mt_write.specs.declared.writing.Stage.TheVariants.{Seeks, Enters, Rightward, Searched, Copies, GivesBack, Spared, HalfFilled, HalfLinked, Halved, Posts, LayerSpared, LayerFilled, LayerReady, LayerMarked, LayerLinked, Layered, Reserved, KeyWritten, Filled, Made, Taken, Stored, Failed}
 use Rattle.mt_write.specs.declared.writing.Write.{Write as WriteView}
 use Rattle.mt_commit.specs.Log.{LogView}
 use Rattle.mt_write.specs.Held.{write_request, ending_stage}
@@ -47,7 +49,7 @@ StaysAt way next new stage = (new ≡ stage) × (next ≡ way)
 
 -- a full border is to be cut before the place nearest to the middle at which it may be, the lower of two that are as near
 abbrev pub IsCutBest : ArenaView → Way → ℕ → Type 0
-IsCutBest a way cut = IsSomeAnd (border_at a.nodes way.node.0) (λ b. IsBestCut b.live cut)
+IsCutBest a way cut = IsSomeAnd (border_at a.nodes way.node.0) (λ b. IsBestCut (slices b.live) cut)
 
 -- the number names a border that a write may lock: one that is neither locked nor marked deleted
 abbrev pub MayLock : ArenaView → ℕ → Type 0
@@ -61,7 +63,7 @@ ReadsOn a key way entering new = ((part : Part) × Lends a way.node.0 (wants ent
 
 -- at its border, which it has locked, it has made something ready, or failed
 abbrev pub IsMadeReady : ArenaView → Way → Stage → Type 0
-IsMadeReady a way (Spared half cut entries) = IsCutBest a way cut
+IsMadeReady a way (Copies half cut place outline entries) = IsCutBest a way cut
 IsMadeReady a way (LayerSpared layer entries) = Unit {0}
 IsMadeReady a way (Reserved new slot_key row) = new.split ≡ None
 IsMadeReady a way (Made place stored columns logged) = Unit {0}
@@ -88,13 +90,18 @@ StageFollows a key way Seeks next new = StaysAt way next new (Enters Locked)
 StageFollows a key way (Enters entering) next new = ReadsOn a key way entering new × (next ≡ way)
 StageFollows a key way (Rightward right) next new = (new ≡ Seeks) × (next ≡ way_right way right)
 StageFollows a key way (Searched there) next new = IsMadeReady a way new × (next ≡ way)
-StageFollows a key way (Spared half cut entries) next new = StaysAt way next new (HalfFilled half cut)
-StageFollows a key way (HalfFilled half cut) next new = (new ≡ Halved (record { left = way.node; half = half }))
-    × (next.layer ≡ way.layer)
-StageFollows a key way (Halved split) next new = IsReadyIn split new × (next ≡ way)
+StageFollows a key way (Copies half cut place outline entries) next new =
+    CopiesOn a way.node.0 half cut place outline entries new × (next ≡ way)
+StageFollows a key way (Spared half cut place entries) next new = StaysAt way next new (HalfFilled half cut place)
+StageFollows a key way (HalfFilled half cut place) next new = StaysAt way next new (HalfLinked half cut place)
+StageFollows a key way (HalfLinked half cut place) next new = (there : ℕ)
+    × (new ≡ Halved (record { left = way.node; half = half }) there) × (next.layer ≡ way.layer)
+StageFollows a key way (Halved split place) next new = IsReadyIn split new × (next ≡ way)
 StageFollows a key way (LayerSpared layer entries) next new = StaysAt way next new (LayerFilled layer)
 StageFollows a key way (LayerFilled layer) next new = StaysAt way next new (LayerReady layer)
-StageFollows a key way (LayerReady layer) next new = StaysAt way next new (Layered layer.head)
+StageFollows a key way (LayerReady layer) next new = StaysAt way next new (LayerMarked layer)
+StageFollows a key way (LayerMarked layer) next new = StaysAt way next new (LayerLinked layer.head)
+StageFollows a key way (LayerLinked head) next new = StaysAt way next new (Layered head)
 StageFollows a key way (Layered head) next new = (new ≡ Seeks) × (next ≡ record { node = head; layer = way.layer + 1 })
 StageFollows a key way (Reserved insertion slot_key row) next new = StaysAt way next new (KeyWritten insertion row)
 StageFollows a key way (KeyWritten insertion row) next new = StaysAt way next new
@@ -131,6 +138,12 @@ MayAnswer (Searched there) = Unit {0}
 MayAnswer (Stored commit split) = split ≡ None
 MayAnswer _ = ⊥
 
+-- it is refused only if it had failed
+abbrev pub EndsRefused : Stage → Refusal → Type 0
+EndsRefused (Failed failed split) refusal = (failed ≡ refusal) × (split ≡ None)
+EndsRefused (GivesBack half) refusal = refusal ≡ NoMemory
+EndsRefused _ refusal = ⊥
+
 -- A STEP VISITS ONE NODE, and leads from stage to stage: if it commits, it is then to unlock; it is refused only if it
 -- had failed
 abbrev pub Follows : ArenaView → List ℕ → Way → Stage → Progress → Way → Stage → Type 0
@@ -139,7 +152,7 @@ Follows a key way stage Waits next new = StageRests a way stage next new
 Follows a key way stage (Committed number) next new = IsReady stage
     × StaysAt way next new (Stored number (halves_of stage))
 Follows a key way stage (Answered answer) next new = MayAnswer stage
-Follows a key way stage (Refused refusal) next new = stage ≡ Failed refusal None
+Follows a key way stage (Refused refusal) next new = EndsRefused stage refusal
 
 abbrev pub WriteFollows : ArenaView → WriteView → Progress → WriteView → Type 0
 WriteFollows a write p new = Follows a write.key write.way write.stage p new.way new.stage

@@ -8,7 +8,7 @@ use Rattle.mt_write.specs.declared.writing.Write.{Write}
 use Rattle.mt_write.specs.declared.writing.Edit.{Edit}
 use Rattle.mt_write.specs.declared.writing.Edit.TheVariants.{Put as PutEdit, Remove as RemoveEdit}
 use Rattle.mt_write.specs.declared.writing.Stage.{Stage}
-use Rattle.mt_write.specs.declared.writing.Stage.TheVariants.{Seeks, Enters, Rightward, Searched, Spared, HalfFilled, Halved, Posts, LayerSpared, LayerFilled, LayerReady, Layered, Reserved, KeyWritten, Filled, Made, Taken, Stored, Failed}
+use Rattle.mt_write.specs.declared.writing.Stage.TheVariants.{Seeks, Enters, Rightward, Searched, Copies, GivesBack, Spared, HalfFilled, HalfLinked, Halved, Posts, LayerSpared, LayerFilled, LayerReady, LayerMarked, LayerLinked, Layered, Reserved, KeyWritten, Filled, Made, Taken, Stored, Failed}
 use Rattle.mt_write.specs.declared.writing.Halves.{Halves}
 use Rattle.mt_write.specs.declared.writing.Ending.{Ending}
 use Rattle.mt_write.specs.declared.writing.Ending.TheVariants.{Stored as EndStored, Failed as EndFailed}
@@ -62,11 +62,17 @@ stage_held number Seeks = nothing
 stage_held number (Enters entering) = record { owns = number ∷ []; reserves = 0; committed = None; blocked = None }
 stage_held number (Rightward next) = record { owns = number ∷ []; reserves = 0; committed = None; blocked = None }
 stage_held number (Searched there) = record { owns = number ∷ []; reserves = 0; committed = None; blocked = None }
-stage_held number (Spared half cut entries) =
+stage_held number (Copies half cut place outline entries) =
     record { owns = half.0 ∷ number ∷ []; reserves = 0; committed = None; blocked = None }
-stage_held number (HalfFilled half cut) =
+stage_held number (GivesBack half) =
     record { owns = half.0 ∷ number ∷ []; reserves = 0; committed = None; blocked = None }
-stage_held number (Halved split) =
+stage_held number (Spared half cut place entries) =
+    record { owns = half.0 ∷ number ∷ []; reserves = 0; committed = None; blocked = None }
+stage_held number (HalfFilled half cut place) =
+    record { owns = half.0 ∷ number ∷ []; reserves = 0; committed = None; blocked = None }
+stage_held number (HalfLinked half cut place) =
+    record { owns = half.0 ∷ number ∷ []; reserves = 0; committed = None; blocked = None }
+stage_held number (Halved split place) =
     record { owns = owned number (Some split); reserves = 0; committed = None; blocked = None }
 stage_held number (LayerSpared layer entries) =
     record { owns = layer_owned number layer; reserves = 0; committed = None; blocked = None }
@@ -74,6 +80,9 @@ stage_held number (LayerFilled layer) =
     record { owns = layer_owned number layer; reserves = 0; committed = None; blocked = None }
 stage_held number (LayerReady layer) =
     record { owns = layer_owned number layer; reserves = 0; committed = None; blocked = None }
+stage_held number (LayerMarked layer) =
+    record { owns = layer_owned number layer; reserves = 0; committed = None; blocked = None }
+stage_held number (LayerLinked head) = record { owns = number ∷ []; reserves = 0; committed = None; blocked = None }
 stage_held number (Layered head) = record { owns = number ∷ []; reserves = 0; committed = None; blocked = None }
 stage_held number (Reserved new slot_key row) =
     record { owns = owned number new.split; reserves = 1; committed = None; blocked = None }

@@ -1,5 +1,5 @@
 -- What a put or remove makes ready at the border that it has locked, and the deltas of their commits.
-use Rattle.std.specs.Prelude.{ℕ, ◌≡◌, ◌<◌, ◌≤◌, ◌+◌, ◌⊎◌, List, [], ◌∷◌, length, drop, Option, Some, None, IsSomeAnd, true, false}
+use Rattle.std.specs.Prelude.{ℕ, ◌≡◌, ◌<◌, ◌≤◌, ◌+◌, ◌⊎◌, List, [], ◌∷◌, length, Option, Some, None, IsSomeAnd, true, false}
 use Rattle.mt_types.specs.declared.limits.TheConstants.{MAX_KEY_BYTES}
 use Rattle.mt_types.specs.declared.row.Row.{Row}
 use Rattle.mt_types.specs.declared.row.Delta.{Delta}
@@ -7,10 +7,12 @@ use Rattle.mt_types.specs.declared.event.Request.TheVariants.{Put as PutRequest,
 use Rattle.mt_slice.specs.Place.{AreBytes}
 use Rattle.mt_word.specs.declared.permutation_word.TheConstants.{SLOTS}
 use Rattle.mt_commit.specs.Log.{LogView}
-use Rattle.mt_border.specs.Border.{BorderView, with_filled, with_inserting, with_key, new_border}
+use Rattle.mt_border.specs.Border.{BorderView, with_filled, with_inserting, with_key, with_splitting, new_border}
 use Rattle.mt_arena.specs.declared.node.Node.TheVariants.{Border, Head}
 use Rattle.mt_border.specs.Entry.{IsEntry}
 use Rattle.mt_border.specs.Order.{IsBorder}
+use Rattle.mt_border.specs.declared.found.Found.{Found}
+use Rattle.mt_border.specs.declared.found.Found.TheVariants.{Absent as AbsentFound}
 use Rattle.mt_border.specs.declared.entry.Entry.{Entry}
 use Rattle.mt_border.specs.declared.unwritten.SlotKey.{SlotKey}
 use Rattle.mt_border.specs.Entry.{entry_with, key_of_rest}
@@ -25,13 +27,27 @@ use Rattle.mt_steps.specs.declared.way.Way.{Way}
 use Rattle.mt_write.specs.declared.writing.Edit.{Edit}
 use Rattle.mt_write.specs.declared.writing.Edit.TheVariants.{Put as PutEdit, Remove as RemoveEdit}
 use Rattle.mt_write.specs.declared.writing.Stage.{Stage}
-use Rattle.mt_write.specs.declared.writing.Stage.TheVariants.{Spared, LayerSpared, Reserved, Made, Taken, Failed}
+use Rattle.mt_write.specs.declared.writing.Stage.TheVariants.{Copies, LayerSpared, Reserved, Made, Taken, Failed}
 use Rattle.mt_write.specs.declared.writing.Halves.{Halves}
 use Rattle.mt_write.specs.declared.writing.Insertion.{Insertion}
 use Rattle.mt_write.specs.declared.writing.Layer.{Layer}
 use Rattle.mt_steps.specs.Way.{rest_of}
 use Rattle.mt_steps.specs.Step.{MayFail, columns_after}
-use Rattle.mt_write.specs.Writing.{IsCutAt, empty_half, IsLayerAt, moved_entry, IsNewRow, IsMade, IsFound}
+use Rattle.mt_steps.specs.declared.entering.Outline.{Outline}
+use Rattle.mt_steps.specs.declared.entering.There.{There}
+use Rattle.mt_steps.specs.declared.entering.There.TheVariants.{Full}
+use Rattle.mt_write.specs.Writing.{IsLayerAt, moved_entry, IsNewRow, IsMade, IsFound}
+use Rattle.mt_write.specs.Splitting.{IsRead, IsCutAt, empty_half}
+
+-- what was found needs no split of the border
+abbrev pub NeedsNoSplit : BorderView → Found → Type 0
+NeedsNoSplit b (AbsentFound place) = length b.live < SLOTS
+NeedsNoSplit b _ = Unit {0}
+
+-- what was read needs none
+abbrev pub IsNotFull : There → Type 0
+IsNotFull (Full place outline) = ⊥
+IsNotFull _ = Unit {0}
 
 -- the room for one delta more
 abbrev pub with_room : LogView → LogView
@@ -99,14 +115,18 @@ pub record GaveBack (a after : ArenaView) : Type 0 where
 abbrev pub IsBack : ArenaView → ArenaView → Type 0
 IsBack a after = (after ≡ a) ⊎ GaveBack a after
 
--- or a half for the border, which is full
-pub record Spares (key : List ℕ) (way : Way) (a : ArenaView) (half cut : ℕ)
-    (entries : List Entry) (after : ArenaView) : Type 0 where
+-- or a half for the border, which is full, and is marked as one that is being split
+pub record Spares (key : List ℕ) (way : Way) (a : ArenaView) (half cut place : ℕ) (outline : Outline)
+    (after : ArenaView) : Type 0 where
   pub b : BorderView
   pub named : border_at a.nodes way.node.0 ≡ Some b
-  pub cut_at : IsCutAt key way b cut
-  pub occupied : Occupies a after half (Border (empty_half b cut_at.middle))
-  pub copied : entries ≡ drop cut b.live
+  pub cut_at : IsCutAt key way b cut place
+  pub read : IsRead b outline
+  pub between : ArenaView
+  pub occupied : Occupies a between half (Border (empty_half b cut_at.middle))
+  pub marked : after ≡ with_border_changed between way.node.0 with_splitting
+  pub sound : IsSomeAnd (border_at after.nodes way.node.0) IsBorder
+  pub keeps : KeepsTree between after
 
 -- or the head and the root of a layer, for a key that has another's slice
 pub record LayerSpares (key : List ℕ) (way : Way) (a : ArenaView) (layer : Layer) (entries : List Entry)
@@ -138,8 +158,8 @@ SomeSets RemoveEdit P = ⊥
 -- A put is ready, or it fails. It has split its border already, into these halves, or not.
 abbrev pub Prepares : ℕ → List ℕ → List (ℕ × List ℕ) → Way → ArenaView → LogView → Option Halves → Stage → ArenaView
     → LogView → Type 0
-Prepares C key sets way a log split (Spared half cut entries) after left = (split ≡ None)
-    × Spares key way a half.0 cut entries after × (left ≡ log)
+Prepares C key sets way a log split (Copies half cut place outline entries) after left = (split ≡ None)
+    × Spares key way a half.0 cut place outline after × (entries ≡ []) × (left ≡ log)
 Prepares C key sets way a log split (LayerSpared layer entries) after left = (split ≡ None)
     × LayerSpares key way a layer entries after × (left ≡ log)
 Prepares C key sets way a log split (Reserved new slot_key row) after left = (new.split ≡ split)

@@ -1,5 +1,5 @@
 -- Runs of a put or remove: its steps one after the other, after each of which the log is trimmed.
-use Rattle.std.specs.Prelude.{ℕ, ◌≡◌, ◌≤◌, ◌+◌, ◌-◌, ◌⊎◌, min, List, [], ◌∷◌, length, sum_by, All, Option, Some, None, Result, Ok, Err}
+use Rattle.std.specs.Prelude.{ℕ, ◌≡◌, ◌≤◌, ◌+◌, ◌-◌, ◌⊎◌, min, List, [], ◌∷◌, length, sum_by, IsSomeAnd, All, Option, Some, None, Result, Ok, Err}
 use Rattle.mt_types.specs.declared.refusal.Refusal.{Refusal}
 use Rattle.mt_border.specs.declared.found.Found.{Found}
 use Rattle.mt_border.specs.declared.found.Found.TheVariants.{Absent as AbsentFound}
@@ -19,6 +19,11 @@ use Rattle.mt_write.specs.declared.running.WriteRun.{WriteRun}
 use Rattle.mt_write.specs.declared.finishing.Committed.{Committed as AtCommit}
 use Rattle.mt_write.specs.declared.finishing.AtBorder.{AtBorder}
 use Rattle.mt_write.specs.declared.finishing.AtBorder.TheVariants.{Absent, Commits, Ready}
+use Rattle.mt_border.specs.Border.{BorderView}
+use Rattle.mt_arena.specs.Node.{border_at}
+use Rattle.mt_write.specs.declared.writing.Edit.{Edit}
+use Rattle.mt_write.specs.declared.writing.Edit.TheVariants.{Put as PutEdit, Remove as RemoveEdit}
+use Rattle.mt_write.specs.Ready.{NeedsNoSplit}
 use Rattle.mt_write.specs.declared.writing.Write.{Write}
 use Rattle.mt_write.specs.declared.writing.Stage.{Stage}
 use Rattle.mt_write.specs.declared.writing.Stage.TheVariants.{Searched, Stored, Failed}
@@ -104,6 +109,11 @@ pub record PassesAt (C : ℕ) (a after : ArenaView) (log : LogView) (write : Wri
   pub runs : HasRun C (state a log write) run (state after log then)
   pub may : MayRun C (state after log then)
 
+-- what was found doesn't make a put split the border
+abbrev pub IsStraight : Edit → BorderView → Found → Type 0
+IsStraight (PutEdit sets only) b found = NeedsNoSplit b found
+IsStraight RemoveEdit b found = Unit {0}
+
 -- what a write asks at the border that it has locked and read, if it has found this
 pub record MayAct (C : ℕ) (a : ArenaView) (log : LogView) (write : Write) (found : Found) (there : There) : Type 0 where
   pub may : MayRun C (state a log (record write { stage = Searched there }))
@@ -111,6 +121,7 @@ pub record MayAct (C : ℕ) (a : ArenaView) (log : LogView) (write : Write) (fou
   pub arena : IsArena a
   pub sound : IsLog log
   pub finds : Finds a write.key write.way found
+  pub straight : IsSomeAnd (border_at a.nodes write.way.node.0) (λ b. IsStraight write.edit b found)
 
 -- AT ITS BORDER, which it has locked and read, a write makes ready and commits, in this many steps
 pub record CommitsAt (C : ℕ) (a after : ArenaView) (log left : LogView) (write : Write) (there : There) (committed : AtCommit) : Type 0 where

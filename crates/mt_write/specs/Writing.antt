@@ -1,17 +1,16 @@
 -- What is true of a put or remove, at each of its stages.
-use Rattle.std.specs.Prelude.{ℕ, ◌≡◌, ◌≢◌, ◌<◌, ◌≤◌, ◌+◌, ◌⊎◌, List, [], ◌∷◌, length, drop, slice_get, Option, Some, None, Bool, true, false}
+use Rattle.std.specs.Prelude.{ℕ, ◌≡◌, ◌≢◌, ◌<◌, ◌≤◌, ◌+◌, List, [], ◌∷◌, length, drop, slice_get, Option, Some, None, Bool, true, false}
 use Rattle.mt_types.specs.declared.limits.TheConstants.{MAX_KEY_BYTES}
 use Rattle.mt_types.specs.declared.row.Row.{Row}
 use Rattle.mt_types.specs.Rows.{version_of}
 use Rattle.mt_types.specs.declared.refusal.Refusal.{Refusal}
 use Rattle.mt_types.specs.declared.refusal.Refusal.TheVariants.{OtherVersion}
-use Rattle.mt_slice.specs.Place.{AreBytes, place_of, slice_number}
+use Rattle.mt_slice.specs.Place.{AreBytes, place_of}
 use Rattle.mt_types.specs.declared.numbers.NodeNo.{NodeNo}
 use Rattle.mt_word.specs.declared.permutation_word.TheConstants.{SLOTS}
-use Rattle.mt_word.specs.declared.version_word.TheConstants.{MAX_SPLITS}
 use Rattle.mt_commit.specs.Log.{LogView}
 use Rattle.mt_border.specs.Border.{BorderView, first_held, row_at, with_entries, new_border}
-use Rattle.mt_border.specs.Cut.{IsBestCut}
+use Rattle.mt_border.specs.Table.{number_at}
 use Rattle.mt_border.specs.declared.found.Found.{Found}
 use Rattle.mt_chart.specs.Tree.{Among}
 use Rattle.mt_border.specs.Entry.{IsEntry, entry_of_row, key_of_rest}
@@ -21,7 +20,7 @@ use Rattle.mt_border.specs.declared.entry.Entry.{Entry}
 use Rattle.mt_border.specs.declared.entry.Content.TheVariants.{Long, Link}
 use Rattle.mt_border.specs.declared.slot_table.Slot.{Slot}
 use Rattle.mt_border.specs.declared.unwritten.SlotKey.{SlotKey}
-use Rattle.mt_border.specs.declared.unwritten.Unwritten.TheVariants.{Nothing, Value}
+use Rattle.mt_border.specs.declared.unwritten.Unwritten.TheVariants.{Nothing, Value, LinkAt}
 use Rattle.mt_border.specs.declared.found.Found.TheVariants.{Absent, Row as RowFound}
 use Rattle.mt_arena.specs.Node.{head_at, border_at}
 use Rattle.mt_interior.specs.Head.{new_head}
@@ -31,24 +30,24 @@ use Rattle.mt_chart.specs.TreeLaws.{IsWhere}
 use Rattle.mt_tree.specs.Seen.{arena_seen, border_seen}
 use Rattle.mt_tree.specs.Keeping.{IsOnIn}
 use Rattle.mt_tree.specs.Descent.{IsLast, HasOtherSuffix, found_for, row_found}
-use Rattle.mt_tree.specs.BorderSteps.{MayShowAt}
+use Rattle.mt_tree.specs.BorderSteps.{MayShowAt, AwaitsSomeMark}
 use Rattle.mt_steps.specs.Entering.{EnteringIsTrue, ThereIsTrue}
 use Rattle.mt_steps.specs.declared.entering.Entered.{Entered}
 use Rattle.mt_steps.specs.declared.entering.Entered.TheVariants.{Enters as EntersNext, Right as EntersRight, Below as EntersBelow, Here as EntersHere}
 use Rattle.mt_steps.specs.declared.entering.There.{There}
-use Rattle.mt_steps.specs.declared.entering.There.TheVariants.{Absent as AbsentThere, Row as RowThere, Other as OtherThere}
+use Rattle.mt_steps.specs.declared.entering.There.TheVariants.{Absent as AbsentThere, Full as FullThere, Row as RowThere, Other as OtherThere}
 use Rattle.mt_steps.specs.declared.way.Way.{Way}
 use Rattle.mt_write.specs.declared.writing.Write.{Write}
 use Rattle.mt_write.specs.Causes.{version_fault}
 use Rattle.mt_write.specs.declared.writing.Edit.{Edit}
 use Rattle.mt_write.specs.declared.writing.Edit.TheVariants.{Put as PutEdit, Remove as RemoveEdit}
 use Rattle.mt_write.specs.declared.writing.Stage.{Stage}
-use Rattle.mt_write.specs.declared.writing.Stage.TheVariants.{Seeks, Enters, Rightward, Searched, Spared, HalfFilled, Halved, Posts, LayerSpared, LayerFilled, LayerReady, Layered, Reserved, KeyWritten, Filled, Made, Taken, Stored, Failed}
+use Rattle.mt_write.specs.declared.writing.Stage.TheVariants.{Seeks, Enters, Rightward, Searched, Copies, GivesBack, Spared, HalfFilled, HalfLinked, Halved, Posts, LayerSpared, LayerFilled, LayerReady, LayerMarked, LayerLinked, Layered, Reserved, KeyWritten, Filled, Made, Taken, Stored, Failed}
+use Rattle.mt_write.specs.Splitting.{AreCopied, IsCutAt, IsHalf, IsHalfLinked, IsRead, IsSplit, empty_half, upper_half}
 use Rattle.mt_write.specs.declared.writing.Halves.{Halves}
 use Rattle.mt_write.specs.declared.writing.Ending.{Ending}
 use Rattle.mt_write.specs.declared.writing.Ending.TheVariants.{Stored as EndStored, Failed as EndFailed}
 use Rattle.mt_post.specs.Posting.{PostingIsTrue}
-use Rattle.mt_chart.specs.Chart.{spot, at_level, on}
 use Rattle.mt_write.specs.declared.writing.Insertion.{Insertion}
 use Rattle.mt_write.specs.declared.writing.Layer.{Layer}
 use Rattle.mt_steps.specs.World.{World, IsLockedBorder, NotAmong}
@@ -80,14 +79,6 @@ pub record IsLockedAt (a : ArenaView) (key : List ℕ) (way : Way) (b : BorderVi
   pub written : b.unwritten ≡ Nothing
   pub free : NotAmong way.node.0 w.closing
 
--- the halves of a border that is split: the right one is on in the layer of the prefix from its low on, and nothing may
--- name it yet
-pub record IsSplit (prefix : List ℕ) (a : ArenaView) (w : World) (split : Halves) : Type 0 where
-  pub apart : split.left.0 ≢ split.half.0
-  pub low : ℕ
-  pub place : w.chart split.half.0 ≡ Some (spot (at_level 0) prefix low (on false))
-  pub low_is : (b : BorderView) → border_at a.nodes split.half.0 ≡ Some b → b.low ≡ low
-
 abbrev pub AreHalves : List ℕ → ArenaView → World → Option Halves → Type 0
 AreHalves prefix a w None = Unit {0}
 AreHalves prefix a w (Some split) = IsSplit prefix a w split
@@ -115,29 +106,6 @@ pub record IsSpare (a : ArenaView) (w : World) (number : ℕ) (b : BorderView) :
 abbrev pub IsAbsent : Found → Type 0
 IsAbsent (Absent place) = Unit {0}
 IsAbsent _ = ⊥
-
--- the border is full, has no entry of the key, and may be cut in two at a place
-pub record IsCutAt (key : List ℕ) (way : Way) (b : BorderView) (cut : ℕ) : Type 0 where
-  pub sound : IsBorder b
-  pub full : length b.live ≡ SLOTS
-  pub place : IsBestCut b.live cut
-  pub middle : Entry
-  pub is_middle : slice_get b.live cut ≡ Some middle
-  pub unspent : b.version.vsplit < MAX_SPLITS
-  pub absent : IsAbsent (found_for (rest_of key way) b.live)
-
--- the half of a border, from a place on, before it is filled
-abbrev pub empty_half : BorderView → Entry → BorderView
-empty_half b middle = new_border b.layer middle.slice true
-
--- and once it is
-abbrev pub upper_half : BorderView → ℕ → Entry → BorderView
-upper_half b cut middle = with_entries (empty_half b middle) (drop cut b.live) b.right
-
--- the half of a border to which the key belongs has room, and no entry of the key
-pub record IsHalf (key : List ℕ) (way : Way) (b : BorderView) : Type 0 where
-  pub room : length b.live < SLOTS
-  pub absent : IsAbsent (found_for (rest_of key way) b.live)
 
 -- it is a put, and if it asks for a version, this row is of that one
 pub record PutsOver (edit : Edit) (row : Option Row) : Type 0 where
@@ -168,11 +136,10 @@ abbrev pub HoldsLong : BorderView → ℕ → Type 0
 HoldsLong b place = (slice : ℕ) × (suffix : List ℕ) × (row : Row)
     × (slice_get b.live place ≡ Some (record { slice = slice; content = Long suffix row }))
 
--- these entries are that key's alone, one layer deeper
-abbrev pub MovesLong : BorderView → ℕ → List Entry → Type 0
-MovesLong b place entries = (slice : ℕ) (suffix : List ℕ) (row : Row)
-    → slice_get b.live place ≡ Some (record { slice = slice; content = Long suffix row })
-    → (entries ≡ entry_of_row suffix row ∷ []) × IsEntry (entry_of_row suffix row)
+-- and has this after its slice, and this row
+abbrev pub HoldsSuffixRow : BorderView → ℕ → List ℕ → Row → Type 0
+HoldsSuffixRow b place suffix row = (slice : ℕ)
+    × (slice_get b.live place ≡ Some (record { slice = slice; content = Long suffix row }))
 
 -- the head and the root of a layer, which the chart doesn't know
 pub record HasLayer (a : ArenaView) (w : World) (layer : Layer) (locked : Bool) (root : BorderView) : Type 0 where
@@ -203,6 +170,18 @@ pub record HasLink (prefix : List ℕ) (a : ArenaView) (w : World) (number : ℕ
   pub slice : ℕ
   pub linked : Among (record { slice = slice; content = Link head }) border.b.live
 
+-- the same, while that key's mark is still to be written
+pub record HasMarkedLink (prefix : List ℕ) (a : ArenaView) (w : World) (number : ℕ) (head : NodeNo) : Type 0 where
+  pub b : BorderView
+  pub named : border_at a.nodes number ≡ Some b
+  pub stands : IsOnIn w.chart number prefix
+  pub locked : b.version.locked ≡ true
+  pub alive : b.version.deleted ≡ false
+  pub free : NotAmong number w.closing
+  pub unmarked : AwaitsSomeMark b
+  pub slice : ℕ
+  pub linked : Among (record { slice = slice; content = Link head }) b.live
+
 -- the way of the key into the layer of a head
 abbrev pub way_below : Way → NodeNo → Way
 way_below way head = record { node = head; layer = way.layer + 1 }
@@ -221,6 +200,7 @@ entered_stage (EntersHere there) = Searched there
 -- the row that it has found
 abbrev pub there_row : There → Option Row
 there_row (AbsentThere place) = None
+there_row (FullThere place outline) = None
 there_row (RowThere place row) = Some row
 there_row (OtherThere place suffix row) = None
 
@@ -319,19 +299,30 @@ StageIsTrue C key edit way (Rightward next) begun a w = IsLockedBorder a w way.n
     × IsOnWay begun key (way_right way next) w
 StageIsTrue C key edit way (Searched there) begun a w = (b : BorderView) × IsLockedAt a key way b w
     × ThereIsTrue (rest_of key way) there b
-StageIsTrue C key edit way (Spared half cut entries) begun a w = (b : BorderView) × IsLockedAt a key way b w
-    × (c : IsCutAt key way b cut) × IsSpare a w half.0 (empty_half b c.middle) × (entries ≡ drop cut b.live)
+StageIsTrue C key edit way (Copies half cut place outline entries) begun a w = (b : BorderView)
+    × IsLockedAt a key way b w × (b.version.splitting ≡ true) × (c : IsCutAt key way b cut place)
+    × IsSpare a w half.0 (empty_half b c.middle) × IsRead b outline × AreCopied b cut entries × PutsNew edit
+StageIsTrue C key edit way (GivesBack half) begun a w = IsLockedBorder a w way.node.0
+    × (spare : BorderView) × IsSpare a w half.0 spare
+StageIsTrue C key edit way (Spared half cut place entries) begun a w = (b : BorderView) × IsLockedAt a key way b w
+    × (b.version.splitting ≡ true) × (c : IsCutAt key way b cut place) × IsSpare a w half.0 (empty_half b c.middle)
+    × (entries ≡ drop cut b.live) × PutsNew edit
+StageIsTrue C key edit way (HalfFilled half cut place) begun a w = (b : BorderView) × IsLockedAt a key way b w
+    × (b.version.splitting ≡ true) × (c : IsCutAt key way b cut place) × IsSpare a w half.0 (upper_half b cut c.middle)
     × PutsNew edit
-StageIsTrue C key edit way (HalfFilled half cut) begun a w = (b : BorderView) × IsLockedAt a key way b w
-    × (c : IsCutAt key way b cut) × IsSpare a w half.0 (upper_half b cut c.middle) × PutsNew edit
-StageIsTrue C key edit way (Halved split) begun a w = (b : BorderView) × IsLockedAt a key way b w
-    × IsHalf key way b × HasLocked (prefix_of key way) a w way.node.0 (Some split) × PutsNew edit
+StageIsTrue C key edit way (HalfLinked half cut place) begun a w = IsHalfLinked a w key way half cut place × PutsNew edit
+StageIsTrue C key edit way (Halved split place) begun a w = (b : BorderView) × IsLockedAt a key way b w
+    × IsHalf key way place b × HasLocked (prefix_of key way) a w way.node.0 (Some split) × PutsNew edit
 StageIsTrue C key edit way (LayerSpared layer entries) begun a w = (b : BorderView) × IsLockedAt a key way b w
     × IsToFill a w key way b layer entries
 StageIsTrue C key edit way (LayerFilled layer) begun a w = (b : BorderView) × IsLockedAt a key way b w
     × IsToLink a w key way b layer true
 StageIsTrue C key edit way (LayerReady layer) begun a w = (b : BorderView) × IsLockedAt a key way b w
     × IsToLink a w key way b layer false
+StageIsTrue C key edit way (LayerMarked layer) begun a w = (b : BorderView) × IsOwnedAt a key way b w
+    × IsToLink a w key way b layer false × (b.unwritten ≡ LinkAt (number_at layer.place b.order))
+StageIsTrue C key edit way (LayerLinked head) begun a w = HasMarkedLink (prefix_of key way) a w way.node.0 head
+    × IsOnWay begun key (way_below way head) w × IsHeadOf w begun head.0 (prefix_of key (way_below way head))
 StageIsTrue C key edit way (Layered head) begun a w = HasLink (prefix_of key way) a w way.node.0 head
     × IsOnWay begun key (way_below way head) w × IsHeadOf w begun head.0 (prefix_of key (way_below way head))
 StageIsTrue C key edit way (Reserved new slot_key row) begun a w = (b : BorderView) × IsLockedAt a key way b w
@@ -372,8 +363,3 @@ StageLaw C a after log left write stage p then =
     StepLaw C a after log left (write_request write) (stage_held write.way.node.0 stage) p (write_held then)
     (λ begun moves past x w. HeadedStage C write.key write.edit write.way write.head stage begun x w)
     (WriteIsTrue C then)
-
--- the way leads on to the half of a border where the key belongs, by the low of the upper half
-abbrev pub IsHalfOf : List ℕ → Way → NodeNo → ℕ → Way → Type 0
-IsHalfOf key way half low goal = ((slice_number (rest_of key way) < low) × (goal ≡ way))
-    ⊎ ((low ≤ slice_number (rest_of key way)) × (goal ≡ record { node = half; layer = way.layer }))

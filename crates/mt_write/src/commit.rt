@@ -60,6 +60,7 @@ pub fn overwrite(
     logged: Columns,
 ) -> u64
     requires row { IsSomeAnd (border_at tree.old.nodes number.0) (λ b. HasRowAt b place) }
+    requires written { IsSomeAnd (border_at tree.old.nodes number.0) (λ b. b.unwritten ≡ Nothing) }
     requires room { 0 < log.old.reserved }
     ensures number { result ≡ newest log.old + 1 }
     ensures written { tree.new ≡ with_border_changed tree.old number.0

@@ -14,7 +14,7 @@ ghost use Rattle.mt_border.specs.declared.unwritten.Unwritten.TheVariants.{Nothi
 ghost use Rattle.mt_steps.specs.declared.entering.There.{There};
 ghost use Rattle.mt_write.specs.Writing.{MayStage};
 ghost use Rattle.mt_write.specs.Follows.{WriteStep, FindsNone, MayLock};
-ghost use Rattle.mt_write.specs.Runs.{values_read, Advances, ComesTo, HasRun, IsTrimmed, MayAct, MayRun, CommitsStage, state};
+ghost use Rattle.mt_write.specs.Runs.{values_read, Advances, ComesTo, HasRun, IsStraight, IsTrimmed, MayAct, MayRun, CommitsStage, state};
 
 use crate::commit::{hide, overwrite, show};
 use crate::ending::written;
@@ -122,6 +122,8 @@ impl Write {
     ) -> Option<Stage>
         requires may { (there : There) × MayStage columns tree.old log.old self.now (Stage.Searched there) }
         requires finds { Finds tree.old self.now.key self.now.way found }
+        requires straight { IsSomeAnd (border_at tree.old.nodes self.now.way.node.0)
+            (λ b. IsStraight self.now.edit b found) }
         ensures some { (there : There) → IfSome result (λ stage. WriteStep columns tree.old tree.new log.old log.new self.now
             (Stage.Searched there) Progress.Moved (record self.now { stage = stage })) }
         ensures none { (there : There) → result ≡ None
@@ -198,8 +200,8 @@ impl Write {
         }
     }
 
-    // At the border of its key, which is not locked: locks it, reads it, makes ready with what was found there, commits, and
-    // unlocks it. If it is to split the border or to make a layer, or has failed, it stops before that.
+    // At the border of its key, which is not locked and which it need not split: locks it, reads it, makes ready with what
+    // was found there, commits, and unlocks it. If it is to make a layer, or has failed, it stops before that.
     pub(crate) fn finish(
         &mut self,
         alloc: Global,
@@ -214,6 +216,8 @@ impl Write {
         requires here { IsSomeAnd (border_at tree.old.nodes self.old.way.node.0)
             (λ b. visit_border (rest_of self.old.key self.old.way) b ≡ Visit.Here) }
         requires finds { Finds tree.old self.old.key self.old.way found }
+        requires straight { IsSomeAnd (border_at tree.old.nodes self.old.way.node.0)
+            (λ b. IsStraight self.old.edit b found) }
         requires lock { MayLock tree.old self.old.way.node.0 }
         ensures runs { HasRun columns (state tree.old log.old self.old) result (state tree.new log.new self.new) }
         ensures some { 0 < result.steps }

@@ -3,9 +3,12 @@
 
 mod columns;
 mod commit;
+mod copying;
+mod cut;
 mod ending;
 mod finishing;
 mod inserting;
+pub mod laws;
 mod layering;
 mod passing;
 mod reading;

@@ -4,14 +4,18 @@
 ghost use Rattle.std.specs.Prelude.{◌≡◌, None};
 ghost use Rattle.std.specs.Option.{IfSome};
 ghost use Rattle.mt_types.specs.Rows.{version_of};
+ghost use Rattle.mt_commit.specs.Log.{LogView};
 ghost use Rattle.mt_write.specs.Writing.{MayStage, entered_stage, there_row};
+ghost use Rattle.mt_write.specs.Ready.{IsNotFull};
 ghost use Rattle.mt_write.specs.Follows.{WriteStep, TreeStep, MayBeAt, FindsNone};
 
+use crate::layering::prepare_layer;
 use crate::ready::{NewRow, prepare, prepare_over, refused_version, take_row};
+use crate::splitting::prepare_split;
 use crate::writing::{Edit, Stage, Write};
 use mt_border::Found;
 use mt_commit::log::Log;
-use mt_steps::entering::{Entered, Entering, There, read};
+use mt_steps::entering::{Entered, Entering, Outline, There, read};
 use mt_steps::progress::Progress;
 use mt_steps::way::rest_of;
 use mt_tree::Tree;
@@ -38,7 +42,7 @@ fn version_there(there: &There) -> u64
 {
     match there {
         There::Row(_, row) => row.version,
-        There::Absent(_) | There::Other(_, _, _) => 0,
+        There::Absent(_) | There::Full(_, _) | There::Other(_, _, _) => 0,
     }
 }
 
@@ -75,8 +79,9 @@ impl Write {
         Progress::Moved
     }
 
-    // Makes ready with what it has read of its border, and returns the next stage, or none if there is no row to remove.
-    fn ready(
+    // Makes ready with the row, or none, that it has read of its border, which it need not split. Returns the next stage, or
+    // none if there is no row to remove.
+    fn ready_by(
         &self,
         alloc: Global,
         columns: u8,
@@ -84,7 +89,8 @@ impl Write {
         log: &mut Log,
         there: &There,
     ) -> Option<Stage>
-        requires { MayStage columns tree.old log.old self.now (Stage.Searched there.now) }
+        requires may { MayStage columns tree.old log.old self.now (Stage.Searched there.now) }
+        requires room { IsNotFull there.now }
         ensures some { IfSome result (λ stage. WriteStep columns tree.old tree.new log.old log.new self.now
             (Stage.Searched there.now) Progress.Moved (record self.now { stage = stage })) }
         ensures none { result ≡ None → FindsNone columns tree.old tree.new log.old log.new self.now there.now }
@@ -96,7 +102,7 @@ impl Write {
                 There::Row(place, old) => Some(take_row(
                     alloc, tree, log, self.way, *place, &self.key, old,
                 )),
-                There::Absent(_) | There::Other(_, _, _) => None,
+                There::Absent(_) | There::Full(_, _) | There::Other(_, _, _) => None,
             };
         };
         if let Some(refusal) = refused_version(version_there(there), *only) {
@@ -111,10 +117,62 @@ impl Write {
         Some(match there {
             There::Row(place, old) => prepare_over(alloc, tree, log, &row, *place, old),
             There::Absent(place) => prepare(alloc, tree, log, &row, Found::Absent(*place)),
-            There::Other(place, _, _) => {
-                prepare(alloc, tree, log, &row, Found::OtherSuffix(*place))
+            There::Other(place, suffix, old) => {
+                prepare_layer(alloc, tree, &row, *place, suffix, old)
             }
+            There::Full(_, _) => unreachable!(),
         })
+    }
+
+    // The same, and takes what it has read.
+    fn ready(
+        &self,
+        alloc: Global,
+        columns: u8,
+        tree: &mut Tree,
+        log: &mut Log,
+        there: There,
+    ) -> Option<Stage>
+        requires may { MayStage columns tree.old log.old self.now (Stage.Searched there) }
+        requires room { IsNotFull there }
+        ensures some { IfSome result (λ stage. WriteStep columns tree.old tree.new log.old log.new self.now
+            (Stage.Searched there) Progress.Moved (record self.now { stage = stage })) }
+        ensures none { result ≡ None → FindsNone columns tree.old tree.new log.old log.new self.now there }
+    {
+        self.ready_by(alloc, columns, tree, log, &there)
+    }
+
+    // The same, if its border is full and has no place for its key: a put splits it.
+    fn ready_full(
+        &self,
+        alloc: Global,
+        columns: u8,
+        tree: &mut Tree,
+        place: usize,
+        outline: Outline,
+    ) -> Option<Stage>
+        requires { (log : LogView) × MayStage columns tree.old log self.now (Stage.Searched (There.Full place outline)) }
+        ensures some { (log : LogView) → MayStage columns tree.old log self.now (Stage.Searched (There.Full place outline))
+            → IfSome result (λ stage. WriteStep columns tree.old tree.new log log self.now
+            (Stage.Searched (There.Full place outline)) Progress.Moved (record self.now { stage = stage })) }
+        ensures none { (log : LogView) → MayStage columns tree.old log self.now (Stage.Searched (There.Full place outline))
+            → result ≡ None → FindsNone columns tree.old tree.new log log self.now (There.Full place outline) }
+    {
+        let _bytes = rest_of(&self.key, self.way.layer);
+        let _border = tree.border(self.way.node);
+        let Edit::Put { sets, only } = &self.edit else {
+            return None;
+        };
+        if let Some(refusal) = refused_version(0, *only) {
+            return Some(Stage::Failed(refusal, None));
+        }
+        let row = NewRow {
+            columns,
+            key: &self.key,
+            sets,
+            way: self.way,
+        };
+        Some(prepare_split(alloc, tree, &row, place, outline))
     }
 
     // Makes ready with what it has read of its border, or ends if there is no row to remove.
@@ -130,7 +188,11 @@ impl Write {
         requires { MayStage columns tree.old log.old self.old (Stage.Searched there) }
         ensures { WriteStep columns tree.old tree.new log.old log.new self.old (Stage.Searched there) result self.new }
     {
-        let Some(stage) = self.ready(alloc, columns, tree, log, &there) else {
+        let stage = match there {
+            There::Full(place, outline) => self.ready_full(alloc, columns, tree, place, outline),
+            there => self.ready(alloc, columns, tree, log, there),
+        };
+        let Some(stage) = stage else {
             tree.unlock_border(self.way.node);
             return Progress::Answered(Answer::Absent);
         };

@@ -14,12 +14,11 @@ ghost use Rattle.mt_steps.specs.Step.{MayFail, columns_after};
 ghost use Rattle.mt_types.specs.Rows.{version_of};
 ghost use Rattle.mt_types.specs.declared.row.Row.{Row as RowView};
 ghost use Rattle.mt_write.specs.Causes.{version_fault, put_fault, remove_fault, ReadyFor, FailsBy, RemoveFailsBy};
-ghost use Rattle.mt_write.specs.Ready.{with_room, Prepares, PreparesRemove};
+ghost use Rattle.mt_write.specs.Ready.{with_room, NeedsNoSplit, Prepares, PreparesRemove};
 
 use crate::columns::made_columns;
 use crate::inserting::reserve;
-use crate::layering::spare_layer;
-use crate::splitting::spare;
+use crate::layering::spare_layer_found;
 use crate::writing::Stage;
 use mt_border::{Border, Found};
 use mt_commit::log::Log;
@@ -193,8 +192,8 @@ pub fn prepare_over(
     }
 }
 
-// Makes a put ready at the border that its call has locked: its key and row are made for an unused slot, or its columns,
-// and there is room in the log; or it fails.
+// Makes a put ready at the border that its call has locked, and that it need not split: its key and row are made for an
+// unused slot, or its columns, and there is room in the log; or it fails.
 pub fn prepare(
     alloc: Global,
     tree: &mut Tree,
@@ -210,6 +209,7 @@ pub fn prepare(
         (λ b. IsFoundAt (rest_of row.now.key.now row.now.way) b.live found) }
     requires locked { IsSomeAnd (border_at tree.old.nodes row.now.way.node.0) (λ b. b.version.locked ≡ true) }
     requires written { IsSomeAnd (border_at tree.old.nodes row.now.way.node.0) (λ b. b.unwritten ≡ Nothing) }
+    requires room { IsSomeAnd (border_at tree.old.nodes row.now.way.node.0) (λ b. NeedsNoSplit b found) }
     ensures ready { Prepares row.now.columns row.now.key.now row.now.sets.now row.now.way tree.old log.old None result tree.new
         log.new }
     ensures fault { IsSomeAnd (border_at tree.old.nodes row.now.way.node.0)
@@ -217,14 +217,8 @@ pub fn prepare(
 {
     let made = match found {
         Found::Row(place) => make(alloc, tree, log, row, place),
-        Found::Absent(place) => {
-            if tree.border(row.way.node).is_full() {
-                spare(alloc, tree, row)
-            } else {
-                reserve(alloc, tree, log, row, place, None)
-            }
-        }
-        Found::OtherSuffix(place) => spare_layer(alloc, tree, row, place),
+        Found::Absent(place) => reserve(alloc, tree, log, row, place, None),
+        Found::OtherSuffix(place) => spare_layer_found(alloc, tree, row, place),
         Found::Link(_, _) => unreachable!(),
     };
     match made {

@@ -1,10 +1,11 @@
 //! Runs of a put or remove: its steps one after the other, while nobody else steps.
 
-ghost use Rattle.std.specs.Prelude.{◌≡◌, ◌≤◌, ◌<◌, ◌↔◌, max, IsTrue};
+ghost use Rattle.std.specs.Prelude.{◌≡◌, ◌≤◌, ◌<◌, ◌↔◌, max, IsTrue, IsFalse};
 ghost use Rattle.mt_commit.specs.Log.{trimmed};
-ghost use Rattle.mt_write.specs.Runs.{Advances, HasRun, IsTrimmed, MayRun, commits_in, state};
+ghost use Rattle.mt_write.specs.Runs.{Advances, HasRun, IsStraight, IsTrimmed, MayRun, commits_in, state};
 
-use crate::writing::Write;
+use crate::writing::{Edit, Write};
+use mt_border::{Border, Found};
 use mt_commit::log::Log;
 use mt_steps::progress::Progress;
 use mt_steps::way::rest_of;
@@ -47,6 +48,13 @@ fn trim_after(log: &mut Log, progress: &Progress) -> u64
     1
 }
 
+// Whether a write splits the border where it has found this.
+fn splits(edit: &Edit, border: &Border, found: Found) -> bool
+    ensures { IsFalse result → IsStraight edit.now border.now found }
+{
+    matches!(edit, Edit::Put { .. }) && matches!(found, Found::Absent(_)) && border.is_full()
+}
+
 // Returns what a step came to that was no commit.
 fn one_step(last: Progress) -> WriteRun
     ensures { result ≡ record { steps = 1; commits = 0; last = last } }
@@ -59,7 +67,30 @@ fn one_step(last: Progress) -> WriteRun
 }
 
 impl Write {
-    // Makes one step. At a border, if twenty-four are left, it makes all from the lock to the unlock.
+    // Makes one step, as its stage requires.
+    fn step_once(&mut self, alloc: Global, columns: u8, tree: &mut Tree, log: &mut Log) -> WriteRun
+        requires may { MayRun columns (state tree.old log.old self.old) }
+        requires trimmed { IsTrimmed log.old }
+        ensures runs { HasRun columns (state tree.old log.old self.old) result (state tree.new log.new self.new) }
+        ensures one { result.steps ≡ 1 }
+        ensures next { Advances result.last → MayRun columns (state tree.new log.new self.new) }
+        ensures trimmed { IsTrimmed log.new }
+    {
+        let _before = tree.free_numbers();
+        let _trimmed = log.number();
+        let last = self.go(alloc, columns, tree, log);
+        let _after = tree.free_numbers();
+        let _sound = log.number();
+        let commits = trim_after(log, &last);
+        WriteRun {
+            steps: 1,
+            commits,
+            last,
+        }
+    }
+
+    // Makes one step. At a border that it need not split, if twenty-four are left, it makes all from the lock to the
+    // unlock.
     fn advance(
         &mut self,
         alloc: Global,
@@ -76,24 +107,19 @@ impl Write {
         ensures next { Advances result.last → MayRun columns (state tree.new log.new self.new) }
         ensures trimmed { IsTrimmed log.new }
     {
+        if most < STEPS_AT_BORDER || !self.is_seeking() {
+            return self.step_once(alloc, columns, tree, log);
+        }
         let _before = tree.free_numbers();
         let _trimmed = log.number();
-        if most < STEPS_AT_BORDER || !self.is_seeking() {
-            let last = self.go(alloc, columns, tree, log);
-            let _after = tree.free_numbers();
-            let _sound = log.number();
-            let commits = trim_after(log, &last);
-            return WriteRun {
-                steps: 1,
-                commits,
-                last,
-            };
-        }
         if let Some(last) = self.visit(tree) {
             return one_step(last);
         }
         let border = tree.border(self.way.node);
         match arrive(border, rest_of(&self.key, self.way.layer)) {
+            Ok(found) if splits(&self.edit, border, found) => {
+                self.step_once(alloc, columns, tree, log)
+            }
             Ok(found) => self.finish(alloc, columns, tree, log, found),
             Err(visit) => self.pass(tree, visit),
         }
@@ -102,7 +128,8 @@ impl Write {
     /// Makes steps, one after the other, until one of them ends the call or waits, or `most` are made. At least one is
     /// made, also if `most` is 0. After each the log is trimmed.
     ///
-    /// Costs what the steps cost. A border is searched once, if twenty-four steps are left when it is reached.
+    /// Costs what the steps cost. A border is searched once, if twenty-four steps are left when it is reached; one that a put
+    /// splits is read one field a step.
     pub fn run(
         &mut self,
         alloc: Global,

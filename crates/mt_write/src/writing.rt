@@ -15,7 +15,7 @@ use mt_arena::Node;
 use mt_border::{Entry, SlotKey};
 use mt_commit::log::Log;
 use mt_post::Posting;
-use mt_steps::entering::{Entering, There};
+use mt_steps::entering::{Entering, Outline, There};
 use mt_steps::progress::Progress;
 use mt_steps::way::{START, Way, Went};
 use mt_tree::Tree;
@@ -81,19 +81,38 @@ pub enum Stage {
     Rightward(NodeNo),
     /// It has read its key's border, and has found this there.
     Searched(There),
-    /// The border is full. A border is spared for its upper half, whose entries are copied.
+    /// The border is full. A border is spared for its upper half, whose entries are copied from the cut on, one value a
+    /// step. The new key's place is among all entries.
+    Copies {
+        half: NodeNo,
+        cut: usize,
+        place: usize,
+        outline: Outline,
+        entries: Items<Entry>,
+    },
+    /// A value of the upper half could not be copied, out of memory. The spared border is to be given back.
+    GivesBack(NodeNo),
+    /// The entries of the upper half are copied.
     Spared {
         half: NodeNo,
         cut: usize,
+        place: usize,
         entries: Items<Entry>,
     },
     /// The half has the entries from the cut on.
     HalfFilled {
         half: NodeNo,
         cut: usize,
+        place: usize,
     },
-    /// The border is split, and its key belongs to the half at which it is.
-    Halved(Halves),
+    /// The border names the half to its right. Its order, as others read it, is to be cut.
+    HalfLinked {
+        half: NodeNo,
+        cut: usize,
+        place: usize,
+    },
+    /// The border is split, and its key belongs to the half at which it is, at this place.
+    Halved(Halves, usize),
     /// The right half of the border that it has split is posted in the interiors above.
     Posts(Posting, Ending),
     /// Another key has the slice of its key. A head and a border are spared for a layer, and the other key's entry
@@ -104,8 +123,12 @@ pub enum Stage {
     },
     /// The layer's root has the other key's entry.
     LayerFilled(Layer),
-    /// The layer is to be linked.
+    /// The other key is to be marked unstable.
     LayerReady(Layer),
+    /// It is marked, and the layer is to be linked.
+    LayerMarked(Layer),
+    /// The layer of this head is linked, and the other key is to be marked as a layer's.
+    LayerLinked(NodeNo),
     /// The layer of this head is linked, and the call is to continue there.
     Layered(NodeNo),
     /// The key and the row are made that the first unused slot is to have.
@@ -260,13 +283,31 @@ impl Write {
             Stage::Enters(entering) => self.enter(alloc, tree, entering),
             Stage::Rightward(next) => self.go_right(tree, next),
             Stage::Searched(there) => self.make_ready(alloc, columns, tree, log, there),
-            Stage::Spared { half, cut, entries } => self.fill_spared(tree, half, cut, entries),
-            Stage::HalfFilled { half, cut } => self.link(tree, half, cut),
-            Stage::Halved(split) => self.reserve_in_half(alloc, columns, tree, log, split),
+            Stage::Copies {
+                half,
+                cut,
+                place,
+                outline,
+                entries,
+            } => self.copy_value(alloc, tree, half, cut, place, outline, entries),
+            Stage::GivesBack(half) => self.give_back(tree, half),
+            Stage::Spared {
+                half,
+                cut,
+                place,
+                entries,
+            } => self.fill_spared(tree, half, cut, place, entries),
+            Stage::HalfFilled { half, cut, place } => self.link(tree, half, cut, place),
+            Stage::HalfLinked { half, cut, place } => self.cut(tree, half, cut, place),
+            Stage::Halved(split, place) => {
+                self.reserve_in_half(alloc, columns, tree, log, split, place)
+            }
             Stage::Posts(posting, ending) => self.post(tree, posting, ending),
             Stage::LayerSpared { layer, entries } => self.fill_root(tree, layer, entries),
             Stage::LayerFilled(layer) => self.unlock_head(tree, layer),
-            Stage::LayerReady(layer) => self.link_layer(tree, layer),
+            Stage::LayerReady(layer) => self.mark_unstable(tree, layer),
+            Stage::LayerMarked(layer) => self.link_layer(tree, layer),
+            Stage::LayerLinked(head) => self.mark_layer(tree, head),
             Stage::Layered(head) => self.go_below(tree, head),
             Stage::Reserved(new, slot_key, row) => self.write_key(tree, new, slot_key, row),
             Stage::KeyWritten(new, row) => self.write_value(tree, new, row),

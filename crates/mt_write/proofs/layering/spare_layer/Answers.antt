@@ -1,4 +1,7 @@
-use Rattle.std.proofs.Common.{◌≡◌, Some, IsSome, ◌+◌, ◌∙◌, ap, refl, subst, inr, rules}
+use Rattle.std.proofs.Common.{ℕ, List, [], ◌∷◌, ◌≡◌, Some, IsSome, ◌+◌, ◌∙◌, ap, refl, subst, inr, rules}
+use Rattle.mt_types.specs.declared.row.Row.{Row}
+use Rattle.mt_border.specs.Entry.{IsEntry, entry_of_row}
+use Rattle.mt_write.proofs.EntryLemmas.{same_long}
 use Rattle.mt_slice.specs.Place.{slice_number}
 use Rattle.mt_border.specs.Border.{BorderView}
 use Rattle.mt_interior.specs.Head.{HeadView}
@@ -13,10 +16,13 @@ use Rattle.mt_write.proofs.layering.spare_layer.Goals as goal
 
 pub returns-in-Ok-clause-ready : goal.returns-in-Ok-clause-ready
 returns-in-Ok-clause-ready c = λ C log.
-    let b = c.border-border.result.now in
-    let named = c.border-border.ensures.value in
+    let b = c.border.result.now in
+    let named = c.border.ensures.value in
     let other = some_at _ _ b c.requires.other named in
-    let moves = c.in_ok-entries.ensures (slice_number (rest_of c.args.row.now.key.now c.args.row.now.way)) other.suffix other.row other.stands in (
+    let there = some_at _ _ b c.requires.there named in
+    let same = same_long b.live c.args.place (slice_number (rest_of c.args.row.now.key.now c.args.row.now.way)) there.0 other.suffix c.args.suffix.now other.row c.args.old.now other.stands there.1 in
+    let moves = subst (λ (s : List ℕ). (c.in_ok-entries.entries ≡ entry_of_row s other.row ∷ []) × IsEntry (entry_of_row s other.row)) same.0
+    (subst (λ (r : Row). (c.in_ok-entries.entries ≡ entry_of_row c.args.suffix.now r ∷ []) × IsEntry (entry_of_row c.args.suffix.now r)) same.1 c.in_ok-entries.ensures) in (
       refl,
       record {
         b = b;

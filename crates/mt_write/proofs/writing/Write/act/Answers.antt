@@ -1,6 +1,11 @@
 -- At its border: what was made ready, and the commit.
 use Rattle.mt_steps.specs.declared.progress.Progress.TheVariants.{Moved}
 use Rattle.mt_write.specs.declared.writing.Stage.TheVariants.{Searched}
+use Rattle.std.proofs.Common.{sym, subst}
+use Rattle.std.specs.Prelude.{IsSomeAnd}
+use Rattle.mt_arena.specs.Arena.{ArenaView}
+use Rattle.mt_arena.specs.Node.{border_at}
+use Rattle.mt_write.specs.Runs.{IsStraight}
 use Rattle.mt_write.proofs.FinishLemmas.{as_it_was, as_left, as_may, as_none, at_may, commits_since, may_go_on, readied_one}
 use Rattle.mt_write.proofs.writing.Write.act.Goals as goal
 
@@ -35,3 +40,8 @@ returns-in_default c = λ there act. as_none c.args.columns c.args.tree.now c.co
 pub returns-in-Err-commit : goal.returns-in-Err-commit
 returns-in-Err-commit c = λ there act. as_left c.args.columns c.args.tree.now c.ready_found.new.tree c.commit.new.tree c.args.log.now c.ready_found.new.log c.commit.new.log c.args.self.now (Searched there) Moved c.in-Some.stage c.in-Err-commit.stage c.in-Err-commit.ensures.not
     (as_it_was _ _ _ _ _ _ _ _ _ _ _ (rw c.in-Ok-None.field-0-is at c.in-Ok-None.ensures there act) (c.in-Some.ensures.some there))
+
+pub ready_found-requires-clause-straight : goal.ready_found-requires-clause-straight
+ready_found-requires-clause-straight c =
+    let (there, act) = c.requires in
+    subst (λ (x : ArenaView). IsSomeAnd (border_at x.nodes c.args.self.now.way.node.0) (λ b. IsStraight c.args.self.now.edit b c.args.found)) (sym (rw c.in-Ok-None.field-0-is at c.in-Ok-None.ensures there act).0) act.straight

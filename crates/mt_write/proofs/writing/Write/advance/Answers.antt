@@ -8,19 +8,9 @@ use Rattle.mt_write.specs.Follows.{MayLock}
 use Rattle.mt_write.specs.Runs.{Advances, HasRun, MayRun, state}
 use Rattle.mt_write.proofs.FinishLemmas.{may_seek_on, sought}
 use Rattle.mt_write.proofs.PassLemmas.{finds_by, here_by, leads_by, lock_some, way_within}
-use Rattle.mt_write.proofs.RunLemmas.{left_trimmed, may_again, may_step, one_step, run_step}
+use Rattle.mt_write.proofs.RunLemmas.{may_step}
 use Rattle.mt_write.proofs.StageSteps.{may_be}
 use Rattle.mt_write.proofs.writing.Write.advance.Goals as goal
-
-pub trim_after-commits-requires : goal.trim_after-commits-requires
-trim_after-commits-requires c = left_trimmed c.args.columns (state c.args.tree.now c.args.log.now c.args.self.now) c.requires.may c.go-last.new.tree c.go-last.new.log c.go-last.result c.go-last.new.self c.go-last.ensures c.requires.trimmed
-
-pub returns-then-most-lt-STEPS_AT_BORDER-clause-runs : goal.returns-then-most-lt-STEPS_AT_BORDER-clause-runs
-returns-then-most-lt-STEPS_AT_BORDER-clause-runs c = one_step c.args.columns (state c.args.tree.now c.args.log.now c.args.self.now) _ c.trim_after-commits.result c.go-last.result
-    (run_step c.args.columns (state c.args.tree.now c.args.log.now c.args.self.now) c.requires.may c.go-last.new.tree c.go-last.new.log c.go-last.result c.go-last.new.self c.go-last.ensures c.trim_after-commits.new.log c.trim_after-commits.ensures.trims c.number-sound.ensures.sound c.free_numbers-before.ensures.arena c.free_numbers-after.ensures.arena) c.trim_after-commits.ensures.commits
-
-pub returns-then-most-lt-STEPS_AT_BORDER-clause-next : goal.returns-then-most-lt-STEPS_AT_BORDER-clause-next
-returns-then-most-lt-STEPS_AT_BORDER-clause-next c = λ on. may_again c.args.columns (state c.args.tree.now c.args.log.now c.args.self.now) c.requires.may c.go-last.new.tree c.go-last.new.log c.go-last.result c.go-last.new.self c.go-last.ensures on c.trim_after-commits.new.log c.trim_after-commits.ensures.trims
 
 -- ---- a visit
 pub visit-requires-clause-may : goal.visit-requires-clause-may
@@ -66,9 +56,6 @@ finish-requires-clause-finds c = finds_by c.args.tree.now c.visit.new.self.key c
 
 pub pass-requires-clause-leads : goal.pass-requires-clause-leads
 pass-requires-clause-leads c = leads_by c.args.tree.now c.visit.new.self.key c.visit.new.self.way c.border-border.result.now c.border-border.ensures.value c.rest_of.result.now c.rest_of.ensures.value c.in-Err.visit c.in-Err.ensures.leads
-
-pub returns-in-Ok-clause-runs : goal.returns-in-Ok-clause-runs
-returns-in-Ok-clause-runs c = subst (λ (w : Write). HasRun c.args.columns (state c.args.tree.now c.args.log.now w) c.finish.result (state c.finish.new.tree c.finish.new.log c.finish.new.self)) (c.visit.ensures.at c.in_default.is).1 c.finish.ensures.runs
 
 pub returns-in-Err-clause-runs : goal.returns-in-Err-clause-runs
 returns-in-Err-clause-runs c = subst (λ (w : Write). HasRun c.args.columns (state c.args.tree.now c.args.log.now w) c.pass.result (state c.pass.new.tree c.args.log.now c.pass.new.self)) (c.visit.ensures.at c.in_default.is).1 (c.pass.ensures.runs c.args.columns c.args.log.now (subst (λ (w : Write). MayRun c.args.columns (state c.args.tree.now c.args.log.now w)) (sym (c.visit.ensures.at c.in_default.is).1) c.requires.may) c.requires.trimmed c.number-trimmed.ensures.sound).runs

@@ -32,6 +32,18 @@ go_right-requires c = (c.args.columns, c.args.log.now, may_be c.args.columns c.a
 pub returns-in-Rightward : goal.returns-in-Rightward
 returns-in-Rightward c = at_step c.args.columns c.args.tree.now c.go_right.new.tree c.args.log.now c.args.log.now c.args.self.now c.replace.new.dest _ c.go_right.result c.go_right.new.self (sym c.replace.ensures.value ∙ c.in-Rightward.is) (c.go_right.ensures c.args.columns c.args.log.now)
 
+pub copy_value-requires : goal.copy_value-requires
+copy_value-requires c = (c.args.columns, c.args.log.now, may_be c.args.columns c.args.tree.now c.args.log.now c.args.self.now c.replace.new.dest _ (sym c.replace.ensures.value ∙ c.in-Copies.is) c.requires)
+
+pub returns-in-Copies : goal.returns-in-Copies
+returns-in-Copies c = at_step c.args.columns c.args.tree.now c.args.tree.now c.args.log.now c.args.log.now c.args.self.now c.replace.new.dest _ c.copy_value.result c.copy_value.new.self (sym c.replace.ensures.value ∙ c.in-Copies.is) (c.copy_value.ensures c.args.columns c.args.log.now)
+
+pub give_back-requires : goal.give_back-requires
+give_back-requires c = record { may = (c.args.columns, c.args.log.now, may_be c.args.columns c.args.tree.now c.args.log.now c.args.self.now c.replace.new.dest _ (sym c.replace.ensures.value ∙ c.in-GivesBack.is) c.requires) }
+
+pub returns-in-GivesBack : goal.returns-in-GivesBack
+returns-in-GivesBack c = at_step c.args.columns c.args.tree.now c.give_back.new.tree c.args.log.now c.args.log.now c.args.self.now c.replace.new.dest _ c.give_back.result _ (sym c.replace.ensures.value ∙ c.in-GivesBack.is) (c.give_back.ensures c.args.columns c.args.log.now)
+
 pub fill_spared-requires : goal.fill_spared-requires
 fill_spared-requires c = (c.args.columns, c.args.log.now, may_be c.args.columns c.args.tree.now c.args.log.now c.args.self.now c.replace.new.dest _ (sym c.replace.ensures.value ∙ c.in-Spared.is) c.requires)
 
@@ -43,6 +55,12 @@ link-requires c = (c.args.columns, c.args.log.now, may_be c.args.columns c.args.
 
 pub returns-in-HalfFilled : goal.returns-in-HalfFilled
 returns-in-HalfFilled c = at_step c.args.columns c.args.tree.now c.link.new.tree c.args.log.now c.args.log.now c.args.self.now c.replace.new.dest _ c.link.result c.link.new.self (sym c.replace.ensures.value ∙ c.in-HalfFilled.is) (c.link.ensures c.args.columns c.args.log.now)
+
+pub cut-requires : goal.cut-requires
+cut-requires c = (c.args.columns, c.args.log.now, may_be c.args.columns c.args.tree.now c.args.log.now c.args.self.now c.replace.new.dest _ (sym c.replace.ensures.value ∙ c.in-HalfLinked.is) c.requires)
+
+pub returns-in-HalfLinked : goal.returns-in-HalfLinked
+returns-in-HalfLinked c = at_step c.args.columns c.args.tree.now c.cut.new.tree c.args.log.now c.args.log.now c.args.self.now c.replace.new.dest _ c.cut.result c.cut.new.self (sym c.replace.ensures.value ∙ c.in-HalfLinked.is) (c.cut.ensures c.args.columns c.args.log.now)
 
 pub reserve_in_half-requires : goal.reserve_in_half-requires
 reserve_in_half-requires c = may_be c.args.columns c.args.tree.now c.args.log.now c.args.self.now c.replace.new.dest _ (sym c.replace.ensures.value ∙ c.in-Halved.is) c.requires
@@ -68,11 +86,23 @@ unlock_head-requires c = (c.args.columns, c.args.log.now, may_be c.args.columns 
 pub returns-in-LayerFilled : goal.returns-in-LayerFilled
 returns-in-LayerFilled c = at_step c.args.columns c.args.tree.now c.unlock_head.new.tree c.args.log.now c.args.log.now c.args.self.now c.replace.new.dest _ c.unlock_head.result c.unlock_head.new.self (sym c.replace.ensures.value ∙ c.in-LayerFilled.is) (c.unlock_head.ensures c.args.columns c.args.log.now)
 
-pub link_layer-requires : goal.link_layer-requires
-link_layer-requires c = (c.args.columns, c.args.log.now, may_be c.args.columns c.args.tree.now c.args.log.now c.args.self.now c.replace.new.dest _ (sym c.replace.ensures.value ∙ c.in-LayerReady.is) c.requires)
+pub mark_unstable-requires : goal.mark_unstable-requires
+mark_unstable-requires c = (c.args.columns, c.args.log.now, may_be c.args.columns c.args.tree.now c.args.log.now c.args.self.now c.replace.new.dest _ (sym c.replace.ensures.value ∙ c.in-LayerReady.is) c.requires)
 
 pub returns-in-LayerReady : goal.returns-in-LayerReady
-returns-in-LayerReady c = at_step c.args.columns c.args.tree.now c.link_layer.new.tree c.args.log.now c.args.log.now c.args.self.now c.replace.new.dest _ c.link_layer.result c.link_layer.new.self (sym c.replace.ensures.value ∙ c.in-LayerReady.is) (c.link_layer.ensures c.args.columns c.args.log.now)
+returns-in-LayerReady c = at_step c.args.columns c.args.tree.now c.mark_unstable.new.tree c.args.log.now c.args.log.now c.args.self.now c.replace.new.dest _ c.mark_unstable.result c.mark_unstable.new.self (sym c.replace.ensures.value ∙ c.in-LayerReady.is) (c.mark_unstable.ensures c.args.columns c.args.log.now)
+
+pub link_layer-requires : goal.link_layer-requires
+link_layer-requires c = (c.args.columns, c.args.log.now, may_be c.args.columns c.args.tree.now c.args.log.now c.args.self.now c.replace.new.dest _ (sym c.replace.ensures.value ∙ c.in-LayerMarked.is) c.requires)
+
+pub returns-in-LayerMarked : goal.returns-in-LayerMarked
+returns-in-LayerMarked c = at_step c.args.columns c.args.tree.now c.link_layer.new.tree c.args.log.now c.args.log.now c.args.self.now c.replace.new.dest _ c.link_layer.result c.link_layer.new.self (sym c.replace.ensures.value ∙ c.in-LayerMarked.is) (c.link_layer.ensures c.args.columns c.args.log.now)
+
+pub mark_layer-requires : goal.mark_layer-requires
+mark_layer-requires c = (c.args.columns, c.args.log.now, may_be c.args.columns c.args.tree.now c.args.log.now c.args.self.now c.replace.new.dest _ (sym c.replace.ensures.value ∙ c.in-LayerLinked.is) c.requires)
+
+pub returns-in-LayerLinked : goal.returns-in-LayerLinked
+returns-in-LayerLinked c = at_step c.args.columns c.args.tree.now c.mark_layer.new.tree c.args.log.now c.args.log.now c.args.self.now c.replace.new.dest _ c.mark_layer.result c.mark_layer.new.self (sym c.replace.ensures.value ∙ c.in-LayerLinked.is) (c.mark_layer.ensures c.args.columns c.args.log.now)
 
 pub go_below-requires : goal.go_below-requires
 go_below-requires c = (c.args.columns, c.args.log.now, may_be c.args.columns c.args.tree.now c.args.log.now c.args.self.now c.replace.new.dest _ (sym c.replace.ensures.value ∙ c.in-Layered.is) c.requires)

@@ -2,9 +2,9 @@ use Rattle.mt_write.proofs.StageSteps.{turned_tree, may_link_half}
 use Rattle.mt_write.proofs.LaterSteps.{links_half}
 use Rattle.mt_write.proofs.writing.Write.link.Goals as goal
 
-pub link_halves-self-requires-clause-upper : goal.link_halves-self-requires-clause-upper
-link_halves-self-requires-clause-upper c = may_link_half c.args.tree.now c.args.self.now c.args.half c.args.cut c.requires
+pub link_half-requires : goal.link_half-requires
+link_half-requires c = may_link_half c.args.tree.now c.args.self.now c.args.half c.args.cut c.args.place c.requires
 
 pub returns : goal.returns
-returns c = turned_tree c.args.tree.now c.link_halves-self.new.tree c.args.self.now _ _ _ _ c.turn_to.ensures
-    (links_half c.args.tree.now c.link_halves-self.new.tree c.args.self.now c.args.half c.args.cut c.link_halves-self.result c.link_halves-self.ensures.linked c.link_halves-self.ensures.links c.link_halves-self.ensures.way)
+returns c = turned_tree c.args.tree.now c.link_half.new.self c.args.self.now _ _ _ _ c.turn_to.ensures
+    (links_half c.args.tree.now c.link_half.new.self c.args.self.now c.args.half c.args.cut c.args.place c.link_half.ensures.value c.link_half.ensures.links)
