@@ -32,8 +32,8 @@ FailsFor s number t = (before after : Call) → call_at number s.calls.calls ≡
 abbrev pub SpentFor : MachineView → Call → Refusal → Type 0
 SpentFor s call refusal = (refusal ≡ Spent) × (greatest_number ≤ s.views.built) × IsBuiltWork call.work
 
--- the call is refused for what it had failed for; a get or range, because it is out of memory at a border; a build, for
--- that too, or for the number of its view
+-- the call is refused for what it had failed for, or because it is out of memory: a put that gives back the half of a
+-- split, a get or range at a border, and a build, which may also be refused for the number of its view
 abbrev pub RefusedFor : MachineView → Option Call → Refusal → Type 0
 RefusedFor s None refusal = refusal ≡ NoSuchCall
 RefusedFor s (Some call) refusal = WorkRefuses s.tree call.work refusal ⊎ SpentFor s call refusal

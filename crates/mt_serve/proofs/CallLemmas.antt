@@ -207,7 +207,7 @@ module _ (s : Store) (pass : PassNo) (request : Request) (number : CallNo) where
   explains m one o comes quiet feed write is = record {
     memory = tt;
     searched = λ found at b there refusal e. edit_says m (came (ap (λ (x : Stage). (stage_held write.way.node.0 x).committed) at) (ap (λ (x : Stage). (stage_held write.way.node.0 x).reserves) at)) write.way.node.0 b there write.edit (found_for (rest_of write.key write.way) b.live) refusal e;
-    halved = λ split at b refusal there e. fill_says m (came (ap (λ (x : Stage). (stage_held write.way.node.0 x).committed) at) (ap (λ (x : Stage). (stage_held write.way.node.0 x).reserves) at)) write.way.node.0 b there refusal e;
+    halved = λ split place at b refusal there e. fill_says m (came (ap (λ (x : Stage). (stage_held write.way.node.0 x).committed) at) (ap (λ (x : Stage). (stage_held write.way.node.0 x).reserves) at)) write.way.node.0 b there refusal e;
   }
     where
       came : (stage_held write.way.node.0 write.stage).committed ≡ None → (stage_held write.way.node.0 write.stage).reserves ≡ 0 → Came m

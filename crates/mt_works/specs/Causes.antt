@@ -6,8 +6,8 @@ use Rattle.mt_arena.specs.Arena.{ArenaView}
 use Rattle.mt_steps.specs.declared.progress.Progress.{Progress}
 use Rattle.mt_steps.specs.declared.progress.Progress.TheVariants.{Refused}
 use Rattle.mt_steps.specs.Causes.{ReadFails}
-use Rattle.mt_write.specs.declared.writing.Stage.TheVariants.{Failed}
 use Rattle.mt_write.specs.Causes.{WriteWaits, WriteFails}
+use Rattle.mt_write.specs.Follows.{EndsRefused}
 use Rattle.mt_remove.specs.Tidy.{IsTidied}
 use Rattle.mt_remove.specs.Follows.{TidyWaits}
 use Rattle.mt_steps.specs.Getting.{GetWaits}
@@ -32,10 +32,11 @@ WorkFails a log (Range range) p new = ReadFails a range.node.0 p
 WorkFails a log (Tidy tidy) p new = IsTidied p
 WorkFails a log (Build building) p new = BuildFails a building p
 
--- a call is refused for this: a put or remove for what it had failed for; a tidy never is
+-- a call is refused for this: a put or remove for what it had failed for, or for lack of memory if it gives back the
+-- half of a split; a tidy never is
 abbrev pub WorkRefuses : ArenaView → Work → Refusal → Type 0
 WorkRefuses a (Get get) refusal = ReadFails a get.way.node.0 (Refused refusal)
-WorkRefuses a (Write write) refusal = write.stage ≡ Failed refusal None
+WorkRefuses a (Write write) refusal = EndsRefused write.stage refusal
 WorkRefuses a (Range range) refusal = ReadFails a range.node.0 (Refused refusal)
 WorkRefuses a (Tidy tidy) refusal = ⊥
 WorkRefuses a (Build building) refusal = BuildFails a building (Refused refusal)
