@@ -133,6 +133,8 @@ step 28
 step 28
 step 28
 step 28
+step 28
+step 28
 begin 3 get 30313233343536374142 all
 step 29
 step 29
@@ -245,8 +247,16 @@ step 47
 step 47
 step 47
 step 47
+step 47
+step 47
+step 47
+step 47
 step 48
 step 48
+step 47
+step 47
+step 47
+step 47
 step 47
 step 47
 step 48

@@ -100,18 +100,30 @@ step 23
 step 23
 step 23
 step 23
+step 23
+step 23
+step 23
+begin 3 get 62 all
+step 24
+step 24
 step 22
 step 22
+step 23
+step 23
+step 23
+step 23
+step 24
 step 22
+step 23
+step 24
+begin 4 range 0d 10 all
+step 25
+step 25
 step 22
 step 23
 step 22
 step 22
-begin 3 get 62 all
 step 24
-step 24
-begin 4 range 0d 10 all
-step 25
 step 25
 step 23
 step 22

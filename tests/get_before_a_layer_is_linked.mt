@@ -29,3 +29,5 @@ step 3
 step 3
 step 3
 step 3
+step 3
+step 3

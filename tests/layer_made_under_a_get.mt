@@ -23,6 +23,8 @@ step 3
 step 3
 step 3
 step 3
+step 3
+step 3
 step 2
 step 2
 step 2

@@ -235,6 +235,8 @@ step 42
 begin 2 put 56d6af19764d859a 0=859a
 finish 42
 step 28
+step 28
+step 28
 step 36
 finish 36
 step 32
@@ -558,6 +560,10 @@ step 81
 step 81
 step 81
 step 81
+step 81
+step 81
+step 81
+step 81
 begin 2 put 0000000000000000000000000000000000000000000000006f6a6f 0=6a6f
 step 73
 step 79
@@ -822,9 +828,17 @@ step 105
 step 105
 step 105
 step 105
+step 105
+step 105
+step 105
+step 105
+step 105
+step 105
+step 105
 finish 96
 finish 104
 begin 1 put 1611998c4f1055aa 0=55aa
+step 105
 step 105
 step 106
 finish 100
@@ -1773,6 +1787,14 @@ step 228
 step 231
 finish 231
 finish 222
+step 228
+step 228
+step 228
+step 228
+step 228
+step 228
+step 228
+step 228
 step 228
 step 228
 step 228
@@ -3329,6 +3351,13 @@ step 369
 step 369
 step 369
 step 369
+step 369
+step 369
+step 369
+step 369
+step 369
+step 369
+step 369
 finish 377
 begin 1 range ae8c6d7baa3b0290 20 0
 step 378
@@ -3359,6 +3388,7 @@ begin 3 get 636174616c6f672f636174616c6f672f6b75796c7766717574 all
 step 378
 finish 378
 finish 369
+finish 378
 begin 1 put 73657373696f6e2f73657373696f6e2f6c6e78736e676b6c6562 0=6562
 begin 2 put 0000000000000000736270677169656d776d6d77 0=6d77
 begin 3 put 878431439b26fd14 0=fd14
@@ -5123,11 +5153,19 @@ step 598
 step 598
 step 598
 step 598
+step 598
+step 598
+step 598
+step 598
 step 594
 step 594
 step 598
+step 598
+step 598
+step 598
 begin 3 put ae78f058f1c581dd 0=81dd
 finish 604
+step 598
 step 598
 step 602
 step 594
@@ -5163,6 +5201,10 @@ step 602
 step 602
 step 602
 step 602
+step 602
+step 602
+step 602
+step 602
 step 606
 step 606
 step 606
@@ -5180,10 +5222,14 @@ step 598
 step 598
 begin 3 get 73657373696f6e2f73657373696f6e2f73657373696f6e2f726b6469656e all
 step 602
+step 602
+step 602
+step 602
 finish 608
 step 605
 finish 605
 finish 602
+finish 608
 step 598
 step 598
 finish 598
@@ -6380,6 +6426,10 @@ step 787
 finish 781
 begin 3 get 636174616c6f672f636174616c6f672f636174616c6f672f7262726b all
 step 787
+step 779
+step 779
+step 779
+step 779
 step 779
 step 779
 step 779

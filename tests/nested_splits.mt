@@ -2334,6 +2334,14 @@ step 1152
 step 1152
 step 1152
 step 1152
+step 1152
+step 1152
+step 1152
+step 1152
+step 1152
+step 1152
+step 1152
+step 1152
 begin 2 put 4319 0=bb
 step 1153
 step 1153
@@ -2364,7 +2372,23 @@ step 1153
 step 1153
 step 1153
 step 1153
+step 1153
+step 1153
+step 1153
+step 1153
+step 1153
+step 1153
+step 1153
+step 1153
 begin 3 put 0199 0=cc
+step 1154
+step 1154
+step 1154
+step 1154
+step 1154
+step 1154
+step 1154
+step 1154
 step 1154
 step 1154
 step 1154
@@ -2570,6 +2594,10 @@ step 1182
 step 1182
 step 1182
 step 1182
+step 1182
+step 1182
+step 1182
+step 1182
 step 1186
 begin 5 put 4540 0=0d
 step 1183
@@ -2657,11 +2685,15 @@ step 1188
 step 1189
 step 1189
 step 1182
+step 1182
+step 1182
+step 1182
 step 1188
 step 1190
 step 1187
 step 1190
 step 1182
+step 1182
 step 1190
 step 1182
 step 1182
@@ -2687,7 +2719,14 @@ step 1188
 step 1188
 step 1188
 step 1188
+step 1188
+step 1188
+step 1188
+step 1188
 step 1185
+step 1188
+step 1188
+step 1188
 step 1188
 begin 4 remove 32a0
 step 1189
@@ -2698,6 +2737,7 @@ step 1187
 begin 5 put 3ec2 0=4d
 step 1190
 step 1192
+step 1188
 step 1188
 step 1191
 step 1191
@@ -2947,8 +2987,15 @@ step 1199
 step 1199
 step 1199
 step 1199
+step 1199
+step 1199
+step 1199
+step 1199
 begin 4 put 44b0 0=5d
 step 1195
+step 1199
+step 1199
+step 1199
 step 1199
 step 1195
 step 1200
@@ -2975,6 +3022,7 @@ step 1201
 step 1201
 step 1200
 step 1202
+step 1199
 step 1199
 step 1198
 step 1202
@@ -3104,11 +3152,19 @@ step 1204
 step 1204
 step 1204
 step 1204
+step 1204
+step 1204
+step 1204
+step 1204
 begin 4 put 4580 0=49
 step 1209
 step 1204
+step 1204
+step 1204
+step 1204
 step 1208
 step 1204
+step 1204
 step 1207
 step 1207
 step 1210
@@ -3118,6 +3174,10 @@ step 1204
 step 1204
 step 1209
 step 1209
+step 1206
+step 1206
+step 1206
+step 1206
 step 1206
 step 1206
 step 1206
@@ -3144,6 +3204,9 @@ step 1207
 step 1210
 step 1208
 step 1206
+step 1206
+step 1206
+step 1206
 step 1207
 step 1210
 step 1209
@@ -3160,6 +3223,7 @@ step 1209
 step 1209
 step 1209
 step 1210
+step 1206
 step 1206
 step 1204
 step 1210
@@ -3301,6 +3365,10 @@ step 1213
 step 1213
 step 1213
 step 1213
+step 1213
+step 1213
+step 1213
+step 1213
 step 1217
 step 1216
 step 1214
@@ -3310,12 +3378,16 @@ step 1214
 step 1214
 step 1214
 step 1213
+step 1213
+step 1213
+step 1213
 step 1217
 begin 2 put 44f0 0=ba
 step 1216
 step 1216
 step 1216
 step 1212
+step 1213
 step 1213
 step 1212
 step 1212
@@ -3405,6 +3477,10 @@ step 1215
 step 1215
 step 1215
 step 1215
+step 1215
+step 1215
+step 1215
+step 1215
 step 1218
 step 1219
 step 1220
@@ -3425,6 +3501,9 @@ step 1218
 step 1218
 step 1218
 step 1215
+step 1215
+step 1215
+step 1215
 step 1218
 step 1219
 step 1213
@@ -3432,6 +3511,7 @@ step 1221
 step 1219
 step 1220
 step 1220
+step 1215
 step 1215
 step 1221
 step 1213
@@ -4026,11 +4106,19 @@ step 1244
 step 1244
 step 1244
 step 1244
+step 1244
+step 1244
+step 1244
+step 1244
+step 1244
+step 1244
+step 1244
 step 1245
 step 1248
 step 1248
 step 1248
 step 1245
+step 1244
 step 1244
 step 1246
 step 1248
@@ -5703,6 +5791,14 @@ step 1760
 step 1760
 step 1760
 step 1760
+step 1760
+step 1760
+step 1760
+step 1760
+step 1760
+step 1760
+step 1760
+step 1760
 begin 2 put 6119 0=ee
 step 1761
 step 1761
@@ -5734,7 +5830,23 @@ step 1761
 step 1761
 step 1761
 step 1761
+step 1761
+step 1761
+step 1761
+step 1761
+step 1761
+step 1761
+step 1761
+step 1761
 begin 3 put 1419 0=ff
+step 1762
+step 1762
+step 1762
+step 1762
+step 1762
+step 1762
+step 1762
+step 1762
 step 1762
 step 1762
 step 1762

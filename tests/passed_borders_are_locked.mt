@@ -78,6 +78,14 @@ step 21
 step 21
 step 21
 step 21
+step 21
+step 21
+step 21
+step 21
+step 21
+step 21
+step 21
+step 21
 begin 2 remove 0d
 step 22
 step 22

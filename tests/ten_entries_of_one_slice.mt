@@ -46,6 +46,12 @@ step 16
 step 16
 step 16
 step 16
+step 16
+step 16
+step 16
+step 16
+step 16
+step 16
 begin 1 get 06 all
 step 17
 step 17

@@ -391,9 +391,16 @@ step 77
 step 77
 step 77
 step 77
+step 77
+step 77
+step 77
+step 77
 step 81
 step 81
 step 80
+step 77
+step 77
+step 77
 step 77
 step 75
 step 74
@@ -682,6 +689,10 @@ step 144
 begin 3 put 0000000000000089 0=28
 step 145
 step 141
+step 142
+step 142
+step 142
+step 142
 step 142
 step 142
 step 142
@@ -1258,6 +1269,10 @@ step 286
 step 286
 step 286
 step 286
+step 286
+step 286
+step 286
+step 286
 step 292
 advance
 step 290
@@ -1288,6 +1303,7 @@ step 291
 step 294
 step 294
 finish 286
+finish 290
 begin 1 put 0000000000000116 0=32425f
 finish 291
 begin 2 put 0000000000000117 0=-

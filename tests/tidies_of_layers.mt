@@ -125,6 +125,8 @@ step 2
 collect
 advance
 step 7
+step 7
+step 7
 step 4
 step 7
 step 4
@@ -149,6 +151,8 @@ step 7
 step 7
 step 7
 step 7
+step 2
+step 2
 step 2
 step 4
 step 9
@@ -833,6 +837,8 @@ begin 1 tidy 626262626262626201
 collect
 step 131
 step 109
+step 109
+step 109
 step 134
 step 109
 step 134
@@ -1510,6 +1516,8 @@ step 224
 step 224
 step 228
 step 229
+step 224
+step 224
 step 224
 step 223
 step 223
@@ -2430,6 +2438,8 @@ step 338
 step 334
 step 338
 step 334
+step 334
+step 334
 begin 1 tidy 616161616161616100
 step 339
 step 340
@@ -3221,6 +3231,8 @@ begin 2 put 61616161616161610303 0=9bbf64b3
 step 466
 step 461
 step 461
+step 461
+step 461
 step 459
 step 459
 step 459
@@ -3327,6 +3339,8 @@ step 464
 step 459
 step 467
 step 466
+step 465
+step 465
 step 465
 step 466
 step 466
@@ -7467,6 +7481,8 @@ step 998
 advance
 step 1001
 step 1001
+step 1001
+step 1001
 step 998
 step 1003
 finish 1001
@@ -7569,6 +7585,8 @@ step 999
 step 1004
 step 1007
 step 998
+step 1004
+step 1004
 step 1004
 step 1007
 step 999

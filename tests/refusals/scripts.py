@@ -71,7 +71,7 @@ def full_border(name: str, nodes: int) -> Script:
     call = len(lines) + 1
     last = f"{call:04x}"
     begin = len(lines)
-    lines += [f"begin 1 put {last} 0=10", *[f"step {call}"] * 27, "begin 2 get 000f all", f"finish {call + 1}"]
+    lines += [f"begin 1 put {last} 0=10", *[f"step {call}"] * 35, "begin 2 get 000f all", f"finish {call + 1}"]
     lines += [*[f"step {call}"] * 5, "alone get 000f all", f"finish {call}"]
     lines += [f"alone get {last} all", "alone get 0001 all"]
     return Script(name, (), tuple(lines), begin)
@@ -84,7 +84,7 @@ def full_interior(name: str, nodes: int) -> Script:
     lines = layers(nodes) + put_all(count)
     lines = lines[:-1] if nodes > 0 else lines
     call, begin = len(lines) + 1, len(lines)
-    lines += [f"begin 1 put {count + 1:04x} 0=01", *[f"step {call}"] * 39, "begin 2 get 0001 all", f"finish {call + 1}"]
+    lines += [f"begin 1 put {count + 1:04x} 0=01", *[f"step {call}"] * 47, "begin 2 get 0001 all", f"finish {call + 1}"]
     lines += [*[f"step {call}"] * 3, f"finish {call}"]
     lines += [f"alone get {number:04x} all" for number in (1, count - 1, count + 1)]
     return Script(name, (), tuple(lines), begin)
@@ -95,7 +95,7 @@ def twenty_layers() -> Script:
     many layers, and when both are removed they are taken out."""
     deep = 20
     first, second = ("61" * (8 * deep) + last for last in ("61", "62"))
-    lines = [f"alone put {first} 0=-", f"begin 1 put {second} 0=-", *["step 2"] * (11 * deep + 10)]
+    lines = [f"alone put {first} 0=-", f"begin 1 put {second} 0=-", *["step 2"] * (13 * deep + 10)]
     lines += [f"begin 1 get {second} all", *["step 3"] * (7 * deep + 8)]
     lines += [f"alone remove {first}", f"alone remove {second}", *[f"alone tidy {second}"] * (deep + 1), "collect"]
     return Script("twenty_layers", (), tuple(lines))
