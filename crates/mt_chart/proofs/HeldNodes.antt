@@ -2,6 +2,7 @@
 -- knows the same.
 use Rattle.std.proofs.Common.{ℕ, zero, suc, ◌≡◌, ◌<◌, ◌≤◌, ◌⊎◌, inl, inr, List, [], ◌∷◌, Some, Bool, true, false, refl, ap, arith}
 use Rattle.mt_chart.specs.Tree.{link, Right, HeadNode, BorderNode, PlainChild, InteriorNode, head, border, interior, Arena, Among}
+use Rattle.mt_chart.specs.Walk.{Known}
 use Rattle.mt_chart.specs.Chart.{Standing, on, gone, Role, top, at_level, spot, Chart, OnBorder, MayName, AreChildren, IsTree, Holds, Later, still_on, still_gone, went, Evolves, FirstLow}
 
 pub later_same : (b : ℕ) (s : Standing) → Later b s s
@@ -50,6 +51,10 @@ holds_kept b n p s chart new ev h = go (ev n h.role p h.low h.standing h.place)
     go (inr (e, w, k)) = absurd (let m : b ≤ e = h.since e w in omega arith)
 
 -- one step of a descent
+-- a head that is known is held, for any slice
+pub known_holds : (chart : Chart) (begun n : ℕ) (p : List ℕ) → Known chart begun n top p 0 → (s : ℕ) → Holds chart begun n p s
+known_holds chart begun n p known s = record { role = top; low = 0; standing = known.standing; place = known.place; at_most = omega arith; since = known.since }
+
 module _ (arena : Arena) (chart : Chart) (tree : IsTree arena chart) (begun : ℕ) where
   on_since : (y : Bool) (e : ℕ) → on y ≡ gone e → begun ≤ e
   on_since y e q = absurd cc
@@ -99,7 +104,11 @@ module _ (arena : Arena) (chart : Chart) (tree : IsTree arena chart) (begun : �
       let (low, y, g) = (tree.each_border n p t o).right r e in
       record { role = at_level 0; low = r.low; standing = on y; place = g; at_most = h; since = on_since y }
 
-  -- at such a border: the head that a link entry names, for any slice of the next layer
+  -- at such a border: the head that a link entry names
+  pub known_link : (n t h : ℕ) (p : List ℕ) (b : BorderNode) → OnBorder arena chart n p b → Among (record { slice = t; content = link h }) b.entries → Known chart begun h top (t ∷ p) 0
+  known_link n t h p b o m = record { standing = on true; place = (tree.each_border n p b o).links t h m; since = on_since true }
+
+  -- and for any slice of the next layer
   pub holds_link : (n s t h : ℕ) (p : List ℕ) (b : BorderNode) → OnBorder arena chart n p b → Among (record { slice = t; content = link h }) b.entries → Holds chart begun h (t ∷ p) s
   holds_link n s t h p b o m =
       record { role = top; low = 0; standing = on true; place = (tree.each_border n p b o).links t h m; at_most = omega arith; since = on_since true }

@@ -4,6 +4,7 @@ use Rattle.mt_slice.specs.Place.{Place, deeper, under, first_slice}
 use Rattle.mt_types.specs.declared.row.Row.{Row}
 use Rattle.mt_chart.specs.Tree.{link, PlainEntry, Arena, Among, first, later, Below, HoldsRow, Has}
 use Rattle.mt_chart.specs.ScanRun.{AllHave}
+use Rattle.mt_chart.proofs.HeldNodes.{known_holds}
 use Rattle.mt_chart.proofs.Keys.{holds_slice}
 use Rattle.mt_chart.specs.Noted.{entries_in}
 use Rattle.mt_chart.specs.ListNoted.{ListsAreNoted}
@@ -18,7 +19,7 @@ pub lists_are_noted : ListsAreNoted
 lists_are_noted show chart begun past prefix moment then right was now kept passed all are read lasts true_now next keeps = record {
   to_right = λ e i. ((keeps e).0 i).1;
   shown = λ e x row i h. (true_now e ((keeps e).0 i).0).row x row h;
-  heads = λ s h sought i. (true_now (record { slice = s; content = link h }) ((keeps (record { slice = s; content = link h })).0 i).0).link h sought refl;
+  heads = λ s h sought i. known_holds chart begun h (s ∷ prefix) ((true_now (record { slice = s; content = link h }) ((keeps (record { slice = s; content = link h })).0 i).0).link h refl) sought;
   covers = covers;
   next = next;
 }

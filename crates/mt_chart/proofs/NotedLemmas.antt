@@ -2,7 +2,9 @@
 use Rattle.std.proofs.Common.{ℕ, ◌≡◌, inl, inr, List, [], ◌∷◌, Bool, true, false, refl, sym, subst, ◌∙◌, arith}
 use Rattle.mt_slice.specs.Place.{under}
 use Rattle.mt_chart.specs.Tree.{link, PlainEntry, Among, first, later}
-use Rattle.mt_chart.proofs.HeldNodes.{holds_kept, holds_link}
+use Rattle.mt_chart.specs.Chart.{top}
+use Rattle.mt_chart.proofs.HeldNodes.{known_link}
+use Rattle.mt_chart.proofs.Walk.{known_kept}
 use Rattle.mt_chart.proofs.Reach.{has}
 use Rattle.mt_chart.specs.Noted.{SlotSeen, FieldsSeen, Counters, IsQuiet, HasComeTo, IsSameKey, KeepsSlot, StaysQuiet, Ages, IsTrueEntry, IsNoted, NotedSlotsStay, AreRead, entries_in}
 
@@ -51,7 +53,7 @@ noted_slots_stay show begun number chart next after past prefix f g v was k evol
       same = same_again was (f.slot k) (g.slot k) before.same same;
       true = record {
         row = λ place row holds. inl (row, has after next tree (under prefix place) row (record { prefix = prefix; number = number; node = g.node; entry = (g.slot k).entry; place = place; on_border = on; live = slots.live k is quiet.no_split; holds = holds; is_key = refl }), refl);
-        link = λ head slice is_link. holds_link after next tree begun number slice (g.slot k).entry.slice head prefix g.node on (among head is_link (slots.live k is quiet.no_split));
+        link = λ head is_link. known_link after next tree begun number (g.slot k).entry.slice head prefix g.node on (among head is_link (slots.live k is quiet.no_split));
       };
     }
       where
@@ -62,7 +64,7 @@ noted_slots_stay show begun number chart next after past prefix f g v was k evol
       same = subst (λ (x : SlotSeen). IsSameKey was x) (sym same) before.same;
       true = subst (λ (x : SlotSeen). IsTrueEntry show next begun (after ∷ past) prefix x.entry) (sym same) (record {
         row = λ place row holds. inr (before.true.row place row holds);
-        link = λ head slice is_link. holds_kept begun head ((f.slot k).entry.slice ∷ prefix) slice chart next evolves (before.true.link head slice is_link);
+        link = λ head is_link. known_kept begun head top ((f.slot k).entry.slice ∷ prefix) 0 chart next evolves (before.true.link head is_link);
       });
     }
 

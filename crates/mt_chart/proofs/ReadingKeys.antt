@@ -5,7 +5,9 @@ use Rattle.std.proofs.lemmas.List.{length-append}
 use Rattle.mt_slice.specs.Place.{Place, deeper, under, first_slice, first_class}
 use Rattle.mt_types.specs.declared.row.Row.{Row}
 use Rattle.mt_chart.specs.Tree.{PlainContent, short, long, link, PlainEntry, Right, Arena, Among, first, later, Below, no_right, before_right, HoldsRow}
-use Rattle.mt_chart.specs.Chart.{Chart, Holds, class}
+use Rattle.mt_chart.specs.Chart.{top, Chart, Holds, class}
+use Rattle.mt_chart.specs.Walk.{Known}
+use Rattle.mt_chart.proofs.HeldNodes.{known_holds}
 use Rattle.mt_chart.specs.ScanRun.{Stood, AllHave, EntriesInOrder}
 use Rattle.mt_chart.specs.Noted.{plain, SlotSeen, FieldsSeen, IsSameKey, IsTrueEntry, IsNoted, AreRead, entries_in}
 use Rattle.mt_chart.specs.NotedList.{IsNotedList}
@@ -111,9 +113,13 @@ module _ (show : Row → Row) (chart : Chart) (begun : ℕ) (past : List Arena) 
   pub no_row_under_link : (number slice : ℕ) → HasLinkKey show chart begun past prefix f number slice → (row : Row) → row_in (f.slot number).entry.content ≡ Some row → ⊥
   no_row_under_link number slice found row is = no_row found.head row (f.slot number).entry.content (found.noted.same.links found.head found.is_link) is
 
+  pub link_known : (number slice : ℕ) → HasLinkKey show chart begun past prefix f number slice → (head : ℕ) → (f.slot number).entry.content ≡ link head → Known chart begun head top (slice ∷ prefix) 0
+  link_known number slice found head is =
+      subst (λ (s : ℕ). Known chart begun head top (s ∷ prefix) 0) (found.noted.same.slice ∙ found.at_slice) (found.noted.true.link head is)
+
   pub link_held : (number slice : ℕ) → HasLinkKey show chart begun past prefix f number slice → (head : ℕ) → (f.slot number).entry.content ≡ link head → (sought : ℕ) → Holds chart begun head (slice ∷ prefix) sought
   link_held number slice found head is sought =
-      subst (λ (s : ℕ). Holds chart begun head (s ∷ prefix) sought) (found.noted.same.slice ∙ found.at_slice) (found.noted.true.link head sought is)
+      known_holds chart begun head (slice ∷ prefix) (link_known number slice found head is) sought
 
   -- ---- a range reads a slot, key and value
   -- one more was read

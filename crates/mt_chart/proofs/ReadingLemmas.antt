@@ -8,7 +8,7 @@ use Rattle.mt_chart.specs.Walk.{Known, IsOn}
 use Rattle.mt_chart.specs.ScanRun.{Lacked, EntriesInOrder}
 use Rattle.mt_chart.specs.Noted.{SlotSeen, FieldsSeen, AreSlots, Counters, IsQuiet, HasComeTo, IsSameKey, Ages, IsTrueEntry, IsNoted, entries_in}
 use Rattle.mt_chart.specs.Reading.{HasLooked, HasRight, AreNoted, HasOrder, StandsBefore, StandsAfter, AreBefore, Stops, at_end, is_after, is_other}
-use Rattle.mt_chart.proofs.HeldNodes.{border_is_on, holds_link}
+use Rattle.mt_chart.proofs.HeldNodes.{border_is_on, known_link}
 use Rattle.mt_chart.proofs.Keys.{holds_slice, in_interval}
 use Rattle.mt_chart.proofs.NotedLemmas.{quiet_before, noted_slots_stay}
 use Rattle.mt_chart.proofs.Reach.{has}
@@ -93,7 +93,7 @@ module _ (show : Row → Row) (arena : Arena) (chart : Chart) (tree : IsTree are
   true_now : (slot : SlotSeen) → Among slot.entry f.node.entries → IsTrueEntry show chart begun (arena ∷ past) prefix slot.entry
   true_now slot there = record {
     row = λ place row holds. inl (row, has arena chart tree (under prefix place) row (record { prefix = prefix; number = number; node = f.node; entry = slot.entry; place = place; on_border = on_border; live = there; holds = holds; is_key = refl }), refl);
-    link = λ head slice is. holds_link arena chart tree begun number slice slot.entry.slice head prefix f.node on_border (subst (λ c. Among (record { slice = slot.entry.slice; content = c }) f.node.entries) is there);
+    link = λ head is. known_link arena chart tree begun number slot.entry.slice head prefix f.node on_border (subst (λ c. Among (record { slice = slot.entry.slice; content = c }) f.node.entries) is there);
   }
 
   noted_now : (slots : AreSlots f) (quiet : f.splitting ≡ false) (numbers : List ℕ) → ((k : ℕ) → Among k numbers → (f.held k ≡ true) × (f.lives k ≡ true)) → AreNoted show chart begun (arena ∷ past) prefix f (map f.slot numbers) numbers

@@ -3,11 +3,11 @@ use Rattle.std.proofs.Common.{ℕ, suc, ◌≡◌, ◌<◌, ◌≤◌, ◌+◌, 
 use Rattle.mt_slice.specs.Place.{Place}
 use Rattle.mt_types.specs.declared.row.Row.{Row}
 use Rattle.mt_chart.specs.Tree.{PlainEntry, Right, border, Arena}
-use Rattle.mt_chart.specs.Chart.{at_level, Chart, Holds, IsTree, Evolves}
+use Rattle.mt_chart.specs.Chart.{top, at_level, Chart, Holds, IsTree, Evolves}
 use Rattle.mt_chart.specs.Walk.{below_top, Known, Trail, climbs}
 use Rattle.mt_chart.specs.Noted.{FieldsSeen, AreSlots, Counters, IsQuiet, HasComeTo, KeepsSlot, Ages, entries_in}
 use Rattle.mt_chart.specs.Reading.{Searches, HasRowKey, HasLinkKey, AllTrue, Lists}
-use Rattle.mt_chart.proofs.HeldNodes.{holds_kept}
+use Rattle.mt_chart.proofs.Walk.{known_kept}
 use Rattle.mt_chart.proofs.NotedLemmas.{quiet_before}
 use Rattle.mt_chart.proofs.ReadingLemmas.{same_key, order_stays, slot_stays}
 use Rattle.mt_chart.proofs.Rise.{at_height, up_right}
@@ -49,7 +49,7 @@ module _ (show : Row → Row) (begun number : ℕ) (chart next : Chart) (after :
   true_stays : (entries : List PlainEntry) → AllTrue show chart begun past prefix entries → AllTrue show next begun (after ∷ past) prefix entries
   true_stays entries all entry i = record {
     row = λ place row holds. inr ((all entry i).row place row holds);
-    link = λ head slice is. holds_kept begun head (entry.slice ∷ prefix) slice chart next evolves ((all entry i).link head slice is);
+    link = λ head is. known_kept begun head top (entry.slice ∷ prefix) 0 chart next evolves ((all entry i).link head is);
   }
 
   pub lists_stay : (noted : Option Right) (numbers : List ℕ) (place : ℕ) (kept : List PlainEntry) → (IsQuiet v f → Lists show chart begun past prefix f noted numbers place kept)

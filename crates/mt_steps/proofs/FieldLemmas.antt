@@ -29,9 +29,9 @@ use Rattle.mt_chart.specs.ScanRun.{Stood, Lacked}
 use Rattle.mt_chart.specs.Noted.{FieldsSeen}
 use Rattle.mt_chart.specs.Reading.{Searches, Stops, row_in}
 use Rattle.mt_chart.proofs.ReadingStay.{right_held, climbs_right, searches_stay, ages_none, row_key_stays, link_key_stays, climbs_below}
-use Rattle.mt_chart.proofs.HeldNodes.{evolves_same}
+use Rattle.mt_chart.proofs.HeldNodes.{evolves_same, known_holds}
 use Rattle.mt_chart.proofs.ReadingLemmas.{lacks}
-use Rattle.mt_chart.proofs.ReadingKeys.{stops_at_end, row_stood, no_row_under_link, link_held}
+use Rattle.mt_chart.proofs.ReadingKeys.{stops_at_end, row_stood, no_row_under_link, link_known}
 use Rattle.mt_tree.specs.Seen.{arena_seen, border_seen, right_seen, content_seen}
 use Rattle.mt_tree.specs.Fields.{fields_seen}
 use Rattle.mt_tree.specs.declared.visit.Visit.{Visit}
@@ -214,7 +214,7 @@ module _ (a : ArenaView) (now : ℕ) (w : World) (world : IsWorld a now w) (begu
               settles_none at_value few_made (λ still. absurd (no_row_under_link (shown asked) w.chart begun (arena_seen a ∷ arenas) prefix f n slice (link_later has still) row.now (row_seen here.content row is)))
           go RowKind (LinkPart head) deep has is = on_border counters at
           go LinkKind (LinkPart head) deep has is = (
-            (at, deep, (λ still sought. link_held (shown asked) w.chart begun (arena_seen a ∷ arenas) prefix f n slice (link_later has still) head.0 (link_seen here.content head is) sought)),
+            (at, deep, (λ still. link_known (shown asked) w.chart begun (arena_seen a ∷ arenas) prefix f n slice (link_later has still) head.0 (link_seen here.content head is))),
             few_made,
           )
 
@@ -226,12 +226,12 @@ module _ (a : ArenaView) (now : ℕ) (w : World) (world : IsWorld a now w) (begu
         told : (sight : Sight) → Fits key way sight → SightIsTrue key asked way sight begun arenas w → LeadsTo key asked way (Settles counters sight) begun past a w (Finds sight)
         told AbsentSight fits lacked = (bytes, lacked)
         told (RowSight row) fits stood = (bytes, stood)
-        told (LinkSight head) long held = record {
+        told (LinkSight head) long known = record {
           on = record {
             layer = layer_below key way head long at.layer;
-            held = subst (λ (m : ℕ). Holds w.chart begun head.0 (slices_above m key) (slice_number (rest_at m key))) (sym (add-one way.layer)) (held (slice_number (rest_at (suc way.layer) key)));
+            held = subst (λ (m : ℕ). Holds w.chart begun head.0 (slices_above m key) (slice_number (rest_at m key))) (sym (add-one way.layer)) (known_holds w.chart begun head.0 (slice ∷ prefix) known (slice_number (rest_at (suc way.layer) key)));
           };
-          climbs = λ made trail. climbs_below w.chart begun way.node.0 prefix at.here.b.low at.here.looked.known at.here.fits head.0 slice (held 0) made trail;
+          climbs = λ made trail. climbs_below w.chart begun way.node.0 prefix at.here.b.low at.here.looked.known at.here.fits head.0 slice (known_holds w.chart begun head.0 (slice ∷ prefix) known 0) made trail;
         }
 
   -- ---- a head or an interior node, whole

@@ -7,9 +7,10 @@ use Rattle.mt_slice.specs.Place.{place_of, slice_number}
 use Rattle.mt_border.specs.Border.{BorderView}
 use Rattle.mt_arena.specs.Arena.{ArenaView}
 use Rattle.mt_chart.specs.Tree.{Arena, border}
-use Rattle.mt_chart.specs.Chart.{Evolves}
+use Rattle.mt_chart.specs.Chart.{top, Evolves}
 use Rattle.mt_chart.specs.Walk.{others}
 use Rattle.mt_chart.proofs.HeldNodes.{holds_kept}
+use Rattle.mt_chart.proofs.Walk.{known_kept}
 use Rattle.mt_chart.proofs.ReadingStay.{searches_stay, row_key_stays, link_key_stays}
 use Rattle.mt_tree.specs.Seen.{arena_seen, border_seen, right_seen}
 use Rattle.mt_tree.specs.Fields.{fields_seen, BorderAges}
@@ -69,9 +70,9 @@ module _ (a after : ArenaView) (now : ℕ) (w next : World) (world : IsWorld aft
   sight_stays : (sight : Sight) → SightIsTrue key asked way sight begun (arena_seen a ∷ past) w → SightIsTrue key asked way sight begun (arena_seen after ∷ (arena_seen a ∷ past)) next
   sight_stays AbsentSight lacked = inr lacked
   sight_stays (RowSight row) stood = inr stood
-  sight_stays (LinkSight head) held = λ sought. holds_kept begun head.0 (slice ∷ prefix) sought w.chart next.chart evolves (held sought)
+  sight_stays (LinkSight head) known = known_kept begun head.0 top (slice ∷ prefix) 0 w.chart next.chart evolves known
 
-  finding_stays : (finding : Finding) → FindingIsTrue key asked way finding begun (arena_seen a ∷ past) a w → FindingIsTrue key asked way finding begun (arena_seen after ∷ (arena_seen a ∷ past)) after next
+  pub finding_stays : (finding : Finding) → FindingIsTrue key asked way finding begun (arena_seen a ∷ past) a w → FindingIsTrue key asked way finding begun (arena_seen after ∷ (arena_seen a ∷ past)) after next
   finding_stays Begins stands = record { layer = stands.layer; held = holds_kept begun way.node.0 _ _ w.chart next.chart evolves stands.held }
   finding_stays (Looked counters) at = border_stays counters at
   finding_stays (Bounded counters right) (at, bound) = (border_stays counters at, bound_stays a after now w next world age begun evolves prefix slice way.node.0 counters at.here right bound)

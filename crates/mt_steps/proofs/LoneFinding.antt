@@ -84,7 +84,7 @@ FindGoes a number (Finds (RowSight row)) = Unit {0}
 FindGoes a number _ = ⊥
 
 -- ---- at a head or an interior node
-visit_goes : (a : ArenaView) (number : ℕ) (visit : Visit) → VisitMoves a number visit → FindGoes a number (by_visit visit)
+pub visit_goes : (a : ArenaView) (number : ℕ) (visit : Visit) → VisitMoves a number visit → FindGoes a number (by_visit visit)
 visit_goes a number (VisitTo next) moves = moves
 visit_goes a number VisitAgain moves = moves
 visit_goes a number (VisitBelow head) moves = absurd moves
@@ -92,10 +92,10 @@ visit_goes a number VisitHere moves = moves
 
 -- ---- at a border that is not marked deleted, and not locked
 module _ (a : ArenaView) (number : ℕ) (b : BorderView) (named : border_at a.nodes number ≡ Some b) (sound : IsBorder b) (alive : b.version.deleted ≡ false) (unlocked : b.version.locked ≡ false) where
-  goes_looked : FindGoes a number (looked b.version)
+  pub goes_looked : FindGoes a number (looked b.version)
   goes_looked = looked_by (FindGoes a number) b.version (λ is. never alive is) (λ set. never (unflagged b sound unlocked) set) (λ on. (b, record { named = named; counted = refl }))
 
-  goes_bounded : (slice : ℕ) (counters : Counters) → IsNow a number counters b → FindGoes a number (bounded slice counters b.right)
+  pub goes_bounded : (slice : ℕ) (counters : Counters) → IsNow a number counters b → FindGoes a number (bounded slice counters b.right)
   goes_bounded slice counters now = bounded_by (FindGoes a number) slice counters b.right (λ next is least. right_moves a number b named sound alive next is) (λ below. (b, now))
 
   goes_next : (notes : FindNotes) → IsNow a number notes.glance.counters b → notes.glance.order ≡ b.order → FindGoes a number (next_key notes)

@@ -16,7 +16,6 @@ use Rattle.mt_arena.specs.Arena.{ArenaView}
 use Rattle.mt_arena.specs.Node.{node_at}
 use Rattle.mt_arena.specs.declared.part.Part.{Part}
 use Rattle.mt_chart.specs.Tree.{Arena}
-use Rattle.mt_chart.specs.Chart.{Holds}
 use Rattle.mt_chart.specs.Walk.{Trail}
 use Rattle.mt_chart.specs.ScanRun.{Stood, Lacked}
 use Rattle.mt_chart.specs.Reading.{Searches, HasRowKey, HasLinkKey}
@@ -38,7 +37,7 @@ use Rattle.mt_steps.specs.Finding.{Finding, FindReading, find_reading, FindingWa
 use Rattle.mt_steps.specs.Causes.{TakesMemory}
 use Rattle.mt_steps.specs.World.{World}
 use Rattle.mt_steps.specs.Standing.{Lends, StandsAt, Still, IsBounded}
-use Rattle.mt_steps.specs.Way.{IsLayerOf, IsOnWay, prefix_of, rest_of, start}
+use Rattle.mt_steps.specs.Way.{IsHeadOf, IsLayerOf, IsOnWay, prefix_of, rest_of, start}
 
 abbrev pub get_request : Get → Request
 get_request get = GetRequest get.key get.columns
@@ -80,13 +79,13 @@ HasBound key way counters b right begun w = IsBounded (prefix_of key way) (slice
 abbrev pub IsPlaceOf : Slots → ℕ → Type 0
 IsPlaceOf order place = (place < length order.live) × (length order.live ≤ SLOTS)
 
--- what it has found, if the border is still quiet: no row at some moment, the row of some moment, or the held head of
--- the layer in which its key continues
+-- what it has found, if the border is still quiet: no row at some moment, the row of some moment, or the head of the layer
+-- in which its key continues
 abbrev pub SightIsTrue : List ℕ → List ℕ → Way → Sight → ℕ → List Arena → World → Type 0
 SightIsTrue key asked way AbsentSight begun arenas w = Lacked arenas (place_of key)
 SightIsTrue key asked way (RowSight row) begun arenas w = Stood (shown asked) arenas (place_of key) row
-SightIsTrue key asked way (LinkSight head) begun arenas w = (sought : ℕ)
-    → Holds w.chart begun head.0 (slice_number (rest_of key way) ∷ prefix_of key way) sought
+SightIsTrue key asked way (LinkSight head) begun arenas w =
+    IsHeadOf w begun head.0 (slice_number (rest_of key way) ∷ prefix_of key way)
 
 -- only a key that continues past its slice leads below
 abbrev pub Fits : List ℕ → Way → Sight → Type 0

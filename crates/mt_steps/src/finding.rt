@@ -106,8 +106,8 @@ fn value(
     }
 }
 
-// Returns what a get does after it has read the order. Constant cost.
-fn at_order(finding: Finding, order: Permutation) -> FindReading
+/// Returns what a get does after it has read the order. Constant cost.
+pub fn at_order(finding: Finding, order: Permutation) -> FindReading
     requires { WantsOrder finding }
     ensures { result ≡ at_order finding order }
 {
@@ -118,10 +118,10 @@ fn at_order(finding: Finding, order: Permutation) -> FindReading
     })
 }
 
-// Returns what a get does after it has read the key of a slot. `rest` is what the layers above have left of the key
-// sought. The get reads keys up to the first that isn't before that. While a layer is being made of a key, it waits.
-// Costs a look at what follows its slice.
-fn at_key(finding: Finding, part: &KeyPart<'_>, rest: &[u8]) -> FindReading
+/// Returns what a get does after it has read the key of a slot. `rest` is what the layers above have left of the key
+/// sought. The get reads keys up to the first that isn't before that. While a layer is being made of a key, it waits.
+/// Costs a look at what follows its slice.
+pub fn at_key(finding: Finding, part: &KeyPart<'_>, rest: &[u8]) -> FindReading
     requires { WantsKey finding }
     ensures value { result ≡ at_key finding part.now rest.now }
     ensures on { IsOn result ⊎ (part.now.mark ≡ Unstable) }
