@@ -1,19 +1,15 @@
 -- The steps that take an empty layer out.
-use Rattle.std.proofs.Common.{ℕ, ◌≡◌, ◌≢◌, ◌⊎◌, inl, inr, List, [], ◌∷◌, slice_get, Option, Some, None, IsSome, true, false, refl, sym, ap, subst, ◌∙◌, arith}
+use Rattle.std.proofs.Common.{ℕ, ◌≡◌, ◌≢◌, ◌⊎◌, inl, inr, List, [], ◌∷◌, Option, Some, IsSome, true, false, refl, sym, ap, subst, ◌∙◌, arith}
 use Rattle.std.specs.Prelude.{IsSomeAnd}
 use Rattle.std.specs.Option.{option_and_then}
 use Rattle.std.proofs.lemmas.List.Elements.{All-push}
 use Rattle.mt_types.specs.declared.numbers.NodeNo.{NodeNo}
 use Rattle.mt_types.specs.declared.event.Answer.TheVariants.{Tidied}
 use Rattle.mt_types.specs.declared.event.TidyRule.TheVariants.{EmptyLayer as LayerRule}
-use Rattle.mt_slice.specs.Place.{slices_above}
-use Rattle.mt_border.specs.Border.{BorderView, with_locked, with_unlocked, with_deleted}
-use Rattle.mt_border.specs.Order.{IsBorder}
-use Rattle.mt_border.proofs.BorderLemmas.{unlocked_written}
-use Rattle.mt_border.specs.declared.entry.Content.TheVariants.{Link}
+use Rattle.mt_border.specs.Border.{BorderView, with_unlocked, with_deleted}
 use Rattle.mt_interior.specs.Head.{HeadView}
 use Rattle.mt_interior.specs.Head.{with_deleted as head_deleted}
-use Rattle.mt_arena.specs.Node.{node_at, head_at, border_at, border_of}
+use Rattle.mt_arena.specs.Node.{head_at, border_at, border_of}
 use Rattle.mt_arena.specs.Arena.{ArenaView, with_head_changed, with_border_changed, with_retired}
 use Rattle.mt_arena.specs.declared.node.Node.{Node}
 use Rattle.mt_arena.specs.declared.retired.Retired.{Retired}
@@ -22,135 +18,50 @@ use Rattle.mt_chart.specs.Tree.{Among, first, later}
 use Rattle.mt_chart.specs.Chart.{top, at_level, on, gone, Spot, spot, Holds}
 use Rattle.mt_chart.specs.Steps.{SameContent}
 use Rattle.mt_chart.proofs.Entries.{among_cases}
-use Rattle.mt_chart.proofs.HeldNodes.{border_is_on, evolves_same}
-use Rattle.mt_tree.specs.Seen.{arena_seen, border_seen}
-use Rattle.mt_tree.specs.Keeping.{KeepsTree, IsOnIn}
-use Rattle.mt_tree.proofs.SeenLemmas.{seen-border}
+use Rattle.mt_chart.proofs.HeldNodes.{evolves_same}
+use Rattle.mt_tree.specs.Seen.{arena_seen}
+use Rattle.mt_tree.specs.Keeping.{KeepsTree}
 use Rattle.mt_steps.specs.declared.progress.Progress.TheVariants.{Moved, Answered}
-use Rattle.mt_steps.specs.World.{World, IsWorld, IsLocked, NotAmong, Goes}
+use Rattle.mt_steps.specs.World.{World, IsLocked, Goes}
 use Rattle.mt_steps.specs.Way.{prefix_of}
 use Rattle.mt_steps.proofs.LayerLemmas.{head_apart}
-use Rattle.mt_tree.proofs.AgeLemmas.{ages_locked, ages_unlocked, ages_deleted}
+use Rattle.mt_tree.proofs.AgeLemmas.{ages_unlocked, ages_deleted}
 use Rattle.mt_steps.proofs.AgingLemmas.{age_same, age_one}
-use Rattle.mt_steps.proofs.BorderLemmas.{alive_changed, keys_same, now_named, others_named, goes_border, heads_changed, twins_changed, unlocked_free, unlocked_root, mine_free, locked_may, locked_kept, on_kept, among_one}
+use Rattle.mt_steps.proofs.BorderLemmas.{alive_changed, keys_same, now_named, others_named, goes_border, heads_changed, twins_changed, mine_free, locked_kept, on_kept, among_one}
 use Rattle.mt_steps.proofs.NodeLemmas.{known_some, root_place, head_there}
 use Rattle.mt_steps.proofs.RetireLemmas.{goes_retired}
 use Rattle.mt_remove.specs.declared.tidy.Tidy.{Tidy}
 use Rattle.mt_remove.specs.declared.stage.Layer.{Layer}
-use Rattle.mt_remove.specs.declared.stage.Stage.TheVariants.{RootLocked, AboveLocked, HeadMarked, RootMarked, LinkHidden, LayerGone, RootRetired, KeepsLayer, KeepsBorder}
-use Rattle.mt_remove.specs.Seen.{link_place}
-use Rattle.mt_remove.specs.Tidy.{StageIsTrue, IsGoneHead, MayTidy}
-use Rattle.mt_remove.specs.Follows.{IsRootOf, rest_above, LocksAbove, TidyStep}
-use Rattle.mt_remove.proofs.StageLemmas.{at_stage, true_at, law_same, same_content, holds_known, known_there, IsSeenBorder, border_named, link_seen, some_by}
-use Rattle.mt_remove.proofs.LayerFacts.{root_locked, above_locked, same_border, layer_apart, root_beside, above_beside, head_beside, gone_beside, gone_head_beside}
+use Rattle.mt_remove.specs.declared.stage.Stage.TheVariants.{LinkFound, HeadMarked, RootMarked, LinkHidden, LayerGone, RootRetired, KeepsLayer, KeepsBorder}
+use Rattle.mt_remove.specs.Tidy.{StageIsTrue, MayTidy}
+use Rattle.mt_remove.specs.Locked.{IsGoneHead}
+use Rattle.mt_remove.specs.Follows.{IsRootOf, TidyStep}
+use Rattle.mt_remove.proofs.StageLemmas.{at_stage, true_at, law_same, same_content}
+use Rattle.mt_remove.proofs.LayerFacts.{root_locked, above_locked, layer_apart, above_beside, head_beside, gone_beside, gone_head_beside}
+use Rattle.mt_remove.proofs.ReleaseLemmas.{unlocked_one, goes_unlocked}
 use Rattle.mt_remove.proofs.ClosingGoes.{head_now, border_same, goes_marked}
 
--- ---- a border is unlocked, and the call owns the others still
-abbrev unlocked_one : BorderView → BorderView
-unlocked_one b = with_unlocked b
-
-goes_unlocked : (epoch : ℕ) (a : ArenaView) (w : World) (n : ℕ) (b : BorderView) → border_at a.nodes n ≡ Some b → b.version.locked ≡ true → b.version.deleted ≡ false → NotAmong n w.closing → IsSome (w.chart n) → (rest : List ℕ) → NotAmong n rest → IsWorld a epoch w → (after : ArenaView) → after ≡ with_border_changed a n unlocked_one → KeepsTree a after
-    → (Then : ArenaView → World → Type 0) → Then (with_border_changed a n unlocked_one) w → Goes epoch a after w (n ∷ rest) rest (Then after) × SameContent (arena_seen a) (arena_seen after)
-goes_unlocked epoch a w n b named locked alive free known rest once world after value keeps Then truth =
-    let new : ArenaView = with_border_changed a n unlocked_one in
-    let kept = (subst (λ (x : ArenaView). KeepsTree a x) value keeps).keeps epoch w.twins w.chart world.index in
-    subst (λ (x : ArenaView). Goes epoch a x w (n ∷ rest) rest (Then x) × SameContent (arena_seen a) (arena_seen x)) (sym value) (
-      goes_border a n b unlocked_one named epoch w (n ∷ rest) rest (Then new) world (λ known. (ages_unlocked b, inr refl)) kept.index (keys_same a new kept.content world.keys) (mine_free a n w (n ∷ rest) first) (λ other i. inl (later i))
-          (λ other ne i. elim (among_cases other n rest i) [ inl e ↦ absurd (ne e) | inr j ↦ j ])
-          (λ taken. absurd (elim taken [ inl held ↦ (let clash : false ≡ true = held in cc) | inr none ↦ (let some : IsSome (let nothing : Option Spot = None in nothing) = subst (λ (x : Option Spot). IsSome x) none known in cc) ]))
-          (locked_may a n b unlocked_one named epoch w world locked free (inr alive)) truth,
-      kept.content,
-    )
-
--- ---- the border above is locked
-module _ (epoch : ℕ) (a : ArenaView) (tidy : Tidy) (root head above : NodeNo) (is : tidy.stage ≡ RootLocked root head above) where
-  abbrev n : ℕ
-  n = above.0
-
-  pub above_there : MayTidy epoch a tidy → IsSome (node_at a.nodes n)
-  above_there may = let t = true_at epoch a tidy (RootLocked root head above) is may in let (upper, deeper, known) = t.known in known_there a epoch may.begun may.w n (slices_above upper tidy.key) may.world known
-
-  -- it has not the link any more
-  pub lost_link : IsSomeAnd (node_at a.nodes n) (λ node. None ≡ link_place (rest_above tidy) node head) → TidyStep epoch a a tidy Moved (record tidy { stage = KeepsBorder root })
-  lost_link none = at_stage epoch a a tidy (RootLocked root head above) Moved (record tidy { stage = KeepsBorder root }) is refl refl
-      (law_same epoch a tidy (RootLocked root head above) Moved (record tidy { stage = KeepsBorder root }) refl (λ begun w world t. root_locked a w root.0 t.border t.alive t.free)) tt tt
-      (some_by (node_at a.nodes n) _ _ (λ node e. subst (λ (o : Option ℕ). LocksAbove tidy root head above o Moved (record tidy { stage = KeepsBorder root })) e (refl, refl)) none)
-
-  module _ (place : ℕ) (found : IsSomeAnd (node_at a.nodes n) (λ node. Some place ≡ link_place (rest_above tidy) node head)) where
-    seen : IsSeenBorder (node_at a.nodes n)
-    seen = link_seen (node_at a.nodes n) (rest_above tidy) head place found
-
-    abbrev b : BorderView
-    b = seen.b
-
-    b_named : border_at a.nodes n ≡ Some b
-    b_named = border_named a n seen
-
-    abbrev lock : BorderView → BorderView
-    lock x = with_locked x
-
-    abbrev new : ArenaView
-    new = with_border_changed a n lock
-
-    abbrev layer : Layer
-    layer = record { above = above; place = place; head = head; root = root }
-
-    pub locks_above : (slice : ℕ) (after : ArenaView) → IsSomeAnd (border_at a.nodes n) IsBorder → IsSomeAnd (border_at a.nodes n) (λ x. slice_get x.live place ≡ Some (record { slice = slice; content = Link head })) → after ≡ new → KeepsTree a after → TidyStep epoch a after tidy Moved (record tidy { stage = AboveLocked layer })
-    unfolding root_beside
-    locks_above slice after whole linked value keeps = at_stage epoch a after tidy (RootLocked root head above) Moved (record tidy { stage = AboveLocked layer }) is refl (ap (λ (x : ArenaView). x.retired) value) (record {
-      steps = λ begun w world before t.
-          let (upper, deeper, known) = t.known in
-          let (on_border, low) = border_is_on (arena_seen a) w.chart world.index.tree begun n known.low (slices_above upper tidy.key) (border_seen b) (holds_known begun w n (slices_above upper tidy.key) known) (seen-border a n b b_named) seen.alive in
-          let sound : IsBorder b = subst (λ (o : Option BorderView). IsSomeAnd o IsBorder) b_named whole in
-          let stands : IsOnIn w.chart n (slices_above upper tidy.key) = record { low = b.low; posted = on_border.posted; place = on_border.place } in
-          let differ : root.0 ≢ n = λ e. clash_locked t.border.b t.border.locked (ap (λ (m : ℕ). border_at a.nodes m) (sym e) ∙ t.border.named) in
-          let kept = (subst (λ (x : ArenaView). KeepsTree a x) value keeps).keeps epoch w.twins w.chart world.index in
-          let Then : ArenaView → World → Type 0 = λ x next. StageIsTrue begun tidy.key tidy.way (AboveLocked layer) x next in
-          subst (λ (x : ArenaView). Goes epoch a x w (root.0 ∷ []) (n ∷ root.0 ∷ []) (Then x) × SameContent (arena_seen a) (arena_seen x)) (sym value) (
-            goes_border a n b lock b_named epoch w (root.0 ∷ []) (n ∷ root.0 ∷ []) (Then new) world (λ known. (ages_locked b, inr refl)) kept.index (keys_same a new kept.content world.keys)
-                (unlocked_free a n b lock b_named w (root.0 ∷ []) seen.unlocked (known_some w n _ stands.place))
-                (λ other i. elim (among_cases other n (root.0 ∷ []) i) [ inl e ↦ inr e | inr j ↦ inl j ]) (λ other ne i. later i) (λ locked. first)
-                (on_kept a epoch w.chart n _ _ _ _ stands.place world.retired, λ i. refl, alive_changed a n b lock b_named w.chart (inl refl)) (record {
-                  root = root_beside a w w n root.0 b lock b_named differ refl t.border;
-                  alive = t.alive;
-                  free = t.free;
-                  headed = t.headed;
-                  above = record {
-                    border = record { b = lock b; named = now_named a n b lock b_named; locked = refl; alive = seen.alive; written = unlocked_written b sound seen.unlocked; prefix = slices_above upper tidy.key; stands = stands; free = unlocked_root a w.closing w.chart n b b_named seen.unlocked world.heads };
-                    slice = slice;
-                    linked = subst (λ (o : Option BorderView). IsSomeAnd o (λ x. slice_get x.live place ≡ Some (record { slice = slice; content = Link head }))) b_named linked;
-                  };
-                }),
-            kept.content,
-          );
-    }) tt tt (some_by (node_at a.nodes n) _ _ (λ node e. subst (λ (o : Option ℕ). LocksAbove tidy root head above o Moved (record tidy { stage = AboveLocked layer })) e (refl, refl)) found)
-      where
-        clash_locked : (x : BorderView) → x.version.locked ≡ true → border_at a.nodes n ≡ Some x → ⊥
-        clash_locked x locked named =
-            let same = same_border a n b x b_named named in
-            let clash : false ≡ true = sym seen.unlocked ∙ (ap (λ (y : BorderView). y.version.locked) same ∙ locked) in
-            cc
-
 -- ---- the head is marked deleted
-module _ (epoch : ℕ) (a : ArenaView) (tidy : Tidy) (layer : Layer) (is : tidy.stage ≡ AboveLocked layer) where
+module _ (epoch : ℕ) (a : ArenaView) (tidy : Tidy) (layer : Layer) (is : tidy.stage ≡ LinkFound layer) where
   abbrev t : ℕ
   t = layer.head.0
 
   pub top_there : MayTidy epoch a tidy → IsSome (head_at a.nodes t)
-  top_there may = let k = true_at epoch a tidy (AboveLocked layer) is may in head_there a may.w may.begun t (prefix_of tidy.key tidy.way) epoch may.world k.headed
+  top_there may = let k = true_at epoch a tidy (LinkFound layer) is may in head_there a may.w may.begun t (prefix_of tidy.key tidy.way) epoch may.world k.headed
 
   -- the border is not its root any more
-  pub lost_root : (h : HeadView) → head_at a.nodes t ≡ Some h → (IsRootOf layer.root h → ⊥) → TidyStep epoch a a tidy Moved (record tidy { stage = KeepsLayer layer })
-  lost_root h named lost = at_stage epoch a a tidy (AboveLocked layer) Moved (record tidy { stage = KeepsLayer layer }) is refl refl
-      (law_same epoch a tidy (AboveLocked layer) Moved (record tidy { stage = KeepsLayer layer }) refl (λ begun w world k. (above_locked a w layer.above.0 k.above.border, root_locked a w layer.root.0 k.root k.alive k.free, layer_apart a w layer k.root k.above))) tt tt
-      (subst (λ (o : Option HeadView). IsSomeAnd o (λ v. (IsRootOf layer.root v × ((Moved ≡ Moved) × (record tidy { stage = KeepsLayer layer } ≡ record tidy { stage = HeadMarked layer }))) ⊎ ((IsRootOf layer.root v → ⊥) × ((Moved ≡ Moved) × (record tidy { stage = KeepsLayer layer } ≡ record tidy { stage = KeepsLayer layer }))))) (sym named) (inr (lost, (refl, refl))))
+  pub lost_root : (h : HeadView) → head_at a.nodes t ≡ Some h → (IsRootOf layer.root h → ⊥) → TidyStep epoch a a tidy Moved (record tidy { stage = KeepsLayer layer.above layer.root })
+  lost_root h named lost = at_stage epoch a a tidy (LinkFound layer) Moved (record tidy { stage = KeepsLayer layer.above layer.root }) is refl refl
+      (law_same epoch a tidy (LinkFound layer) Moved (record tidy { stage = KeepsLayer layer.above layer.root }) refl (λ begun w world k. (above_locked a w layer.above.0 k.above.border, root_locked a w layer.root.0 k.root k.alive k.free, layer_apart a w layer k.root k.above))) tt tt
+      (subst (λ (o : Option HeadView). IsSomeAnd o (λ v. (IsRootOf layer.root v × ((Moved ≡ Moved) × (record tidy { stage = KeepsLayer layer.above layer.root } ≡ record tidy { stage = HeadMarked layer }))) ⊎ ((IsRootOf layer.root v → ⊥) × ((Moved ≡ Moved) × (record tidy { stage = KeepsLayer layer.above layer.root } ≡ record tidy { stage = KeepsLayer layer.above layer.root }))))) (sym named) (inr (lost, (refl, refl))))
 
   module _ (h : HeadView) (named : head_at a.nodes t ≡ Some h) (root : IsRootOf layer.root h) where
     root_named : (b : BorderView) → border_at a.nodes layer.root.0 ≡ Some b → border_at a.nodes h.root.0 ≡ Some b
     root_named b is_b = ap (λ (m : NodeNo). border_at a.nodes m.0) root.1 ∙ is_b
 
     pub marks_head : (after : ArenaView) → after ≡ with_head_changed a t head_deleted → KeepsTree a after → TidyStep epoch a after tidy Moved (record tidy { stage = HeadMarked layer })
-    marks_head after value keeps = at_stage epoch a after tidy (AboveLocked layer) Moved (record tidy { stage = HeadMarked layer }) is refl (ap (λ (x : ArenaView). x.retired) value) (record {
+    marks_head after value keeps = at_stage epoch a after tidy (LinkFound layer) Moved (record tidy { stage = HeadMarked layer }) is refl (ap (λ (x : ArenaView). x.retired) value) (record {
+      reads = tt;
       steps = λ begun w world before k.
           let prefix = prefix_of tidy.key tidy.way in
           let new : ArenaView = with_head_changed a t head_deleted in
@@ -158,7 +69,7 @@ module _ (epoch : ℕ) (a : ArenaView) (tidy : Tidy) (layer : Layer) (is : tidy.
           let (stands, is_root) = root_place a w.chart begun t 0 prefix h world.index.tree held named root.0 in
           let owned : List ℕ = layer.above.0 ∷ layer.root.0 ∷ [] in
           let owns : List ℕ = layer.above.0 ∷ layer.root.0 ∷ t ∷ [] in
-          let Then : ArenaView → World → Type 0 = λ x next. StageIsTrue begun tidy.key tidy.way (HeadMarked layer) x next in
+          let Then : ArenaView → World → Type 0 = λ x next. StageIsTrue begun tidy.key tidy.way tidy.finding (HeadMarked layer) x next in
           subst (λ (x : ArenaView). Goes epoch a x w owned owns (Then x) × SameContent (arena_seen a) (arena_seen x)) (sym value) (
           goes_marked a t h named epoch w prefix k.root.b owned owns (Then new) world stands root.0 (root_named k.root.b k.root.named) k.root.locked (subst (λ (m : NodeNo). Among m.0 owned) (sym root.1) (later first))
           (subst (λ (x : ArenaView). KeepsTree a x) value keeps) more (later (later first)) fewer (record {
@@ -192,7 +103,7 @@ module _ (epoch : ℕ) (a : ArenaView) (tidy : Tidy) (layer : Layer) (is : tidy.
             stands = stands;
           })
           );
-    }) tt tt (subst (λ (o : Option HeadView). IsSomeAnd o (λ v. (IsRootOf layer.root v × ((Moved ≡ Moved) × (record tidy { stage = HeadMarked layer } ≡ record tidy { stage = HeadMarked layer }))) ⊎ ((IsRootOf layer.root v → ⊥) × ((Moved ≡ Moved) × (record tidy { stage = HeadMarked layer } ≡ record tidy { stage = KeepsLayer layer }))))) (sym named) (inl (root, (refl, refl))))
+    }) tt tt (subst (λ (o : Option HeadView). IsSomeAnd o (λ v. (IsRootOf layer.root v × ((Moved ≡ Moved) × (record tidy { stage = HeadMarked layer } ≡ record tidy { stage = HeadMarked layer }))) ⊎ ((IsRootOf layer.root v → ⊥) × ((Moved ≡ Moved) × (record tidy { stage = HeadMarked layer } ≡ record tidy { stage = KeepsLayer layer.above layer.root }))))) (sym named) (inl (root, (refl, refl))))
       where
         more : (other : ℕ) → Among other (layer.above.0 ∷ layer.root.0 ∷ []) → Among other (layer.above.0 ∷ layer.root.0 ∷ t ∷ [])
         more other first = first
@@ -210,6 +121,7 @@ module _ (epoch : ℕ) (a : ArenaView) (tidy : Tidy) (layer : Layer) (is : tidy.
   pub marks_root : (after : ArenaView) → after ≡ with_border_changed a layer.root.0 with_deleted → KeepsTree a after → TidyStep epoch a after tidy Moved (record tidy { stage = RootMarked layer })
   unfolding head_beside
   marks_root after value keeps = at_stage epoch a after tidy (HeadMarked layer) Moved (record tidy { stage = RootMarked layer }) is refl (ap (λ (x : ArenaView). x.retired) value) (record {
+    reads = tt;
     steps = λ begun w world before k.
         let n : ℕ = layer.root.0 in
         let b : BorderView = k.root.b in
@@ -217,7 +129,7 @@ module _ (epoch : ℕ) (a : ArenaView) (tidy : Tidy) (layer : Layer) (is : tidy.
         let new : ArenaView = with_border_changed a n with_deleted in
         let owned : List ℕ = layer.above.0 ∷ n ∷ layer.head.0 ∷ [] in
         let kept = (subst (λ (x : ArenaView). KeepsTree a x) value keeps).keeps epoch w.twins w.chart world.index in
-        let Then : ArenaView → World → Type 0 = λ x next. StageIsTrue begun tidy.key tidy.way (RootMarked layer) x next in
+        let Then : ArenaView → World → Type 0 = λ x next. StageIsTrue begun tidy.key tidy.way tidy.finding (RootMarked layer) x next in
         subst (λ (x : ArenaView). Goes epoch a x w owned owned (Then x) × SameContent (arena_seen a) (arena_seen x)) (sym value) (
           goes_border a n b with_deleted named epoch w owned owned (Then new) world (λ known. (ages_deleted b, inr refl)) kept.index (keys_same a new kept.content world.keys) (mine_free a n w owned (later first)) (λ other i. inl i) (λ other ne i. i) (λ locked. later first)
               (locked_kept a epoch w.chart n (subst (λ (x : Option Node). IsLocked x) (sym (node-from_border a.nodes n b named)) k.root.locked) world.retired, λ i. k.root.locked, alive_changed a n b with_deleted named w.chart (inl k.root.locked)) (
@@ -239,6 +151,7 @@ module _ (epoch : ℕ) (a : ArenaView) (tidy : Tidy) (layer : Layer) (is : tidy.
 module _ (epoch : ℕ) (a : ArenaView) (tidy : Tidy) (layer : Layer) (is : tidy.stage ≡ LinkHidden layer) where
   pub unlocks_above : (after : ArenaView) → after ≡ with_border_changed a layer.above.0 unlocked_one → KeepsTree a after → TidyStep epoch a after tidy Moved (record tidy { stage = LayerGone layer.root layer.head })
   unlocks_above after value keeps = at_stage epoch a after tidy (LinkHidden layer) Moved (record tidy { stage = LayerGone layer.root layer.head }) is refl (ap (λ (x : ArenaView). x.retired) value) (record {
+    reads = tt;
     steps = λ begun w world before truth.
         let (u, g, k) = truth in
         let n : ℕ = layer.above.0 in
@@ -246,7 +159,7 @@ module _ (epoch : ℕ) (a : ArenaView) (tidy : Tidy) (layer : Layer) (is : tidy.
         goes_unlocked epoch a w n u.b u.named u.locked u.alive u.free (known_some w n _ u.stands.place) (layer.root.0 ∷ layer.head.0 ∷ []) (λ i. elim (among_cases n layer.root.0 (layer.head.0 ∷ []) i) [
           | inl e ↦ differ (sym e)
           | inr j ↦ head_apart a layer.head.0 n k.head.h u.b k.head.named u.named (among_one n layer.head.0 j)
-        ]) world after value keeps (λ x next. StageIsTrue begun tidy.key tidy.way (LayerGone layer.root layer.head) x next)
+        ]) world after value keeps (λ x next. StageIsTrue begun tidy.key tidy.way tidy.finding (LayerGone layer.root layer.head) x next)
         (gone_beside a w n layer.root.0 u.b unlocked_one u.named differ g, gone_head_beside a w n layer.head.0 u.b unlocked_one u.named k);
   }) tt tt (refl, refl)
     where
@@ -260,6 +173,7 @@ module _ (epoch : ℕ) (a : ArenaView) (tidy : Tidy) (root head : NodeNo) (is : 
 
   pub retires_root : (mid after : ArenaView) → mid ≡ with_border_changed a root.0 unlock → KeepsTree a mid → after ≡ with_retired mid root epoch → KeepsTree mid after → TidyStep epoch a after tidy Moved (record tidy { stage = RootRetired head })
   retires_root mid after unlocked keeps retired keeps_too = at_stage epoch a after tidy (LayerGone root head) Moved (record tidy { stage = RootRetired head }) is refl (ap (λ (x : ArenaView). x.retired) (retired ∙ ap (λ (x : ArenaView). with_retired x root epoch) unlocked)) (record {
+    reads = tt;
     steps = λ begun w world before truth.
         let (g, k) = truth in
         let n : ℕ = root.0 in
@@ -270,7 +184,7 @@ module _ (epoch : ℕ) (a : ArenaView) (tidy : Tidy) (root head : NodeNo) (is : 
         let keeps_last : KeepsTree new last = subst (λ (x : ArenaView). KeepsTree x (with_retired x root epoch)) unlocked (subst (λ (x : ArenaView). KeepsTree mid x) retired keeps_too) in
         let now_is = now_named a n g.b unlock g.named in
         let apart : n ≢ head.0 = head_apart a head.0 n k.head.h g.b k.head.named g.named in
-        let Then : ArenaView → World → Type 0 = λ x next. StageIsTrue begun tidy.key tidy.way (RootRetired head) x next in
+        let Then : ArenaView → World → Type 0 = λ x next. StageIsTrue begun tidy.key tidy.way tidy.finding (RootRetired head) x next in
         subst (λ (x : ArenaView). Goes epoch a x w (n ∷ head.0 ∷ []) (head.0 ∷ []) (Then x) × SameContent (arena_seen a) (arena_seen x)) (sym is_last)
         (goes_retired epoch a new w root (head.0 ∷ []) (Then last) (at_level 0) g.prefix g.low g.epoch world kept refl (others_named a n g.b unlock g.named) g.place g.kept
         (λ locked. (let clash : false ≡ true = subst (λ (x : Option Node). IsLocked x) (node-from_border new.nodes n (unlock g.b) now_is) locked in cc))
@@ -298,6 +212,7 @@ module _ (epoch : ℕ) (a : ArenaView) (tidy : Tidy) (root head : NodeNo) (is : 
 module _ (epoch : ℕ) (a : ArenaView) (tidy : Tidy) (head : NodeNo) (is : tidy.stage ≡ RootRetired head) where
   pub retires_head : (after : ArenaView) → after ≡ with_retired a head epoch → KeepsTree a after → TidyStep epoch a after tidy (Answered (Tidied LayerRule)) tidy
   retires_head after value keeps = at_stage epoch a after tidy (RootRetired head) (Answered (Tidied LayerRule)) tidy is refl (ap (λ (x : ArenaView). x.retired) value) (record {
+    reads = tt;
     steps = λ begun w world before k.
         subst (λ (x : ArenaView). Goes epoch a x w (head.0 ∷ []) [] (λ next. Unit {0}) × SameContent (arena_seen a) (arena_seen x)) (sym value)
         (goes_retired epoch a a w head [] (λ next. Unit {0}) top k.prefix k.low k.epoch world (record { index = world.index; content = same_content a; evolves = λ b le. evolves_same b w.chart }) refl (λ other differ. refl) k.place k.head.kept
@@ -306,15 +221,16 @@ module _ (epoch : ℕ) (a : ArenaView) (tidy : Tidy) (head : NodeNo) (is : tidy.
   }) tt tt refl
 
 -- ---- the border above is unlocked as it was
-module _ (epoch : ℕ) (a : ArenaView) (tidy : Tidy) (layer : Layer) (is : tidy.stage ≡ KeepsLayer layer) where
-  pub keeps_above : (after : ArenaView) → after ≡ with_border_changed a layer.above.0 unlocked_one → KeepsTree a after → TidyStep epoch a after tidy Moved (record tidy { stage = KeepsBorder layer.root })
-  keeps_above after value keeps = at_stage epoch a after tidy (KeepsLayer layer) Moved (record tidy { stage = KeepsBorder layer.root }) is refl (ap (λ (x : ArenaView). x.retired) value) (record {
+module _ (epoch : ℕ) (a : ArenaView) (tidy : Tidy) (above root : NodeNo) (is : tidy.stage ≡ KeepsLayer above root) where
+  pub keeps_above : (after : ArenaView) → after ≡ with_border_changed a above.0 unlocked_one → KeepsTree a after → TidyStep epoch a after tidy Moved (record tidy { stage = KeepsBorder root })
+  keeps_above after value keeps = at_stage epoch a after tidy (KeepsLayer above root) Moved (record tidy { stage = KeepsBorder root }) is refl (ap (λ (x : ArenaView). x.retired) value) (record {
+    reads = tt;
     steps = λ begun w world before truth.
         let (u, r, apart) = truth in
-        let n : ℕ = layer.above.0 in
-        goes_unlocked epoch a w n u.b u.named u.locked u.alive u.free u.known (layer.root.0 ∷ []) (λ i. apart (among_one n layer.root.0 i)) world after value keeps (λ x next. StageIsTrue begun tidy.key tidy.way (KeepsBorder layer.root) x next) (record {
+        let n : ℕ = above.0 in
+        goes_unlocked epoch a w n u.b u.named u.locked u.alive u.free u.known (root.0 ∷ []) (λ i. apart (among_one n root.0 i)) world after value keeps (λ x next. StageIsTrue begun tidy.key tidy.way tidy.finding (KeepsBorder root) x next) (record {
           b = r.b;
-          named = ap (option_and_then border_of) (others_named a n u.b unlocked_one u.named layer.root.0 (λ e. apart (sym e))) ∙ r.named;
+          named = ap (option_and_then border_of) (others_named a n u.b unlocked_one u.named root.0 (λ e. apart (sym e))) ∙ r.named;
           known = r.known;
           locked = r.locked;
           alive = r.alive;

@@ -30,10 +30,13 @@ use Rattle.mt_tree.proofs.AgeLemmas.{ages_unlocked, ages_deleted}
 use Rattle.mt_steps.proofs.AgingLemmas.{age_beside}
 use Rattle.mt_steps.proofs.BorderLemmas.{now_named, keys_same, known_stays, goes_border, locked_may, mine_free, on_kept}
 use Rattle.mt_steps.proofs.NodeLemmas.{at_chart, goes_beside, heads_beside, heads_were, interior_others, interior_no_head, interior_no_border, interior_alive, interior_border, interior_taken, interior_is_taken, not_both, known_some, seen_on, free_no_twin, unlocked_no}
+use Rattle.mt_steps.specs.declared.reader.Reader.TheVariants.{Begins}
+use Rattle.mt_remove.specs.declared.stage.Unlinking.{Unlinking}
 use Rattle.mt_remove.specs.declared.tidy.Tidy.{Tidy}
 use Rattle.mt_remove.specs.declared.stage.Stage.TheVariants.{Locked, Dropped, Marked, KeepsBorder}
 use Rattle.mt_remove.specs.Seen.{later_place}
-use Rattle.mt_remove.specs.Tidy.{StageIsTrue, IsEmptyBorder, StageLaw, MayTidy}
+use Rattle.mt_remove.specs.Tidy.{StageIsTrue, StageLaw, MayTidy}
+use Rattle.mt_remove.specs.Locked.{IsEmptyBorder}
 use Rattle.mt_remove.specs.Follows.{DropsBy, TidyStep}
 use Rattle.mt_remove.proofs.StageLemmas.{at_stage, true_at, law_same, holds_known, known_there, IsSeen, named_so, later_seen, some_by}
 
@@ -95,6 +98,7 @@ module _ (epoch : ℕ) (a : ArenaView) (tidy : Tidy) (border head parent : NodeN
 
       drops_law : KeepsAlong a new (DropsAt n child) → StageLaw epoch a new tidy (Locked border head parent) Moved (record tidy { stage = Dropped border head })
       drops_law keeps = record {
+        reads = tt;
         steps = λ begun w world before truth.
             let ((posted, e, alive), known, held) = truth in
             let prefix = prefix_of tidy.key tidy.way in
@@ -137,8 +141,12 @@ module _ (epoch : ℕ) (a : ArenaView) (tidy : Tidy) (border head parent : NodeN
 
 -- ---- it is marked deleted
 module _ (epoch : ℕ) (a : ArenaView) (tidy : Tidy) (border head : NodeNo) (is : tidy.stage ≡ Dropped border head) where
-  pub marks : (b : BorderView) (slice : ℕ) (after : ArenaView) → border_at a.nodes border.0 ≡ Some b → slice ≡ b.low - 1 → slice < 2 ^ 64 → after ≡ with_border_changed a border.0 with_deleted → KeepsTree a after → TidyStep epoch a after tidy Moved (record tidy { stage = Marked border head head slice })
-  marks b slice after read low_is within value keeps = at_stage epoch a after tidy (Dropped border head) Moved (record tidy { stage = Marked border head head slice }) is refl (ap (λ (x : ArenaView). x.retired) value) (record {
+  abbrev at_head : ℕ → Unlinking
+  at_head slice = record { border = border; head = head; node = head; slice = slice }
+
+  pub marks : (b : BorderView) (slice : ℕ) (after : ArenaView) → border_at a.nodes border.0 ≡ Some b → slice ≡ b.low - 1 → slice < 2 ^ 64 → after ≡ with_border_changed a border.0 with_deleted → KeepsTree a after → TidyStep epoch a after tidy Moved (record tidy { finding = Begins; stage = Marked (at_head slice) })
+  marks b slice after read low_is within value keeps = at_stage epoch a after tidy (Dropped border head) Moved (record tidy { finding = Begins; stage = Marked (at_head slice) }) is refl (ap (λ (x : ArenaView). x.retired) value) (record {
+    reads = tt;
     steps = λ begun w world before truth.
         let (e, known) = truth in
         let prefix = prefix_of tidy.key tidy.way in
@@ -146,16 +154,20 @@ module _ (epoch : ℕ) (a : ArenaView) (tidy : Tidy) (border head : NodeNo) (is 
         let low : slice ≡ e.b.low - 1 = low_is ∙ ap (λ (x : BorderView). x.low - 1) (sym same) in
         let new : ArenaView = with_border_changed a border.0 with_deleted in
         let kept = (subst (λ (x : ArenaView). KeepsTree a x) value keeps).keeps epoch w.twins w.chart world.index in
-        let Then : ArenaView → World → Type 0 = λ x next. StageIsTrue begun tidy.key tidy.way (Marked border head head slice) x next in
+        let Then : ArenaView → World → Type 0 = λ x next. StageIsTrue begun tidy.key tidy.way Begins (Marked (at_head slice)) x next in
         subst (λ (x : ArenaView). Goes epoch a x w (border.0 ∷ []) (border.0 ∷ []) (Then x) × SameContent (arena_seen a) (arena_seen x)) (sym value) (
           goes_border a border.0 e.b with_deleted e.named epoch w (border.0 ∷ []) (border.0 ∷ []) (Then new) world (λ known. (ages_deleted e.b, inr refl)) kept.index (keys_same a new kept.content world.keys) (mine_free a border.0 w (border.0 ∷ []) first) (λ other i. inl i) (λ other ne i. i) (λ locked. first)
-              (locked_may a border.0 e.b with_deleted e.named epoch w world e.locked e.free (inl e.locked)) (record {
-                border = record { b = with_deleted e.b; named = now_named a border.0 e.b with_deleted e.named; locked = e.locked; written = e.written; empty = e.empty; later = e.later; place = e.place; free = e.free };
-                marked = refl;
-                before = let above = e.later in omega (arith, low, above);
-                headed = known;
-                held = record { role = top; low = 0; standing = known.standing; place = known.place; at_most = omega arith; since = known.since };
-              }),
+              (locked_may a border.0 e.b with_deleted e.named epoch w world e.locked e.free (inl e.locked)) (
+                record {
+                  border = record { b = with_deleted e.b; named = now_named a border.0 e.b with_deleted e.named; locked = e.locked; written = e.written; empty = e.empty; later = e.later; place = e.place; free = e.free };
+                  marked = refl;
+                  before = let above = e.later in omega (arith, low, above);
+                  fits = within;
+                  headed = known;
+                },
+                record { role = top; low = 0; standing = known.standing; place = known.place; at_most = omega arith; since = known.since },
+                tt,
+              ),
           kept.content,
         );
   }) tt tt (slice, within, (refl, refl))
@@ -167,6 +179,7 @@ module _ (epoch : ℕ) (a : ArenaView) (tidy : Tidy) (border : NodeNo) (is : tid
 
   pub keeps_border : (after : ArenaView) → after ≡ with_border_changed a border.0 unlock → KeepsTree a after → TidyStep epoch a after tidy (Answered (Tidied NoRule)) tidy
   keeps_border after value keeps = at_stage epoch a after tidy (KeepsBorder border) (Answered (Tidied NoRule)) tidy is refl (ap (λ (x : ArenaView). x.retired) value) (record {
+    reads = tt;
     steps = λ begun w world before at.
         let new : ArenaView = with_border_changed a border.0 unlock in
         let kept = (subst (λ (x : ArenaView). KeepsTree a x) value keeps).keeps epoch w.twins w.chart world.index in

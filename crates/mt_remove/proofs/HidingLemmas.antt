@@ -27,7 +27,8 @@ use Rattle.mt_steps.proofs.AliveLemmas.{alive_gone, alive_there, alive_placed}
 use Rattle.mt_remove.specs.declared.tidy.Tidy.{Tidy}
 use Rattle.mt_remove.specs.declared.stage.Layer.{Layer}
 use Rattle.mt_remove.specs.declared.stage.Stage.TheVariants.{RootMarked, LinkHidden}
-use Rattle.mt_remove.specs.Tidy.{layer_owns, StageIsTrue, IsClosing, IsAbove, IsGoneBorder, IsGoneHead}
+use Rattle.mt_remove.specs.Tidy.{layer_owns, StageIsTrue}
+use Rattle.mt_remove.specs.Locked.{IsClosing, IsAbove, IsGoneBorder, IsGoneHead}
 use Rattle.mt_remove.specs.Follows.{TidyStep}
 use Rattle.mt_remove.proofs.StageLemmas.{at_stage}
 use Rattle.mt_remove.proofs.LayerFacts.{layer_apart, head_beside}
@@ -219,8 +220,9 @@ module _ (now : ℕ) (a : ArenaView) (w : World) (layer : Layer) (k : IsClosing 
 module _ (epoch : ℕ) (a : ArenaView) (tidy : Tidy) (layer : Layer) (is : tidy.stage ≡ RootMarked layer) where
   pub hides : (after : ArenaView) → after ≡ with_border_changed a layer.above.0 (λ b. with_hidden b layer.place) → DropsLayerAt a after layer.above.0 layer.place → TidyStep epoch a after tidy Moved (record tidy { stage = LinkHidden layer })
   hides after value drops = at_stage epoch a after tidy (RootMarked layer) Moved (record tidy { stage = LinkHidden layer }) is refl (ap (λ (x : ArenaView). x.retired) value) (record {
+    reads = tt;
     steps = λ begun w world before truth.
         let (k, marked) = truth in
-        subst (λ (x : ArenaView). Goes epoch a x w (layer_owns layer) (layer_owns layer) (λ next. StageIsTrue begun tidy.key tidy.way (LinkHidden layer) x next) × SameContent (arena_seen a) (arena_seen x)) (sym value)
+        subst (λ (x : ArenaView). Goes epoch a x w (layer_owns layer) (layer_owns layer) (λ next. StageIsTrue begun tidy.key tidy.way tidy.finding (LinkHidden layer) x next) × SameContent (arena_seen a) (arena_seen x)) (sym value)
         (goes_hidden epoch a w layer k world (subst (λ (x : ArenaView). DropsLayerAt a x layer.above.0 layer.place) value drops));
   }) tt tt (refl, refl)

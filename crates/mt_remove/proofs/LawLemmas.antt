@@ -1,5 +1,5 @@
 -- The law of a step, as each kind of call has it, from what a step of a tidy leaves.
-use Rattle.std.proofs.Common.{ℕ, ◌≡◌, inl, List, None, true, false, refl}
+use Rattle.std.proofs.Common.{ℕ, ◌≡◌, inl, List, [], None, true, false, refl}
 use Rattle.mt_types.specs.declared.event.Answer.TheVariants.{Tidied}
 use Rattle.mt_commit.specs.Log.{LogView}
 use Rattle.mt_arena.specs.Arena.{ArenaView}
@@ -8,6 +8,7 @@ use Rattle.mt_tree.specs.Seen.{arena_seen}
 use Rattle.mt_steps.specs.declared.progress.Progress.{Progress}
 use Rattle.mt_steps.specs.declared.progress.Progress.TheVariants.{Moved, Waits, Committed, Answered, Refused}
 use Rattle.mt_steps.specs.Step.{StepLawIn, MayStepIn, IsQuiet}
+use Rattle.mt_steps.specs.declared.reader.Reader.TheVariants.{Begins}
 use Rattle.mt_steps.proofs.WayLemmas.{starts, starts_at_head}
 use Rattle.mt_remove.specs.declared.noted.Came.TheVariants.{Head as FromHead}
 use Rattle.mt_remove.specs.declared.stage.Stage.TheVariants.{Seeks}
@@ -42,5 +43,5 @@ pub may_tidy : (epoch : ℕ) (a : ArenaView) (tidy : Tidy) → MayStepIn epoch a
 may_tidy epoch a tidy may = record { begun = may.begun; w = may.w; world = may.world; true = may.true }
 
 -- a tidy begins
-pub begins : (key : List ℕ) → NewTidyIsTrue (record { key = key; way = record { node = record { 0 = 0 }; layer = 0 }; stage = Seeks (record { head = record { 0 = 0 }; above = None; came = FromHead; lone = None }) })
-begins key a now begun w world = (starts a now w begun key world, record { head = starts_at_head a now w begun world; above = tt; came = tt; lone = tt })
+pub begins : (key : List ℕ) → NewTidyIsTrue (record { key = key; way = record { node = record { 0 = 0 }; layer = 0 }; finding = Begins; stage = Seeks (record { head = record { 0 = 0 }; above = None; came = FromHead; lone = None; glance = None }) })
+begins key a now begun w world = let there = starts a now w begun key world in (there, record { head = starts_at_head a now w begun world; above = tt; came = tt; lone = tt }, ([], there))

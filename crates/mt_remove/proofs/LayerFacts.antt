@@ -11,7 +11,7 @@ use Rattle.mt_steps.proofs.BorderLemmas.{others_named}
 use Rattle.mt_steps.proofs.LayerLemmas.{head_apart}
 use Rattle.mt_steps.proofs.NodeLemmas.{known_some}
 use Rattle.mt_remove.specs.declared.stage.Layer.{Layer}
-use Rattle.mt_remove.specs.Tidy.{IsEmptyRoot, IsAbove, HasLayer, IsOwnHead, IsGoneBorder, IsGoneHead}
+use Rattle.mt_remove.specs.Locked.{IsEmptyRoot, IsAbove, HasLayer, IsOwnHead, IsGoneBorder, IsGoneHead}
 
 -- ---- they are locked
 -- an empty border that is not marked deleted, and is no closing one, is a locked border

@@ -44,7 +44,9 @@ use Rattle.mt_remove.specs.declared.noted.OneChild.{OneChild}
 use Rattle.mt_remove.specs.declared.tidy.Tidy.{Tidy}
 use Rattle.mt_remove.specs.declared.stage.Stage.TheVariants.{Lonely, LoneLocked, Bypassed, KeepsInterior}
 use Rattle.mt_remove.specs.Seen.{is_lone, place_in}
-use Rattle.mt_remove.specs.Tidy.{NamerIsKnown, IsKnownIn, IsLoneInterior, IsGoneInterior, StageLaw, MayTidy}
+use Rattle.mt_remove.specs.Tidy.{StageLaw, MayTidy}
+use Rattle.mt_remove.specs.Locked.{IsLoneInterior, IsGoneInterior}
+use Rattle.mt_remove.specs.Known.{NamerIsKnown, IsKnownIn}
 use Rattle.mt_remove.specs.Follows.{IsRootOf, LocksBy, BypassesBy, FollowsNamer, TidyStep}
 use Rattle.mt_remove.proofs.StageLemmas.{at_stage, none_retired, true_at, law_same, holds_known, known_there, IsSeen, IsSeenLone, named_so, place_seen, lone_seen, some_by}
 
@@ -82,6 +84,7 @@ module _ (epoch : ℕ) (a : ArenaView) (tidy : Tidy) (lone : OneChild) (is : tid
 
     locks_law : KeepsTree a new → StageLaw epoch a new tidy (Lonely lone) Moved (record tidy { stage = LoneLocked lone })
     locks_law keeps = record {
+      reads = tt;
       steps = λ begun w world before truth.
           let (known, namer) = truth in
           let prefix = prefix_of tidy.key tidy.way in
@@ -200,6 +203,7 @@ module _ (epoch : ℕ) (a : ArenaView) (tidy : Tidy) (lone : OneChild) (is : tid
 
       bypass_law : (change : InteriorView → InteriorView) → KeepsAlong a (with_interior_changed a m change) (BypassesAt m q) → (change j).version.locked ≡ false → (change j).version.deleted ≡ false → StageLaw epoch a (with_interior_changed a m change) tidy (LoneLocked lone) Moved (record tidy { stage = Bypassed lone.interior ChildRule })
       bypass_law change keeps unlocked alive = record {
+        reads = tt;
         steps = λ begun w world before truth.
             let (l, namer) = truth in
             let prefix = prefix_of tidy.key tidy.way in
@@ -260,6 +264,7 @@ module _ (epoch : ℕ) (a : ArenaView) (tidy : Tidy) (lone : OneChild) (is : tid
 
       root_law : (change : HeadView → HeadView) → (change h).version ≡ h.version → KeepsAlong a (with_head_changed a n change) (BypassesRootAt n q) → StageLaw epoch a (with_head_changed a n change) tidy (LoneLocked lone) Moved (record tidy { stage = Bypassed lone.interior RootRule })
       root_law change same keeps = record {
+        reads = tt;
         steps = λ begun w world before truth.
             let (l, namer) = truth in
             let prefix = prefix_of tidy.key tidy.way in
@@ -338,6 +343,7 @@ module _ (epoch : ℕ) (a : ArenaView) (tidy : Tidy) (interior : NodeNo) (rule :
   pub retires : (one two after : ArenaView) → one ≡ with_interior_changed a g mark → KeepsTree a one → two ≡ with_interior_changed one g unlock → IsSomeAnd (interior_at one.nodes g) (λ x. KeepsWhere one two (λ chart. IsNotGone chart g ⊎ (x.version.deleted ≡ true))) → after ≡ with_retired two interior epoch → KeepsTree two after
       → TidyStep epoch a after tidy (Answered (Tidied rule)) tidy
   retires one two after marked keeps unlocked keeps_two retired keeps_last = at_stage epoch a after tidy (Bypassed interior rule) (Answered (Tidied rule)) tidy is refl (ap (λ (x : ArenaView). x.retired) (retired ∙ ap (λ (x : ArenaView). with_retired x interior epoch) (unlocked ∙ ap (λ (x : ArenaView). with_interior_changed x g unlock) marked))) (record {
+    reads = tt;
     steps = λ begun w world before t.
         let first_new : ArenaView = with_interior_changed a g mark in
         let new : ArenaView = with_interior_changed first_new g unlock in
@@ -368,6 +374,7 @@ module _ (epoch : ℕ) (a : ArenaView) (tidy : Tidy) (interior : NodeNo) (is : t
 
   pub keeps_interior : (after : ArenaView) → after ≡ with_interior_changed a interior.0 open_it → IsSomeAnd (interior_at a.nodes interior.0) (λ x. KeepsWhere a after (λ chart. IsNotGone chart interior.0 ⊎ (x.version.deleted ≡ true))) → TidyStep epoch a after tidy (Answered (Tidied NoRule)) tidy
   keeps_interior after value keeps = at_stage epoch a after tidy (KeepsInterior interior) (Answered (Tidied NoRule)) tidy is refl (ap (λ (x : ArenaView). x.retired) value) (record {
+    reads = tt;
     steps = λ begun w world before l.
         let n : ℕ = interior.0 in
         let new : ArenaView = with_interior_changed a n open_it in

@@ -1,53 +1,52 @@
--- The steps of a tidy on its way, and at its place.
-use Rattle.std.proofs.Common.{ℕ, ◌≡◌, ◌<◌, ◌==◌, ◌⊎◌, not, inl, inr, List, [], ◌∷◌, length, Option, Some, None, Bool, true, false, refl, sym, ap, subst, ◌∙◌, arith}
-use Rattle.std.specs.Prelude.{IsSomeAnd, if◌then◌else◌}
+-- The steps of a tidy on its way.
+use Rattle.std.proofs.Common.{ℕ, ◌≡◌, ◌≢◌, ◌≤◌, ◌+◌, ◌*◌, ◌-◌, ◌==◌, not, inl, inr, List, [], ◌∷◌, length, Option, Some, None, Bool, true, false, refl, sym, ap, subst, ◌∙◌, arith, add-one}
+use Rattle.std.specs.Prelude.{IsSome, IsSomeAnd, if◌then◌else◌}
 use Rattle.std.proofs.lemmas.Bool.{eq-eqb}
-use Rattle.std.proofs.lemmas.Bool.Decides.{eqb_tells}
 use Rattle.mt_types.specs.declared.numbers.NodeNo.{NodeNo}
-use Rattle.mt_types.specs.declared.event.Answer.TheVariants.{Tidied}
-use Rattle.mt_types.specs.declared.event.TidyRule.TheVariants.{Nothing as NoRule}
-use Rattle.mt_slice.specs.Place.{slices_above, place_of}
-use Rattle.mt_border.specs.Border.{BorderView, with_locked}
-use Rattle.mt_border.specs.Order.{IsBorder}
-use Rattle.mt_border.proofs.BorderLemmas.{unlocked_written}
-use Rattle.mt_border.specs.declared.entry.Entry.{Entry}
-use Rattle.mt_border.specs.declared.entry.RightLink.{RightLink}
+use Rattle.mt_slice.specs.Place.{AreBytes, slices_above, slice_number}
+use Rattle.mt_border.specs.Border.{BorderView}
 use Rattle.mt_arena.specs.Node.{node_at, border_at}
-use Rattle.mt_arena.specs.Arena.{ArenaView, with_border_changed}
+use Rattle.mt_arena.specs.Arena.{ArenaView}
 use Rattle.mt_arena.specs.declared.node.Node.{Node}
 use Rattle.mt_arena.specs.declared.node.Node.TheVariants.{Head, Interior, Border}
-use Rattle.mt_chart.specs.Tree.{first}
-use Rattle.mt_chart.specs.TreeLaws.{IsWhere}
+use Rattle.mt_chart.specs.Tree.{Arena}
 use Rattle.mt_chart.specs.Steps.{SameContent}
+use Rattle.mt_chart.proofs.HeldNodes.{border_is_on}
 use Rattle.mt_tree.specs.Seen.{arena_seen, border_seen}
-use Rattle.mt_tree.specs.Keeping.{KeepsTree}
-use Rattle.mt_tree.specs.Descent.{node_visit}
+use Rattle.mt_tree.proofs.SeenLemmas.{seen-border}
+use Rattle.mt_steps.specs.declared.finding.Sight.TheVariants.{Absent as AbsentSight, Row as RowSight, Link as LinkSight}
+use Rattle.mt_steps.specs.declared.reader.Counters.{Counters}
+use Rattle.mt_steps.specs.declared.reader.Reader.TheVariants.{Begins, Looked, Bounded, Reads, AtValue, Settles}
+use Rattle.mt_steps.specs.declared.reader.Reading.TheVariants.{Restarts, Repeats, GoesOn, To, Finds}
 use Rattle.mt_steps.specs.declared.way.Way.{Way}
-use Rattle.mt_steps.specs.declared.way.Went.{Went}
-use Rattle.mt_steps.specs.declared.way.Went.TheVariants.{Again, To}
 use Rattle.mt_steps.specs.declared.progress.Progress.{Progress}
-use Rattle.mt_steps.specs.declared.progress.Progress.TheVariants.{Moved, Waits, Answered}
-use Rattle.mt_steps.specs.World.{World, Goes}
-use Rattle.mt_steps.specs.Causes.{IsMarkedAt}
-use Rattle.mt_steps.specs.Way.{start, prefix_of, rest_of, went_by, IsOnWay, IsAtPlace, IsHeadOf, LeadsToHead, GoesTo, MayGo, Visits}
+use Rattle.mt_steps.specs.declared.progress.Progress.TheVariants.{Moved, Waits, Committed, Answered, Refused}
+use Rattle.mt_steps.specs.declared.finding.Kind.TheVariants.{Row as RowKind, Link as LinkKind}
+use Rattle.mt_steps.specs.Finding.{Finding, FindReading, FindingWaits}
+use Rattle.mt_steps.specs.Getting.{AtBorder}
+use Rattle.mt_steps.specs.Reader.{IsReader, MayRead, ReadWaits}
+use Rattle.mt_steps.specs.Step.{left_with}
+use Rattle.mt_steps.specs.World.{World, IsWorld, Goes}
+use Rattle.mt_steps.specs.Way.{start, prefix_of, rest_of, IsOnWay, IsHeadOf, LeadsToHead, MayGo}
 use Rattle.mt_steps.proofs.GetLemmas.{may_go}
+use Rattle.mt_steps.proofs.FrameLemmas.{goes_same}
 use Rattle.mt_steps.proofs.WayLemmas.{starts, starts_at_head}
-use Rattle.mt_tree.proofs.AgeLemmas.{ages_locked}
-use Rattle.mt_steps.proofs.BorderLemmas.{alive_changed, now_named, goes_border, keys_same, unlocked_free, unlocked_root, on_kept, among_one}
 use Rattle.mt_steps.proofs.SplitLemmas.{eqb-ne}
-use Rattle.mt_steps.proofs.NodeLemmas.{known_some}
 use Rattle.mt_remove.specs.declared.noted.Came.{Came}
 use Rattle.mt_remove.specs.declared.noted.Came.TheVariants.{Head as FromHead, Child as AsChild, Left as FromLeft}
 use Rattle.mt_remove.specs.declared.noted.OneChild.{OneChild}
 use Rattle.mt_remove.specs.declared.noted.Noted.{Noted}
-use Rattle.mt_remove.specs.declared.sign.Sign.{Sign}
-use Rattle.mt_remove.specs.declared.sign.Sign.TheVariants.{Nothing, EmptyBorder, LoneChild, EmptyLayer}
 use Rattle.mt_remove.specs.declared.tidy.Tidy.{Tidy}
-use Rattle.mt_remove.specs.declared.stage.Stage.TheVariants.{Seeks, Locked, Lonely, RootLocked}
-use Rattle.mt_remove.specs.Noted.{namer, namer_of, noted_below, noted_at, noted_from, is_empty, last_sign, layer_sign, lone_sign, border_sign, sign_of}
-use Rattle.mt_remove.specs.Tidy.{StageIsTrue, NotedIsTrue, NamerIsKnown, CameIsKnown, IfLone, IfAbove, LoneIsKnown, IsKnownIn, MayTidy, IsHereBy}
-use Rattle.mt_remove.specs.Follows.{not_noted, Begins, BeginsBy, FollowsVisit, TidyStep}
-use Rattle.mt_remove.proofs.StageLemmas.{at_stage, true_at, law_same, some_by}
+use Rattle.mt_remove.specs.declared.stage.Stage.TheVariants.{Seeks}
+use Rattle.mt_remove.specs.Noted.{namer, namer_of, noted_below, noted_at, noted_from, AtOrder, glanced}
+use Rattle.mt_remove.specs.Reading.{SeekReads, seek_reading}
+use Rattle.mt_remove.specs.Tidy.{StageIsTrue, IsAtItsPlace, StageReads, ThenTidy, IsTidied, MayTidy, tidy_held}
+use Rattle.mt_remove.specs.Known.{NotedIsTrue, NamerIsKnown, CameIsKnown, IfLone, IfAbove, LoneIsKnown, IsKnownIn, SeekFinding}
+use Rattle.mt_remove.specs.Follows.{AtPlace, not_noted, FollowsReading, advanced, unread, ReadChanges, ReadStep, TidyStep, StageWaits}
+use Rattle.mt_remove.proofs.NoFinds.{NoFinds, seek_none}
+use Rattle.mt_remove.proofs.SeekReads.{SeekLeads, seek_leads}
+use Rattle.mt_remove.proofs.SeekWaits.{seek_waits}
+use Rattle.mt_remove.proofs.StageLemmas.{at_stage, same_content, true_at}
 
 -- ---- what is noted
 -- what a call holds on its way it knows
@@ -89,242 +88,243 @@ noted_true begun key way next w node noted on t (inr (deeper, known)) =
     let is : noted_from node way next noted ≡ noted_below way.node next.node = ap (λ (b : Bool). if not b then noted_below way.node next.node else noted_at node way.node next.node noted) (eqb-ne next.layer way.layer (λ e. omega (arith, deeper, e))) in
     subst (λ (x : Noted). NotedIsTrue begun key next x w) (sym is) (record { head = known; above = (way.layer, deeper, known_on_way begun key way w on); came = tt; lone = tt })
 
+-- what is noted of a border
+glanced_true : (begun : ℕ) (key : List ℕ) (way : Way) (w : World) (finding : Finding) (o : Option BorderView) (noted : Noted) → NotedIsTrue begun key way noted w → NotedIsTrue begun key way (glanced finding o noted) w
+glanced_true begun key way w (Bounded counters right) (Some b) noted t = record { head = t.head; above = t.above; came = t.came; lone = t.lone }
+glanced_true begun key way w (Bounded counters right) None noted t = t
+glanced_true begun key way w Begins o noted t = t
+glanced_true begun key way w (Looked counters) o noted t = t
+glanced_true begun key way w (Reads notes) o noted t = t
+glanced_true begun key way w (AtValue notes kind) o noted t = t
+glanced_true begun key way w (Settles counters sight) o noted t = t
+
+-- ---- what it asks
+module _ (epoch : ℕ) (a : ArenaView) (tidy : Tidy) (noted : Noted) (is : tidy.stage ≡ Seeks noted) (may : MayTidy epoch a tidy) where
+  abbrev at_node : ℕ
+  at_node = tidy.way.node.0
+
+  truth : StageIsTrue may.begun tidy.key tidy.way tidy.finding (Seeks noted) a may.w
+  truth = true_at epoch a tidy (Seeks noted) is may
+
+  go_there : MayGo a tidy.key tidy.way
+  go_there = may_go a tidy.key tidy.way epoch may.begun may.w may.world truth.0
+
+  pub may_within : 8 * tidy.way.layer ≤ length tidy.key - 1
+  may_within = go_there.within
+
+  pub may_named : IsSome (node_at a.nodes at_node)
+  may_named = go_there.may.named
+
+  within : (past : List Arena) (finding : Finding) → SeekFinding tidy.key tidy.way finding may.begun (arena_seen a ∷ past) a may.w → IsReader finding
+  within past Begins on = tt
+  within past (Looked counters) at = tt
+  within past (Bounded counters right) t = tt
+  within past (Reads notes) (at, bound, (less, fits), searches) = less
+  within past (AtValue notes RowKind) t = absurd t
+  within past (AtValue notes LinkKind) (at, (less, fits), deep, is_true) = less
+  within past (Settles counters sight) t = tt
+
+  -- it reads the order of a border
+  pub at_order : AtOrder tidy.finding → IsSome (border_at a.nodes at_node)
+  at_order = go tidy.finding truth.2.1
+    where
+      go : (finding : Finding) → SeekFinding tidy.key tidy.way finding may.begun (arena_seen a ∷ truth.2.0) a may.w → AtOrder finding → IsSome (border_at a.nodes at_node)
+      go (Bounded counters right) (at, bound) order = subst (λ (o : Option BorderView). IsSome o) (sym at.here.named) refl
+      go Begins t order = absurd order
+      go (Looked counters) t order = absurd order
+      go (Reads notes) t order = absurd order
+      go (AtValue notes kind) t order = absurd order
+      go (Settles counters sight) t order = absurd order
+
+  pub may_want : IsReader tidy.finding
+  may_want = within truth.2.0 tidy.finding truth.2.1
+
+  not_none : (b : BorderView) → border_at a.nodes at_node ≡ Some b → border_at a.nodes at_node ≡ None → (finding : Finding) → finding ≡ Begins
+  not_none b named none finding = absurd (let clash : ◌≡◌ {A = Option BorderView} (Some b) None = sym named ∙ none in cc)
+
+  begins : (past : List Arena) (finding : Finding) → SeekFinding tidy.key tidy.way finding may.begun (arena_seen a ∷ past) a may.w → border_at a.nodes at_node ≡ None → finding ≡ Begins
+  begins past Begins on none = refl
+  begins past (Looked counters) at none = not_none at.here.b at.here.named none (Looked counters)
+  begins past (Bounded counters right) (at, bound) none = not_none at.here.b at.here.named none (Bounded counters right)
+  begins past (Reads notes) (at, bound, place, searches) none = not_none at.here.b at.here.named none (Reads notes)
+  begins past (AtValue notes RowKind) t none = absurd t
+  begins past (AtValue notes LinkKind) (at, place, deep, is_true) none = not_none at.here.b at.here.named none (AtValue notes LinkKind)
+  begins past (Settles counters AbsentSight) at none = not_none at.here.b at.here.named none (Settles counters AbsentSight)
+  begins past (Settles counters (RowSight row)) at none = not_none at.here.b at.here.named none (Settles counters (RowSight row))
+  begins past (Settles counters (LinkSight head)) (at, fits, is_true) none = not_none at.here.b at.here.named none (Settles counters (LinkSight head))
+
+  pub may_read : MayRead a at_node (slice_number (rest_of tidy.key tidy.way)) tidy.finding
+  may_read = record { begins = begins truth.2.0 tidy.finding truth.2.1; child = go_there.may.has_child }
+
 -- ---- on its way
 module _ (epoch : ℕ) (a : ArenaView) (tidy : Tidy) (noted : Noted) (is : tidy.stage ≡ Seeks noted) where
-  pub may_visit : MayTidy epoch a tidy → MayGo a tidy.key tidy.way
-  may_visit may = may_go a tidy.key tidy.way epoch may.begun may.w may.world (true_at epoch a tidy (Seeks noted) is may).0
+  abbrev seen : Noted
+  seen = glanced tidy.finding (border_at a.nodes tidy.way.node.0) noted
 
-  pub restarts : IsMarkedAt a tidy.way.node.0 → IsSomeAnd (node_at a.nodes tidy.way.node.0) (λ node. Again ≡ went_by tidy.way (node_visit (rest_of tidy.key tidy.way) node)) → TidyStep epoch a a tidy Waits (record tidy { way = start; stage = Seeks not_noted })
-  restarts marked visit = at_stage epoch a a tidy (Seeks noted) Waits (record tidy { way = start; stage = Seeks not_noted }) is refl refl
-      (law_same epoch a tidy (Seeks noted) Waits (record tidy { way = start; stage = Seeks not_noted }) refl (λ begun w world truth. (starts a epoch w begun tidy.key world, record { head = starts_at_head a epoch w begun world; above = tt; came = tt; lone = tt }))) tt marked
-      (some_by (node_at a.nodes tidy.way.node.0) _ _ (λ node e. subst (λ (t : Went). FollowsVisit a tidy noted node t Waits (record tidy { way = start; stage = Seeks not_noted })) e (refl, refl)) visit)
+  abbrev Truth : ℕ → World → Type 0
+  Truth begun w = StageIsTrue begun tidy.key tidy.way tidy.finding (Seeks noted) a w
 
-  pub moves : (next : Way) (went : Went) (then_noted : Noted) → went ≡ To next → Visits a tidy.key tidy.way went → IsSomeAnd (node_at a.nodes tidy.way.node.0) (λ node. To next ≡ went_by tidy.way (node_visit (rest_of tidy.key tidy.way) node)) → IsSomeAnd (node_at a.nodes tidy.way.node.0) (λ node. then_noted ≡ noted_from node tidy.way next noted)
-      → TidyStep epoch a a tidy Moved (record tidy { way = next; stage = Seeks then_noted })
-  moves next went then_noted went_is visits visit notes = at_stage epoch a a tidy (Seeks noted) Moved (record tidy { way = next; stage = Seeks then_noted }) is refl refl
-      (law_same epoch a tidy (Seeks noted) Moved (record tidy { way = next; stage = Seeks then_noted }) refl (λ begun w world truth.
-      let (on, move, deeper) = subst (λ (t : Went). GoesTo a begun tidy.key tidy.way w t) went_is (visits.goes epoch w begun world truth.0) in (
-        on,
-        so (node_at a.nodes tidy.way.node.0) begun w truth.0 truth.1 deeper notes,
-      ))) tt tt
-      (both (node_at a.nodes tidy.way.node.0) visit notes)
+  abbrev Law : ArenaView → Progress → Tidy → Type 0
+  Law after p new = (begun : ℕ) (w : World) → IsWorld a epoch w → begun ≤ epoch → Truth begun w
+      → Goes epoch a after w [] (left_with p (tidy_held new)).owns (ThenTidy p begun new after) × SameContent (arena_seen a) (arena_seen after)
+
+  -- no node is changed
+  unchanged : (after : ArenaView) (p q : Progress) (new next : Tidy) → after ≡ a → p ≡ q → new ≡ next → [] ≡ (left_with q (tidy_held next)).owns → ((begun : ℕ) (w : World) → IsWorld a epoch w → Truth begun w → ThenTidy q begun next a w) → Law after p new
+  unchanged after p q new next same p_is then_is owns goes begun w world before truth =
+      subst (λ (x : ArenaView). Goes epoch a x w [] (left_with p (tidy_held new)).owns (ThenTidy p begun new x) × SameContent (arena_seen a) (arena_seen x)) (sym same)
+      (subst (λ (x : Progress). Goes epoch a a w [] (left_with x (tidy_held new)).owns (ThenTidy x begun new a) × SameContent (arena_seen a) (arena_seen a)) (sym p_is)
+      (subst (λ (x : Tidy). Goes epoch a a w [] (left_with q (tidy_held x)).owns (ThenTidy q begun x a) × SameContent (arena_seen a) (arena_seen a)) (sym then_is)
+      (goes_same epoch a w _ [] (left_with q (tidy_held next)).owns owns world (goes begun w world truth), same_content a)))
+
+  abbrev Leads : FindReading → Type 0
+  Leads reading = (begun : ℕ) (w : World) (world : IsWorld a epoch w) → Truth begun w → (past : List Arena) × SeekLeads a epoch w world begun tidy.key tidy.way past tidy.finding reading
+
+  abbrev Changes : FindReading → ArenaView → Progress → Tidy → Type 0
+  Changes reading after p new = ReadChanges epoch a after (unread tidy) seen reading p new
+
+  abbrev Reading : FindReading → Progress → Tidy → Type 0
+  Reading reading p new = FollowsReading a (unread tidy) seen reading p new
+
+  seen_true : (begun : ℕ) (w : World) → Truth begun w → NotedIsTrue begun tidy.key tidy.way seen w
+  seen_true begun w truth = glanced_true begun tidy.key tidy.way w tidy.finding (border_at a.nodes tidy.way.node.0) noted truth.1
+
+  -- it advances
+  advances : (next : Way) (after : ArenaView) (p : Progress) (new : Tidy) → after ≡ a → (p ≡ Moved) × IsSomeAnd (node_at a.nodes tidy.way.node.0) (λ node. new ≡ advanced (unread tidy) node next seen)
+      → ((begun : ℕ) (w : World) → IsWorld a epoch w → Truth begun w → IsOnWay begun tidy.key next w × LeadsToHead begun tidy.key w tidy.way next) → Law after p new
+  advances next after p new same (p_is, then_is) leads = go (node_at a.nodes tidy.way.node.0) then_is
     where
-      so : (o : Option Node) (begun : ℕ) (w : World) → IsOnWay begun tidy.key tidy.way w → NotedIsTrue begun tidy.key tidy.way noted w → LeadsToHead begun tidy.key w tidy.way next → IsSomeAnd o (λ node. then_noted ≡ noted_from node tidy.way next noted) → NotedIsTrue begun tidy.key next then_noted w
-      so None begun w on t deeper h = absurd h
-      so (Some node) begun w on t deeper h = subst (λ (x : Noted). NotedIsTrue begun tidy.key next x w) (sym h) (noted_true begun tidy.key tidy.way next w node noted on t deeper)
+      go : (o : Option Node) → IsSomeAnd o (λ node. new ≡ advanced (unread tidy) node next seen) → Law after p new
+      go None h = absurd h
+      go (Some node) h = unchanged after p Moved new (advanced (unread tidy) node next seen) same p_is h refl (λ begun w world truth.
+          let (on, deeper) = leads begun w world truth in
+          (on, noted_true begun tidy.key tidy.way next w node seen truth.0 (seen_true begun w truth) deeper, ([], on)))
 
-      both : (o : Option Node) → IsSomeAnd o (λ node. To next ≡ went_by tidy.way (node_visit (rest_of tidy.key tidy.way) node)) → IsSomeAnd o (λ node. then_noted ≡ noted_from node tidy.way next noted)
-          → IsSomeAnd o (λ node. FollowsVisit a tidy noted node (went_by tidy.way (node_visit (rest_of tidy.key tidy.way) node)) Moved (record tidy { way = next; stage = Seeks then_noted }))
-      both None visit h = absurd h
-      both (Some node) visit h = subst (λ (t : Went). FollowsVisit a tidy noted node t Moved (record tidy { way = next; stage = Seeks then_noted })) visit (
-        refl,
-        ap (λ (x : Noted). record tidy { way = next; stage = Seeks x }) h,
-        subst (λ (t : Went). Visits a tidy.key tidy.way t) went_is visits,
-      )
+  at_place : (begun : ℕ) (w : World) → IsWorld a epoch w → Truth begun w → (counters : Counters) (at : AtBorder begun tidy.key tidy.way counters a w) → at.here.b.version.deleted ≡ false → IsAtItsPlace begun tidy.key tidy.way seen a w
+  at_place begun w world truth counters at alive =
+      let b = at.here.b in
+      let (on_border, low) = border_is_on (arena_seen a) w.chart world.index.tree begun tidy.way.node.0 (slice_number (rest_of tidy.key tidy.way)) (prefix_of tidy.key tidy.way) (border_seen b) truth.0.held (seen-border a tidy.way.node.0 b at.here.named) alive in
+      record { layer = at.layer; b = b; named = at.here.named; alive = alive; posted = on_border.posted; place = on_border.place; noted = seen_true begun w truth }
 
-  -- ---- at its place
-  module _ (b : BorderView) (named : border_at a.nodes tidy.way.node.0 ≡ Some b) (at_place : IsHereBy a tidy.key tidy.way) where
-    -- what follows there
-    follows_here : (p : Progress) (next : Tidy) → Begins tidy noted b p next → IsSomeAnd (node_at a.nodes tidy.way.node.0) (λ node. FollowsVisit a tidy noted node (went_by tidy.way (node_visit (rest_of tidy.key tidy.way) node)) p next)
-    follows_here p next begins = some_by (node_at a.nodes tidy.way.node.0) _ _ (λ node e. subst (λ (t : Went). FollowsVisit a tidy noted node t p next) e (subst (λ (o : Option BorderView). IsSomeAnd o (λ x. Begins tidy noted x p next)) (sym named) begins)) at_place.visit
+  law : (reading : FindReading) → Leads reading → (after : ArenaView) (p : Progress) (new : Tidy) → Changes reading after p new → Reading reading p new → Law after p new
+  law Restarts leads after p new same (p_is, then_is) = unchanged after p Waits new (record (unread tidy) { way = start; stage = Seeks not_noted }) same p_is then_is refl (λ begun w world truth.
+      let on = starts a epoch w begun tidy.key world in
+      (on, record { head = starts_at_head a epoch w begun world; above = tt; came = tt; lone = tt }, ([], on)))
+  law Repeats leads after p new same (p_is, then_is) = unchanged after p Waits new (record (unread tidy) { stage = Seeks seen }) same p_is then_is refl (λ begun w world truth. (truth.0, seen_true begun w truth, ([], truth.0)))
+  law (GoesOn next) leads after p new same (p_is, then_is) = unchanged after p Moved new (record (unread tidy) { finding = next; stage = Seeks seen }) same p_is then_is refl (λ begun w world truth.
+      let (past, led) = leads begun w world truth in
+      (truth.0, seen_true begun w truth, (arena_seen a ∷ past, led.0)))
+  law (To node) leads after p new same follows = advances (record { node = node; layer = tidy.way.layer }) after p new same follows (λ begun w world truth. ((leads begun w world truth).1, inl refl))
+  law (Finds (LinkSight head)) leads after p new same follows = advances (record { node = head; layer = tidy.way.layer + 1 }) after p new same follows (λ begun w world truth.
+      let (past, (on, known)) = leads begun w world truth in
+      (on, inr (refl, subst (λ (m : ℕ). IsHeadOf w begun head.0 (slices_above m tidy.key)) (sym (add-one tidy.way.layer)) known)))
+  law (Finds AbsentSight) leads after p new place follows = λ begun w world before truth.
+      let (past, (counters, at, alive)) = leads begun w world truth in
+      place.steps begun w world before (at_place begun w world truth counters at alive)
+  law (Finds (RowSight row)) leads after p new place follows = λ begun w world before truth.
+      let (past, (counters, at, alive)) = leads begun w world truth in
+      place.steps begun w world before (at_place begun w world truth counters at alive)
 
-    -- it ends there with nothing
-    pub ends : ((b.version.locked ≡ true) ⊎ ((b.version.locked ≡ false) × (sign_of b noted ≡ Nothing))) → TidyStep epoch a a tidy (Answered (Tidied NoRule)) tidy
-    ends why = at_stage epoch a a tidy (Seeks noted) (Answered (Tidied NoRule)) tidy is refl refl (law_same epoch a tidy (Seeks noted) (Answered (Tidied NoRule)) tidy refl (λ begun w world truth. tt)) tt tt
-        (follows_here (Answered (Tidied NoRule)) tidy (elim why [
-          | inl locked ↦ inl (locked, refl)
-          | inr nothing ↦ inr (nothing.0, subst (λ (s : Sign). BeginsBy tidy noted s (Answered (Tidied NoRule)) tidy) (sym nothing.1) refl)
-        ]))
+  retired : (reading : FindReading) (after : ArenaView) (p : Progress) (new : Tidy) → Changes reading after p new → after.retired ≡ a.retired
+  retired Restarts after p new same = ap (λ (x : ArenaView). x.retired) same
+  retired Repeats after p new same = ap (λ (x : ArenaView). x.retired) same
+  retired (GoesOn next) after p new same = ap (λ (x : ArenaView). x.retired) same
+  retired (To node) after p new same = ap (λ (x : ArenaView). x.retired) same
+  retired (Finds (LinkSight head)) after p new same = ap (λ (x : ArenaView). x.retired) same
+  retired (Finds AbsentSight) after p new place = place.retires
+  retired (Finds (RowSight row)) after p new place = place.retires
 
-    -- the sign of an empty layer
-    record IsOnly (came : Came) (above : Option NodeNo) : Type 0 where
-      pub upper : NodeNo
-      pub sign : layer_sign b came above ≡ EmptyLayer upper
-      pub above_is : above ≡ Some upper
-      pub empty : b.live ≡ []
-      pub right : b.right ≡ None
+  tidied : (reading : FindReading) (after : ArenaView) (p : Progress) (new : Tidy) → Changes reading after p new → Reading reading p new → IsTidied p
+  tidied Restarts after p new same (p_is, then_is) = subst IsTidied (sym p_is) tt
+  tidied Repeats after p new same (p_is, then_is) = subst IsTidied (sym p_is) tt
+  tidied (GoesOn next) after p new same (p_is, then_is) = subst IsTidied (sym p_is) tt
+  tidied (To node) after p new same (p_is, then_is) = subst IsTidied (sym p_is) tt
+  tidied (Finds (LinkSight head)) after p new same (p_is, then_is) = subst IsTidied (sym p_is) tt
+  tidied (Finds AbsentSight) after p new place follows = place.tidied
+  tidied (Finds (RowSight row)) after p new place follows = place.tidied
 
-    no_entry : (live : List Entry) → (length live == 0) ≡ true → live ≡ []
-    no_entry [] e = refl
-    no_entry (x ∷ xs) e = elim (eqb_tells (length (x ∷ xs)) 0) [ inl p ↦ absurd (let same = p.1 in omega (arith, same)) | inr p ↦ absurd (let clash : false ≡ true = sym p.0 ∙ e in cc) ]
+  no_wait : (p : Progress) → p ≢ Waits → StageWaits a tidy (Seeks noted) p
+  no_wait Moved differ = tt
+  no_wait Waits differ = absurd (differ refl)
+  no_wait (Committed number) differ = tt
+  no_wait (Answered answer) differ = tt
+  no_wait (Refused refusal) differ = tt
 
-    layer_is : (came : Came) (above : Option NodeNo) → (layer_sign b came above ≡ Nothing) ⊎ IsOnly came above
-    layer_is came None = inl refl
-    layer_is FromLeft (Some upper) = inl refl
-    layer_is (AsChild parent is_one) (Some upper) = inl refl
-    layer_is FromHead (Some upper) = by_empty (length b.live == 0) refl
+  waits : (reading : FindReading) (after : ArenaView) (p : Progress) (new : Tidy) → Changes reading after p new → Reading reading p new → ReadWaits (FindingWaits tidy.finding) a tidy.way.node.0 reading → StageWaits a tidy (Seeks noted) p
+  waits Restarts after p new same (p_is, then_is) why = subst (λ (x : Progress). StageWaits a tidy (Seeks noted) x) (sym p_is) why
+  waits Repeats after p new same (p_is, then_is) why = subst (λ (x : Progress). StageWaits a tidy (Seeks noted) x) (sym p_is) why
+  waits (GoesOn next) after p new same (p_is, then_is) why = subst (λ (x : Progress). StageWaits a tidy (Seeks noted) x) (sym p_is) tt
+  waits (To node) after p new same (p_is, then_is) why = subst (λ (x : Progress). StageWaits a tidy (Seeks noted) x) (sym p_is) tt
+  waits (Finds (LinkSight head)) after p new same (p_is, then_is) why = subst (λ (x : Progress). StageWaits a tidy (Seeks noted) x) (sym p_is) tt
+  waits (Finds AbsentSight) after p new place follows why = no_wait p place.waits_not
+  waits (Finds (RowSight row)) after p new place follows why = no_wait p place.waits_not
+
+  -- WHAT A STEP on its way does
+  module _ (bytes : AreBytes tidy.key) (may : MayTidy epoch a tidy) (reading : FindReading) (reads_it : SeekReads a tidy.way.node.0 (rest_of tidy.key tidy.way) tidy.finding reading) where
+    leads : Leads reading
+    leads begun w world (on, t, (past, truth)) = (
+      past,
+      subst (λ (r : FindReading). SeekLeads a epoch w world begun tidy.key tidy.way past tidy.finding r) (sym reads_it.does) (seek_leads a epoch w world begun tidy.key tidy.way past bytes tidy.finding truth reads_it.part reads_it.lent),
+    )
+
+    why : ReadWaits (FindingWaits tidy.finding) a tidy.way.node.0 reading
+    why = subst (λ (r : FindReading). ReadWaits (FindingWaits tidy.finding) a tidy.way.node.0 r) (sym reads_it.does) (seek_waits a tidy.way.node.0 (rest_of tidy.key tidy.way) tidy.finding (may_read epoch a tidy noted is may) reads_it.part reads_it.lent)
+
+    -- it is at its place at a border
+    pub at_border : AtPlace a tidy.way.node.0 reading
+    at_border = go (leads may.begun may.w may.world (truth epoch a tidy noted is may)).0 reading (leads may.begun may.w may.world (truth epoch a tidy noted is may)).1
       where
-        by_right : (right : Option RightLink) → b.right ≡ right → (length b.live == 0) ≡ true → (b.low == 0) ≡ true → (layer_sign b FromHead (Some upper) ≡ Nothing) ⊎ IsOnly FromHead (Some upper)
-        by_right None right empty low = inr (record {
-          upper = upper;
-          sign = ap (λ (c : Bool). if c then (if b.low == 0 then last_sign b.right upper else Nothing) else Nothing) empty ∙ (ap (λ (c : Bool). if c then last_sign b.right upper else Nothing) low ∙ ap (λ (o : Option RightLink). last_sign o upper) right);
-          above_is = refl;
-          empty = no_entry b.live empty;
-          right = right;
-        })
-        by_right (Some x) right empty low = inl (ap (λ (c : Bool). if c then (if b.low == 0 then last_sign b.right upper else Nothing) else Nothing) empty ∙ (ap (λ (c : Bool). if c then last_sign b.right upper else Nothing) low ∙ ap (λ (o : Option RightLink). last_sign o upper) right))
+        go : (past : List Arena) (r : FindReading) → SeekLeads a epoch may.w may.world may.begun tidy.key tidy.way past tidy.finding r → AtPlace a tidy.way.node.0 r
+        go past Restarts led = tt
+        go past Repeats led = tt
+        go past (GoesOn next) led = tt
+        go past (To node) led = tt
+        go past (Finds (LinkSight head)) led = tt
+        go past (Finds AbsentSight) (counters, at, alive) = subst (λ (o : Option BorderView). IsSome o) (sym at.here.named) refl
+        go past (Finds (RowSight row)) (counters, at, alive) = subst (λ (o : Option BorderView). IsSome o) (sym at.here.named) refl
 
-        by_low : (low : Bool) → (b.low == 0) ≡ low → (length b.live == 0) ≡ true → (layer_sign b FromHead (Some upper) ≡ Nothing) ⊎ IsOnly FromHead (Some upper)
-        by_low true low empty = by_right b.right refl empty low
-        by_low false low empty = inl (ap (λ (c : Bool). if c then (if b.low == 0 then last_sign b.right upper else Nothing) else Nothing) empty ∙ ap (λ (c : Bool). if c then last_sign b.right upper else Nothing) low)
+    -- no node is changed before it looks at the version again
+    unchanged_by : (r : FindReading) → NoFinds r → (after : ArenaView) (p : Progress) (new : Tidy) → Changes r after p new → after ≡ a
+    unchanged_by Restarts none after p new same = same
+    unchanged_by Repeats none after p new same = same
+    unchanged_by (GoesOn next) none after p new same = same
+    unchanged_by (To node) none after p new same = same
+    unchanged_by (Finds sight) none after p new same = absurd none
 
-        by_empty : (empty : Bool) → (length b.live == 0) ≡ empty → (layer_sign b FromHead (Some upper) ≡ Nothing) ⊎ IsOnly FromHead (Some upper)
-        by_empty true empty = by_low (b.low == 0) refl empty
-        by_empty false empty = inl (ap (λ (c : Bool). if c then (if b.low == 0 then last_sign b.right upper else Nothing) else Nothing) empty)
+    read_so : (finding : Finding) → reading ≡ seek_reading finding (rest_of tidy.key tidy.way) reads_it.part → (after : ArenaView) (p : Progress) (new : Tidy) → Changes reading after p new → StageReads a after finding (Seeks noted)
+    read_so Begins is after p new changes = unchanged_by reading (subst NoFinds (sym is) (seek_none Begins (λ e. e) _ reads_it.part)) after p new changes
+    read_so (Looked counters) is after p new changes = unchanged_by reading (subst NoFinds (sym is) (seek_none (Looked counters) (λ e. e) _ reads_it.part)) after p new changes
+    read_so (Bounded counters right) is after p new changes = unchanged_by reading (subst NoFinds (sym is) (seek_none (Bounded counters right) (λ e. e) _ reads_it.part)) after p new changes
+    read_so (Reads notes) is after p new changes = unchanged_by reading (subst NoFinds (sym is) (seek_none (Reads notes) (λ e. e) _ reads_it.part)) after p new changes
+    read_so (AtValue notes kind) is after p new changes = unchanged_by reading (subst NoFinds (sym is) (seek_none (AtValue notes kind) (λ e. e) _ reads_it.part)) after p new changes
+    read_so (Settles counters sight) is after p new changes = tt
 
-    -- an interior with one child was noted
-    pub begins_lone : (lone : OneChild) → b.version.locked ≡ false → sign_of b noted ≡ LoneChild lone → TidyStep epoch a a tidy Moved (record tidy { stage = Lonely lone })
-    begins_lone lone unlocked sign = at_stage epoch a a tidy (Seeks noted) Moved (record tidy { stage = Lonely lone }) is refl refl
-        (law_same epoch a tidy (Seeks noted) Moved (record tidy { stage = Lonely lone }) refl (λ begun w world truth. subst (λ (o : Option OneChild). IfLone begun (prefix_of tidy.key tidy.way) w o) (lone_of noted.came noted.lone (layer_sign b noted.came noted.above) (no_lone noted.came noted.above) sign) truth.1.lone)) tt tt
-        (follows_here Moved (record tidy { stage = Lonely lone }) (inr (unlocked, subst (λ (s : Sign). BeginsBy tidy noted s Moved (record tidy { stage = Lonely lone })) (sym sign) (refl, refl))))
-      where
-        plain : (o : Option OneChild) (layer : Sign) → (layer ≡ LoneChild lone → ⊥) → lone_sign o layer ≡ LoneChild lone → o ≡ Some lone
-        plain None layer other e = absurd (other e)
-        plain (Some x) layer other e = let same : x ≡ lone = cc in ap Some same
+    pub reads : (after : ArenaView) (p : Progress) (new : Tidy) → ReadStep epoch a after (unread tidy) seen reading p new → TidyStep epoch a after tidy p new
+    reads after p new step = at_stage epoch a after tidy (Seeks noted) p new is step.key (retired reading after p new step.changes)
+        (record { steps = law reading leads after p new step.changes step.follows; reads = read_so tidy.finding reads_it.does after p new step.changes }) (tidied reading after p new step.changes step.follows)
+        (waits reading after p new step.changes step.follows why)
+        (record { part = reads_it.part; lent = reads_it.lent; does = subst (λ (r : FindReading). FollowsReading a (unread tidy) seen r p new) reads_it.does step.follows })
 
-        by_low : (low : Bool) (parent : NodeNo) (o : Option OneChild) (layer : Sign) → (layer ≡ LoneChild lone → ⊥) → (if low then lone_sign o layer else EmptyBorder parent) ≡ LoneChild lone → o ≡ Some lone
-        by_low true parent o layer other e = plain o layer other e
-        by_low false parent o layer other e = absurd (let clash : EmptyBorder parent ≡ LoneChild lone = e in cc)
+-- ---- as the code has it: what it had read, what is left of its key, and what it notes, each by its name
+module _ (epoch : ℕ) (a : ArenaView) (tidy : Tidy) (noted : Noted) (is : tidy.stage ≡ Seeks noted) (may : MayTidy epoch a tidy) (finding : Finding) (finding_is : finding ≡ tidy.finding) where
+  pub order_named : AtOrder finding → IsSome (border_at a.nodes tidy.way.node.0)
+  order_named order = at_order epoch a tidy noted is may (subst AtOrder finding_is order)
 
-        by_empty : (empty low : Bool) (parent : NodeNo) (o : Option OneChild) (layer : Sign) → (layer ≡ LoneChild lone → ⊥) → (if empty then (if low then lone_sign o layer else EmptyBorder parent) else lone_sign o layer) ≡ LoneChild lone → o ≡ Some lone
-        by_empty true low parent o layer other e = by_low low parent o layer other e
-        by_empty false low parent o layer other e = plain o layer other e
+  pub lent_reader : IsReader finding
+  lent_reader = subst IsReader (sym finding_is) (may_want epoch a tidy noted is may)
 
-        lone_of : (came : Came) (o : Option OneChild) (layer : Sign) → (layer ≡ LoneChild lone → ⊥) → border_sign b came (lone_sign o layer) ≡ LoneChild lone → o ≡ Some lone
-        lone_of FromHead o layer other e = plain o layer other e
-        lone_of FromLeft o layer other e = plain o layer other e
-        lone_of (AsChild parent true) o layer other e = plain o layer other e
-        lone_of (AsChild parent false) o layer other e = by_empty (is_empty b) (b.low == 0) parent o layer other e
+  module _ (rest : List ℕ) (rest_is : rest ≡ rest_of tidy.key tidy.way) where
+    pub lent_may : MayRead a tidy.way.node.0 (slice_number rest) finding
+    lent_may = subst (λ (r : List ℕ). MayRead a tidy.way.node.0 (slice_number r) finding) (sym rest_is) (subst (λ (f : Finding). MayRead a tidy.way.node.0 (slice_number (rest_of tidy.key tidy.way)) f) (sym finding_is) (may_read epoch a tidy noted is may))
 
-        no_lone : (came : Came) (above : Option NodeNo) → layer_sign b came above ≡ LoneChild lone → ⊥
-        no_lone came above e = elim (layer_is came above) [
-          | inl nothing ↦ (let clash : Nothing ≡ LoneChild lone = sym nothing ∙ e in cc)
-          | inr d ↦ (let clash : EmptyLayer d.upper ≡ LoneChild lone = sym d.sign ∙ e in cc)
-        ]
+    module _ (bytes : AreBytes tidy.key) (reading : FindReading) (reads_it : SeekReads a tidy.way.node.0 rest finding reading) where
+      own_reads : SeekReads a tidy.way.node.0 (rest_of tidy.key tidy.way) tidy.finding reading
+      own_reads = subst (λ (r : List ℕ). SeekReads a tidy.way.node.0 r tidy.finding reading) rest_is (subst (λ (f : Finding). SeekReads a tidy.way.node.0 rest f reading) finding_is reads_it)
 
-    -- the border is empty, and was reached from an interior that names it later
-    record IsDue (parent : NodeNo) : Type 0 where
-      pub came : noted.came ≡ AsChild parent false
-      pub empty : b.live ≡ []
-      pub low : 0 < b.low
+      pub place_there : AtPlace a tidy.way.node.0 reading
+      place_there = at_border epoch a tidy noted is bytes may reading own_reads
 
-    due : (parent : NodeNo) → sign_of b noted ≡ EmptyBorder parent → IsDue parent
-    due parent sign = by_came noted.came refl sign
-      where
-        layer : Sign
-        layer = layer_sign b noted.came noted.above
-
-        no_lone : (o : Option OneChild) → lone_sign o layer ≡ EmptyBorder parent → ⊥
-        no_lone None e = elim (layer_is noted.came noted.above) [
-          | inl nothing ↦ (let clash : Nothing ≡ EmptyBorder parent = sym nothing ∙ e in cc)
-          | inr d ↦ (let clash : EmptyLayer d.upper ≡ EmptyBorder parent = sym d.sign ∙ e in cc)
-        ]
-        no_lone (Some x) e = (let clash : LoneChild x ≡ EmptyBorder parent = e in cc)
-
-        above : (low : ℕ) → (low == 0) ≡ false → 0 < low
-        above low e = elim (eqb_tells low 0) [ inl p ↦ absurd (let clash : true ≡ false = sym p.0 ∙ e in cc) | inr p ↦ let differ = p.1 in omega (arith, differ) ]
-
-        by_low : (q : NodeNo) (low : Bool) → (b.low == 0) ≡ low → (length b.live == 0) ≡ true → noted.came ≡ AsChild q false → (if low then lone_sign noted.lone layer else EmptyBorder q) ≡ EmptyBorder parent → IsDue parent
-        by_low q true low empty came e = absurd (no_lone noted.lone e)
-        by_low q false low empty came e = let same : q ≡ parent = cc in record { came = came ∙ ap (λ (m : NodeNo). AsChild m false) same; empty = no_entry b.live empty; low = above b.low low }
-
-        by_empty : (q : NodeNo) (empty : Bool) → (length b.live == 0) ≡ empty → noted.came ≡ AsChild q false → (if empty then (if b.low == 0 then lone_sign noted.lone layer else EmptyBorder q) else lone_sign noted.lone layer) ≡ EmptyBorder parent → IsDue parent
-        by_empty q true empty came e = by_low q (b.low == 0) refl empty came e
-        by_empty q false empty came e = absurd (no_lone noted.lone e)
-
-        by_came : (came : Came) → noted.came ≡ came → border_sign b came (lone_sign noted.lone layer) ≡ EmptyBorder parent → IsDue parent
-        by_came FromHead is_came e = absurd (no_lone noted.lone e)
-        by_came FromLeft is_came e = absurd (no_lone noted.lone e)
-        by_came (AsChild q true) is_came e = absurd (no_lone noted.lone e)
-        by_came (AsChild q false) is_came e = by_empty q (length b.live == 0) refl is_came e
-
-    -- the border is the only one of a layer
-    record IsLayerDue (upper : NodeNo) : Type 0 where
-      pub above_is : noted.above ≡ Some upper
-      pub empty : b.live ≡ []
-      pub right : b.right ≡ None
-
-    layer_due : (upper : NodeNo) → sign_of b noted ≡ EmptyLayer upper → IsLayerDue upper
-    layer_due upper sign = by_came noted.came (layer_sign b noted.came noted.above) refl sign
-      where
-        is_due : layer_sign b noted.came noted.above ≡ EmptyLayer upper → IsLayerDue upper
-        is_due e = elim (layer_is noted.came noted.above) [
-          | inl nothing ↦ absurd (let clash : Nothing ≡ EmptyLayer upper = sym nothing ∙ e in cc)
-          | inr d ↦ let both : EmptyLayer d.upper ≡ EmptyLayer upper = sym d.sign ∙ e in
-              let same : d.upper ≡ upper = cc in
-              record { above_is = d.above_is ∙ ap Some same; empty = d.empty; right = d.right }
-        ]
-
-        by_lone : (o : Option OneChild) (layer : Sign) → layer_sign b noted.came noted.above ≡ layer → lone_sign o layer ≡ EmptyLayer upper → IsLayerDue upper
-        by_lone None layer is_layer e = is_due (is_layer ∙ e)
-        by_lone (Some x) layer is_layer e = absurd (let clash : LoneChild x ≡ EmptyLayer upper = e in cc)
-
-        by_low : (q : NodeNo) (low : Bool) (layer : Sign) → layer_sign b noted.came noted.above ≡ layer → (if low then lone_sign noted.lone layer else EmptyBorder q) ≡ EmptyLayer upper → IsLayerDue upper
-        by_low q true layer is_layer e = by_lone noted.lone layer is_layer e
-        by_low q false layer is_layer e = absurd (let clash : EmptyBorder q ≡ EmptyLayer upper = e in cc)
-
-        by_empty : (q : NodeNo) (empty low : Bool) (layer : Sign) → layer_sign b noted.came noted.above ≡ layer → (if empty then (if low then lone_sign noted.lone layer else EmptyBorder q) else lone_sign noted.lone layer) ≡ EmptyLayer upper → IsLayerDue upper
-        by_empty q true low layer is_layer e = by_low q low layer is_layer e
-        by_empty q false low layer is_layer e = by_lone noted.lone layer is_layer e
-
-        by_came : (came : Came) (layer : Sign) → layer_sign b noted.came noted.above ≡ layer → border_sign b came (lone_sign noted.lone layer) ≡ EmptyLayer upper → IsLayerDue upper
-        by_came FromHead layer is_layer e = by_lone noted.lone layer is_layer e
-        by_came FromLeft layer is_layer e = by_lone noted.lone layer is_layer e
-        by_came (AsChild q true) layer is_layer e = by_lone noted.lone layer is_layer e
-        by_came (AsChild q false) layer is_layer e = by_empty q (is_empty b) (b.low == 0) layer is_layer e
-
-    abbrev n : ℕ
-    n = tidy.way.node.0
-
-    abbrev lock : BorderView → BorderView
-    lock x = with_locked x
-
-    pub locks : (parent : NodeNo) (after : ArenaView) → IsBorder b → b.version.locked ≡ false → sign_of b noted ≡ EmptyBorder parent → after ≡ with_border_changed a n lock → KeepsTree a after
-        → TidyStep epoch a after tidy Moved (record tidy { stage = Locked tidy.way.node noted.head parent })
-    locks parent after sound unlocked sign value keeps = at_stage epoch a after tidy (Seeks noted) Moved (record tidy { stage = Locked tidy.way.node noted.head parent }) is refl (ap (λ (x : ArenaView). x.retired) value) (record {
-      steps = λ begun w world before truth.
-          let d = due parent sign in
-          let new : ArenaView = with_border_changed a n lock in
-          let at : IsAtPlace a tidy.key tidy.way w = at_place.visits.goes epoch w begun world truth.0 in
-          let same : at.here.border ≡ b = (let both : ◌≡◌ {A = Option BorderView} (Some at.here.border) (Some b) = sym at.here.named ∙ named in cc) in
-          let stands = subst (λ (x : BorderView). IsWhere (arena_seen a) w.chart n (prefix_of tidy.key tidy.way) (border_seen x) (place_of (rest_of tidy.key tidy.way))) same at.here.stands in
-          let kept = (subst (λ (x : ArenaView). KeepsTree a x) value keeps).keeps epoch w.twins w.chart world.index in
-          let Then : ArenaView → World → Type 0 = λ x next. StageIsTrue begun tidy.key tidy.way (Locked tidy.way.node noted.head parent) x next in
-          subst (λ (x : ArenaView). Goes epoch a x w [] (n ∷ []) (Then x) × SameContent (arena_seen a) (arena_seen x)) (sym value) (
-            goes_border a n b lock named epoch w [] (n ∷ []) (Then new) world (λ known. (ages_locked b, inr refl)) kept.index (keys_same a new kept.content world.keys)
-                (unlocked_free a n b lock named w [] unlocked (known_some w n _ stands.stands.place))
-                (λ other i. inr (among_one other n i)) (λ other ne i. elim i [ ]) (λ locked. first) (on_kept a epoch w.chart n _ _ _ _ stands.stands.place world.retired, λ i. refl, alive_changed a n b lock named w.chart (inl refl)) (
-                  (stands.stands.posted, record { b = lock b; named = now_named a n b lock named; locked = refl; written = unlocked_written b sound unlocked; empty = d.empty; later = d.low; place = stands.stands.place; free = unlocked_root a w.closing w.chart n b named unlocked world.heads }, ap (λ (x : BorderView). x.version.deleted) (sym same) ∙ at.alive),
-                  truth.1.head,
-                  subst (λ (c : Came). CameIsKnown begun (prefix_of tidy.key tidy.way) w c) d.came truth.1.came,
-                ),
-            kept.content,
-          );
-    }) tt tt (follows_here Moved (record tidy { stage = Locked tidy.way.node noted.head parent }) (inr (unlocked, subst (λ (s : Sign). BeginsBy tidy noted s Moved (record tidy { stage = Locked tidy.way.node noted.head parent })) (sym sign) (refl, refl))))
-
-    -- the only border of a layer is locked
-    pub locks_root : (upper : NodeNo) (after : ArenaView) → IsBorder b → b.version.locked ≡ false → sign_of b noted ≡ EmptyLayer upper → after ≡ with_border_changed a n lock → KeepsTree a after
-        → TidyStep epoch a after tidy Moved (record tidy { stage = RootLocked tidy.way.node noted.head upper })
-    locks_root upper after sound unlocked sign value keeps = at_stage epoch a after tidy (Seeks noted) Moved (record tidy { stage = RootLocked tidy.way.node noted.head upper }) is refl (ap (λ (x : ArenaView). x.retired) value) (record {
-      steps = λ begun w world before truth.
-          let d = layer_due upper sign in
-          let new : ArenaView = with_border_changed a n lock in
-          let at : IsAtPlace a tidy.key tidy.way w = at_place.visits.goes epoch w begun world truth.0 in
-          let same : at.here.border ≡ b = (let both : ◌≡◌ {A = Option BorderView} (Some at.here.border) (Some b) = sym at.here.named ∙ named in cc) in
-          let stands = subst (λ (x : BorderView). IsWhere (arena_seen a) w.chart n (prefix_of tidy.key tidy.way) (border_seen x) (place_of (rest_of tidy.key tidy.way))) same at.here.stands in
-          let kept = (subst (λ (x : ArenaView). KeepsTree a x) value keeps).keeps epoch w.twins w.chart world.index in
-          let Then : ArenaView → World → Type 0 = λ x next. StageIsTrue begun tidy.key tidy.way (RootLocked tidy.way.node noted.head upper) x next in
-          subst (λ (x : ArenaView). Goes epoch a x w [] (n ∷ []) (Then x) × SameContent (arena_seen a) (arena_seen x)) (sym value) (
-            goes_border a n b lock named epoch w [] (n ∷ []) (Then new) world (λ known. (ages_locked b, inr refl)) kept.index (keys_same a new kept.content world.keys)
-                (unlocked_free a n b lock named w [] unlocked (known_some w n _ stands.stands.place))
-                (λ other i. inr (among_one other n i)) (λ other ne i. elim i [ ]) (λ locked. first) (on_kept a epoch w.chart n _ _ _ _ stands.stands.place world.retired, λ i. refl, alive_changed a n b lock named w.chart (inl refl)) (record {
-                  border = record { b = lock b; named = now_named a n b lock named; known = known_some w n _ stands.stands.place; locked = refl; written = unlocked_written b sound unlocked; empty = d.empty; right = d.right };
-                  alive = ap (λ (x : BorderView). x.version.deleted) (sym same) ∙ at.alive;
-                  free = unlocked_root a w.closing w.chart n b named unlocked world.heads;
-                  headed = truth.1.head;
-                  within = truth.0.layer.within;
-                  known = subst (λ (o : Option NodeNo). IfAbove begun tidy.key tidy.way.layer w o) d.above_is truth.1.above;
-                }),
-            kept.content,
-          );
-    }) tt tt (follows_here Moved (record tidy { stage = RootLocked tidy.way.node noted.head upper }) (inr (unlocked, subst (λ (s : Sign). BeginsBy tidy noted s Moved (record tidy { stage = RootLocked tidy.way.node noted.head upper })) (sym sign) (refl, refl))))
+      pub reads_by : (dest : Finding) → dest ≡ Begins → (notes : Noted) → notes ≡ glanced finding (border_at a.nodes tidy.way.node.0) noted → (after : ArenaView) (p : Progress) (new : Tidy)
+          → ReadStep epoch a after (record tidy { finding = dest }) notes reading p new → TidyStep epoch a after tidy p new
+      reads_by dest dest_is notes notes_is after p new step = reads epoch a tidy noted is bytes may reading own_reads after p new
+          (subst (λ (x : Noted). ReadStep epoch a after (unread tidy) x reading p new) (notes_is ∙ ap (λ (f : Finding). glanced f (border_at a.nodes tidy.way.node.0) noted) finding_is)
+          (subst (λ (f : Finding). ReadStep epoch a after (record tidy { finding = f }) notes reading p new) dest_is step))

@@ -1,6 +1,6 @@
 -- What a step does, of a tidy that is at a stage.
-use Rattle.std.proofs.Common.{ℕ, ◌≡◌, List, [], ◌∷◌, length, Option, Some, None, IsSome, Bool, true, false, refl, sym, ap, subst, ◌∙◌, arith}
-use Rattle.std.specs.Prelude.{IsSomeAnd, if◌then◌else◌}
+use Rattle.std.proofs.Common.{ℕ, ◌≡◌, inl, List, [], ◌∷◌, length, Option, Some, None, IsSome, Bool, true, false, refl, sym, ap, subst, ◌∙◌, arith}
+use Rattle.std.specs.Prelude.{◌&&◌, not, IsSomeAnd, if◌then◌else◌}
 use Rattle.std.specs.Option.{option_and_then}
 use Rattle.mt_types.specs.declared.numbers.NodeNo.{NodeNo}
 use Rattle.mt_border.specs.Border.{BorderView}
@@ -19,9 +19,13 @@ use Rattle.mt_steps.specs.World.{World, IsWorld}
 use Rattle.mt_steps.specs.Step.{left_with}
 use Rattle.mt_steps.proofs.FrameLemmas.{goes_same}
 use Rattle.mt_remove.specs.declared.tidy.Tidy.{Tidy}
+use Rattle.mt_steps.specs.declared.reader.Reader.TheVariants.{Begins, Looked, Bounded, Reads, AtValue, Settles}
+use Rattle.mt_steps.specs.Finding.{Finding}
 use Rattle.mt_remove.specs.declared.stage.Stage.{Stage}
-use Rattle.mt_remove.specs.Seen.{free_interior, is_only, lone_of, is_lone, place_in, not_first, later_place, free_border, link_place}
-use Rattle.mt_remove.specs.Tidy.{stage_owns, tidy_held, StageIsTrue, IsKnownIn, IsTidied, ThenTidy, StageLaw, MayTidy}
+use Rattle.mt_remove.specs.declared.stage.Stage.TheVariants.{Seeks, LooksAgain, LooksRight, Locked, Dropped, Marked, LeftLocked, LeftNames, LeftMissed, LeftWritten, Unlinked, Lonely, LoneLocked, Bypassed, RootLocked, AboveLocked, AboveBounded, AboveSearched, AboveFound, LinkFound, HeadMarked, RootMarked, LinkHidden, LayerGone, RootRetired, KeepsLayer, KeepsBorder, KeepsInterior}
+use Rattle.mt_remove.specs.Seen.{free_interior, is_only, lone_of, is_lone, place_in, not_first, later_place, is_free_border}
+use Rattle.mt_remove.specs.Tidy.{stage_owns, tidy_held, StageIsTrue, IsTidied, ThenTidy, StageReads, StageLaw, MayTidy}
+use Rattle.mt_remove.specs.Known.{IsKnownIn}
 use Rattle.mt_remove.specs.Follows.{Follows, StageWaits, then_retired, TidyStep}
 
 -- ---- a step at a stage
@@ -41,16 +45,58 @@ none_retired None a after change same h = absurd h
 none_retired (Some x) a after change same h = ap (λ (v : ArenaView). v.retired) h ∙ same x
 
 -- what is true of the stage where it is
-pub true_at : (epoch : ℕ) (a : ArenaView) (tidy : Tidy) (stage : Stage) → tidy.stage ≡ stage → (may : MayTidy epoch a tidy) → StageIsTrue may.begun tidy.key tidy.way stage a may.w
-true_at epoch a tidy stage is may = subst (λ (s : Stage). StageIsTrue may.begun tidy.key tidy.way s a may.w) is may.true
+pub true_at : (epoch : ℕ) (a : ArenaView) (tidy : Tidy) (stage : Stage) → tidy.stage ≡ stage → (may : MayTidy epoch a tidy) → StageIsTrue may.begun tidy.key tidy.way tidy.finding stage a may.w
+true_at epoch a tidy stage is may = subst (λ (s : Stage). StageIsTrue may.begun tidy.key tidy.way tidy.finding s a may.w) is may.true
 
 -- ---- a step that changes no node
+-- a step that changes no node reads alone
+pub reads_same : (a : ArenaView) (finding : Finding) (stage : Stage) → StageReads a a finding stage
+reads_same a Begins (Seeks noted) = refl
+reads_same a (Looked counters) (Seeks noted) = refl
+reads_same a (Bounded counters right) (Seeks noted) = refl
+reads_same a (Reads notes) (Seeks noted) = refl
+reads_same a (AtValue notes kind) (Seeks noted) = refl
+reads_same a (Settles counters sight) (Seeks noted) = tt
+reads_same a Begins (Marked u) = refl
+reads_same a (Looked counters) (Marked u) = refl
+reads_same a (Bounded counters right) (Marked u) = inl refl
+reads_same a (Reads notes) (Marked u) = refl
+reads_same a (AtValue notes kind) (Marked u) = refl
+reads_same a (Settles counters sight) (Marked u) = refl
+reads_same a finding (LooksAgain border head emptied glance) = tt
+reads_same a finding (LooksRight border head emptied right) = tt
+reads_same a finding (Locked border head parent) = tt
+reads_same a finding (Dropped border head) = tt
+reads_same a finding (LeftLocked u) = tt
+reads_same a finding (LeftNames u) = tt
+reads_same a finding (LeftMissed u) = tt
+reads_same a finding (LeftWritten border left) = tt
+reads_same a finding (Unlinked border) = tt
+reads_same a finding (Lonely lone) = tt
+reads_same a finding (LoneLocked lone) = tt
+reads_same a finding (Bypassed interior rule) = tt
+reads_same a finding (RootLocked layer) = tt
+reads_same a finding (AboveLocked layer) = tt
+reads_same a finding (AboveBounded layer) = tt
+reads_same a finding (AboveSearched layer order place at) = tt
+reads_same a finding (AboveFound layer slot) = tt
+reads_same a finding (LinkFound layer) = tt
+reads_same a finding (HeadMarked layer) = tt
+reads_same a finding (RootMarked layer) = tt
+reads_same a finding (LinkHidden layer) = tt
+reads_same a finding (LayerGone root head) = tt
+reads_same a finding (RootRetired head) = tt
+reads_same a finding (KeepsLayer above root) = tt
+reads_same a finding (KeepsBorder border) = tt
+reads_same a finding (KeepsInterior interior) = tt
+
 pub same_content : (a : ArenaView) → SameContent (arena_seen a) (arena_seen a)
 same_content a key row = ((λ h. h), (λ h. h))
 
 pub law_same : (epoch : ℕ) (a : ArenaView) (tidy : Tidy) (stage : Stage) (p : Progress) (next : Tidy) → stage_owns stage ≡ (left_with p (tidy_held next)).owns
-    → ((begun : ℕ) (w : World) → IsWorld a epoch w → StageIsTrue begun tidy.key tidy.way stage a w → ThenTidy p begun next a w) → StageLaw epoch a a tidy stage p next
+    → ((begun : ℕ) (w : World) → IsWorld a epoch w → StageIsTrue begun tidy.key tidy.way tidy.finding stage a w → ThenTidy p begun next a w) → StageLaw epoch a a tidy stage p next
 law_same epoch a tidy stage p next owns goes = record {
+  reads = reads_same a tidy.finding stage;
   steps = λ begun w world before truth. (goes_same epoch a w _ (stage_owns stage) (left_with p (tidy_held next)).owns owns world (goes begun w world truth), same_content a);
 }
 
@@ -136,30 +182,16 @@ pub record IsSeenBorder (o : Option Node) : Type 0 where
 pub border_named : (a : ArenaView) (number : ℕ) (s : IsSeenBorder (node_at a.nodes number)) → border_at a.nodes number ≡ Some s.b
 border_named a number s = ap (option_and_then border_of) s.is
 
-pub free_border_is : (node : Node) (b : BorderView) → free_border node ≡ Some b → (node ≡ Border b) × (b.version.deleted ≡ false) × (b.version.locked ≡ false)
-free_border_is (Head h) b e = absurd (let clash : ◌≡◌ {A = Option BorderView} None (Some b) = e in cc)
-free_border_is (Interior i) b e = absurd (let clash : ◌≡◌ {A = Option BorderView} None (Some b) = e in cc)
-free_border_is (Border c) b e = go c.version.deleted c.version.locked refl refl e
+pub free_seen : (o : Option Node) → IsSomeAnd o (λ node. true ≡ is_free_border node) → IsSeenBorder o
+free_seen None h = absurd h
+free_seen (Some (Head x)) h = absurd (let clash : true ≡ false = h in cc)
+free_seen (Some (Interior i)) h = absurd (let clash : true ≡ false = h in cc)
+free_seen (Some (Border b)) h = go b.version.deleted b.version.locked refl refl h
   where
-    same : (x y : BorderView) → ◌≡◌ {A = Option BorderView} (Some x) (Some y) → x ≡ y
-    same x y e = cc
-
-    go : (deleted locked : Bool) → c.version.deleted ≡ deleted → c.version.locked ≡ locked → (if deleted then None else (if locked then None else Some c)) ≡ Some b → (Border c ≡ Border b) × (b.version.deleted ≡ false) × (b.version.locked ≡ false)
-    go true locked d l e = absurd (let clash : ◌≡◌ {A = Option BorderView} None (Some b) = e in cc)
-    go false true d l e = absurd (let clash : ◌≡◌ {A = Option BorderView} None (Some b) = e in cc)
-    go false false d l e = let is = same c b e in (ap Border is, ap (λ (x : BorderView). x.version.deleted) (sym is) ∙ d, ap (λ (x : BorderView). x.version.locked) (sym is) ∙ l)
-
-border_placed : (f : BorderView → Option ℕ) (o : Option BorderView) (place : ℕ) → option_and_then f o ≡ Some place → (b : BorderView) × (o ≡ Some b)
-border_placed f None place e = absurd (let clash : ◌≡◌ {A = Option ℕ} None (Some place) = e in cc)
-border_placed f (Some b) place e = (b, refl)
-
--- a link was found in it
-pub link_seen : (o : Option Node) (rest : List ℕ) (head : NodeNo) (place : ℕ) → IsSomeAnd o (λ node. Some place ≡ link_place rest node head) → IsSeenBorder o
-link_seen None rest head place h = absurd h
-link_seen (Some node) rest head place h =
-    let (b, free) = border_placed _ (free_border node) place (sym h) in
-    let (is, alive, unlocked) = free_border_is node b free in
-    record { b = b; is = ap Some is; alive = alive; unlocked = unlocked }
+    go : (deleted locked : Bool) → b.version.deleted ≡ deleted → b.version.locked ≡ locked → true ≡ (not deleted && not locked) → IsSeenBorder (Some (Border b))
+    go false false d l is = record { b = b; is = refl; alive = d; unlocked = l }
+    go true locked d l is = absurd (let clash : true ≡ false = is in cc)
+    go false true d l is = absurd (let clash : true ≡ false = is in cc)
 
 -- a fact about a node that is so by another
 pub some_by : {T : Type 0} (o : Option T) (P Q : T → Type 0) → ((x : T) → P x → Q x) → IsSomeAnd o P → IsSomeAnd o Q

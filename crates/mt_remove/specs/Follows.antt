@@ -1,39 +1,56 @@
 -- The stage of a tidy after a step, by the nodes before the step and the tidy before and after it.
-use Rattle.std.specs.Prelude.{ℕ, ◌≡◌, ◌<◌, ◌^◌, ◌-◌, ◌⊎◌, Bool, true, false, List, [], ◌∷◌, ◌++◌, Option, Some, None, IsSomeAnd}
+use Rattle.std.specs.Prelude.{ℕ, ◌≡◌, ◌≢◌, ◌<◌, ◌≤◌, ◌+◌, ◌^◌, ◌-◌, ◌⊎◌, ◌==◌, Bool, true, false, List, [], ◌∷◌, ◌++◌, slice_index, Option, Some, None, IsSome, IsSomeAnd}
+use Rattle.std.specs.Int.{w64, to_be_bytes}
 use Rattle.mt_types.specs.declared.numbers.NodeNo.{NodeNo}
 use Rattle.mt_types.specs.declared.event.Answer.TheVariants.{Tidied}
 use Rattle.mt_types.specs.declared.event.TidyRule.{TidyRule}
 use Rattle.mt_types.specs.declared.event.TidyRule.TheVariants.{Nothing as NoRule, EmptyBorder as BorderRule, LoneChild as ChildRule, LoneRootChild as RootRule, EmptyLayer as LayerRule}
-use Rattle.mt_slice.specs.Place.{rest_at}
+use Rattle.mt_slice.specs.Place.{rest_at, slice_number}
 use Rattle.mt_border.specs.Border.{BorderView}
+use Rattle.mt_border.specs.Slots.{slot_at, key_at, order_shown}
+use Rattle.mt_border.specs.declared.entry.RightLink.{RightLink}
 use Rattle.mt_interior.specs.Head.{HeadView}
 use Rattle.mt_arena.specs.Node.{node_at, head_at, border_at}
 use Rattle.mt_arena.specs.Arena.{ArenaView}
 use Rattle.mt_arena.specs.declared.node.Node.{Node}
+use Rattle.mt_arena.specs.declared.part.Part.{Part}
 use Rattle.mt_arena.specs.declared.retired.Retired.{Retired}
-use Rattle.mt_chart.specs.Walk.{Moves}
+use Rattle.mt_chart.specs.Steps.{SameContent}
 use Rattle.mt_tree.specs.Seen.{arena_seen}
-use Rattle.mt_tree.specs.Descent.{node_visit}
-use Rattle.mt_steps.specs.declared.way.Went.{Went}
-use Rattle.mt_steps.specs.declared.way.Went.TheVariants.{Again, To, Here}
+use Rattle.mt_steps.specs.declared.way.Way.{Way}
+use Rattle.mt_steps.specs.declared.finding.Sight.TheVariants.{Link as LinkSight}
+use Rattle.mt_steps.specs.declared.reader.Reader.TheVariants.{Begins}
+use Rattle.mt_steps.specs.declared.reader.Reading.TheVariants.{Restarts, Repeats, GoesOn, To, Finds}
 use Rattle.mt_steps.specs.declared.progress.Progress.{Progress}
 use Rattle.mt_steps.specs.declared.progress.Progress.TheVariants.{Moved, Waits, Answered}
 use Rattle.mt_steps.specs.Causes.{IsMarkedAt, IsLockedAlready}
-use Rattle.mt_steps.specs.Way.{rest_of, went_by, start, Visits}
+use Rattle.mt_steps.specs.Reader.{wants}
+use Rattle.mt_steps.specs.Finding.{FindReading, FindingWaits}
+use Rattle.mt_steps.specs.Standing.{Lends}
+use Rattle.mt_steps.specs.Step.{left_with}
+use Rattle.mt_steps.specs.Way.{rest_of, start}
+use Rattle.mt_steps.specs.World.{World, IsWorld, Goes}
 use Rattle.mt_remove.specs.declared.noted.Came.TheVariants.{Head as FromHead}
 use Rattle.mt_remove.specs.declared.noted.Namer.{Namer}
 use Rattle.mt_remove.specs.declared.noted.Namer.TheVariants.{Head as NamedByHead, Interior as NamedByInterior}
 use Rattle.mt_remove.specs.declared.noted.OneChild.{OneChild}
 use Rattle.mt_remove.specs.declared.noted.Noted.{Noted}
 use Rattle.mt_remove.specs.declared.sign.Sign.{Sign}
-use Rattle.mt_remove.specs.declared.sign.Sign.TheVariants.{Nothing, EmptyBorder, LoneChild, EmptyLayer}
+use Rattle.mt_remove.specs.declared.sign.Sign.TheVariants.{Nothing, Empty, LoneChild}
+use Rattle.mt_remove.specs.declared.sign.Emptied.{Emptied}
+use Rattle.mt_remove.specs.declared.sign.Emptied.TheVariants.{Child as ByChild, Root as ByRoot}
 use Rattle.mt_remove.specs.declared.tidy.Tidy.{Tidy}
+use Rattle.mt_remove.specs.declared.stage.EmptyLayer.{EmptyLayer}
 use Rattle.mt_remove.specs.declared.stage.Layer.{Layer}
 use Rattle.mt_remove.specs.declared.stage.Stage.{Stage}
-use Rattle.mt_remove.specs.declared.stage.Stage.TheVariants.{Seeks, Locked, Dropped, Marked, Unlinked, Lonely, LoneLocked, Bypassed, RootLocked, AboveLocked, HeadMarked, RootMarked, LinkHidden, LayerGone, RootRetired, KeepsLayer, KeepsBorder, KeepsInterior}
-use Rattle.mt_remove.specs.Noted.{noted_from, sign_of}
-use Rattle.mt_remove.specs.Seen.{is_lone, place_in, later_place, link_place}
-use Rattle.mt_remove.specs.Tidy.{IsTidied, TidyLaw}
+use Rattle.mt_remove.specs.declared.stage.Stage.TheVariants.{Seeks, LooksAgain, LooksRight, Locked, Dropped, Marked, LeftLocked, LeftNames, LeftMissed, LeftWritten, Unlinked, Lonely, LoneLocked, Bypassed, RootLocked, AboveLocked, AboveBounded, AboveSearched, AboveFound, LinkFound, HeadMarked, RootMarked, LinkHidden, LayerGone, RootRetired, KeepsLayer, KeepsBorder, KeepsInterior}
+use Rattle.mt_remove.specs.declared.stage.Unlinking.{Unlinking}
+use Rattle.mt_remove.specs.Noted.{noted_from, glanced, sign_of}
+use Rattle.mt_remove.specs.Reading.{seek_reading}
+use Rattle.mt_remove.specs.Seen.{is_lone, place_in, later_place, is_free_border, link_of}
+use Rattle.mt_remove.specs.Above.{bound_stage, searched, key_noted, link_stage}
+use Rattle.mt_remove.specs.Tidy.{IsTidied, TidyLaw, IsAtItsPlace, ThenTidy, tidy_held}
+use Rattle.mt_remove.specs.Known.{AtLock}
 
 -- it ends, and has done this
 abbrev pub Did : TidyRule → Progress → Type 0
@@ -46,28 +63,63 @@ GoesTo tidy p then stage = (p ≡ Moved) × (then ≡ record tidy { stage = stag
 -- ---- on its way
 -- at the head of layer 0 nothing is noted yet
 abbrev pub not_noted : Noted
-not_noted = record { head = record { 0 = 0 }; above = None; came = FromHead; lone = None }
+not_noted = record { head = record { 0 = 0 }; above = None; came = FromHead; lone = None; glance = None }
 
 -- AT ITS PLACE a tidy begins the first rule whose signs are seen
 abbrev pub BeginsBy : Tidy → Noted → Sign → Progress → Tidy → Type 0
 BeginsBy tidy noted Nothing p then = Did NoRule p
-BeginsBy tidy noted (EmptyBorder parent) p then = GoesTo tidy p then (Locked tidy.way.node noted.head parent)
+BeginsBy tidy noted (Empty emptied glance) p then =
+    GoesTo tidy p then (LooksAgain tidy.way.node noted.head emptied glance)
 BeginsBy tidy noted (LoneChild lone) p then = GoesTo tidy p then (Lonely lone)
-BeginsBy tidy noted (EmptyLayer above) p then = GoesTo tidy p then (RootLocked tidy.way.node noted.head above)
 
 -- but if the border is locked, it ends
-abbrev pub Begins : Tidy → Noted → BorderView → Progress → Tidy → Type 0
-Begins tidy noted b p then = ((b.version.locked ≡ true) × Did NoRule p) ⊎ ((b.version.locked ≡ false)
-    × BeginsBy tidy noted (sign_of b noted) p then)
+abbrev pub BeginsAt : Tidy → Noted → BorderView → Progress → Tidy → Type 0
+BeginsAt tidy noted b p then = ((b.version.locked ≡ true) × Did NoRule p) ⊎ ((b.version.locked ≡ false)
+    × BeginsBy tidy noted (sign_of b.low noted) p then)
 
-abbrev pub FollowsVisit : ArenaView → Tidy → Noted → Node → Went → Progress → Tidy → Type 0
-FollowsVisit a tidy noted node Again p then =
+-- it advances to another node
+abbrev pub advanced : Tidy → Node → Way → Noted → Tidy
+advanced tidy node next noted = record tidy { way = next; stage = Seeks (noted_from node tidy.way next noted) }
+
+abbrev pub Advances : ArenaView → Tidy → Noted → Way → Progress → Tidy → Type 0
+Advances a tidy noted next p then = (p ≡ Moved)
+    × IsSomeAnd (node_at a.nodes tidy.way.node.0) (λ node. then ≡ advanced tidy node next noted)
+
+-- what follows a reading, of a tidy that has read nothing else of the node
+abbrev pub FollowsReading : ArenaView → Tidy → Noted → FindReading → Progress → Tidy → Type 0
+FollowsReading a tidy noted Restarts p then =
     (p ≡ Waits) × (then ≡ record tidy { way = start; stage = Seeks not_noted })
-FollowsVisit a tidy noted node (To next) p then =
-    (p ≡ Moved) × (then ≡ record tidy { way = next; stage = Seeks (noted_from node tidy.way next noted) })
-    × Visits a tidy.key tidy.way (To next)
-FollowsVisit a tidy noted node Here p then =
-    IsSomeAnd (border_at a.nodes tidy.way.node.0) (λ b. Begins tidy noted b p then)
+FollowsReading a tidy noted Repeats p then = (p ≡ Waits) × (then ≡ record tidy { stage = Seeks noted })
+FollowsReading a tidy noted (GoesOn next) p then =
+    (p ≡ Moved) × (then ≡ record tidy { finding = next; stage = Seeks noted })
+FollowsReading a tidy noted (To node) p then =
+    Advances a tidy noted (record { node = node; layer = tidy.way.layer }) p then
+FollowsReading a tidy noted (Finds (LinkSight head)) p then =
+    Advances a tidy noted (record { node = head; layer = tidy.way.layer + 1 }) p then
+FollowsReading a tidy noted (Finds _) p then =
+    IsSomeAnd (border_at a.nodes tidy.way.node.0) (λ b. BeginsAt tidy noted b p then)
+
+-- the node at which it is now, of which it has read nothing
+abbrev pub unread : Tidy → Tidy
+unread tidy = record tidy { finding = Begins }
+
+-- A STEP ON ITS WAY READS ONE FIELD of a border, or visits one head or interior: it is lent that, and does what follows
+-- from it
+pub record FollowsPart (a : ArenaView) (tidy : Tidy) (noted : Noted) (p : Progress) (then : Tidy) : Type 0 where
+  pub part : Part
+  pub lent : Lends a tidy.way.node.0 (wants tidy.finding) part
+  pub does : FollowsReading a (unread tidy) (glanced tidy.finding (border_at a.nodes tidy.way.node.0) noted)
+      (seek_reading tidy.finding (rest_of tidy.key tidy.way) part) p then
+
+-- ---- a border that was read as empty
+-- ITS ORDER IS READ AGAIN, and then its right link; if one is another, the tidy gives up
+abbrev pub LooksAt : Tidy → NodeNo → Type 0 → Stage → Progress → Tidy → Type 0
+LooksAt tidy border Same stage p then =
+    (Same × GoesTo tidy p then stage) ⊎ ((Same → ⊥) × GoesTo tidy p then (KeepsBorder border))
+
+abbrev pub emptied_stage : NodeNo → NodeNo → Emptied → Stage
+emptied_stage border head (ByChild parent) = Locked border head parent
+emptied_stage border head (ByRoot above) = RootLocked (record { above = above; head = head; root = border })
 
 -- ---- an empty border
 -- the interior drops the border, if it still names it, not as its first child; or the tidy gives up
@@ -75,14 +127,46 @@ abbrev pub DropsBy : Tidy → NodeNo → NodeNo → Option ℕ → Progress → 
 DropsBy tidy border head None p then = GoesTo tidy p then (KeepsBorder border)
 DropsBy tidy border head (Some place) p then = GoesTo tidy p then (Dropped border head)
 
--- it waits if the node is marked deleted, and begins its way again at the head; or if the border before is locked;
--- otherwise it advances to a node to which this one leads, or the border is unlinked
-abbrev pub FollowsMarked : ArenaView → Tidy → NodeNo → NodeNo → NodeNo → ℕ → Progress → Tidy → Type 0
-FollowsMarked a tidy border head node slice p then =
-    (IsMarkedAt a node.0 × (p ≡ Waits) × (then ≡ record tidy { stage = Marked border head head slice }))
-    ⊎ ((IsLockedAlready a node.0 × (p ≡ Waits) × (then ≡ tidy))
-    ⊎ (((next : NodeNo) × Moves (arena_seen a) node.0 next.0 × GoesTo tidy p then (Marked border head next slice))
-    ⊎ GoesTo tidy p then (Unlinked border)))
+-- ON THE WAY TO THE BORDER BEFORE it is lent the version and the right link of a border, one a step, or a head or interior
+-- node
+abbrev pub slice_rest : Unlinking → List ℕ
+slice_rest u = to_be_bytes w64 u.slice
+
+abbrev pub approach_progress : FindReading → Progress
+approach_progress Restarts = Waits
+approach_progress (To node) = Moved
+approach_progress (GoesOn finding) = Moved
+approach_progress _ = Waits
+
+abbrev pub approached : Tidy → Unlinking → FindReading → Tidy
+approached tidy u Restarts = record tidy { finding = Begins; stage = Marked (record u { node = u.head }) }
+approached tidy u (To node) = record tidy { finding = Begins; stage = Marked (record u { node = node }) }
+approached tidy u (GoesOn finding) = record tidy { finding = finding; stage = Marked u }
+approached tidy u _ = record tidy { finding = Begins; stage = Marked u }
+
+pub record ApproachesPart (a : ArenaView) (tidy : Tidy) (u : Unlinking) (p : Progress) (then : Tidy) : Type 0 where
+  pub before : AtLock tidy.finding → ⊥
+  pub part : Part
+  pub lent : Lends a u.node.0 (wants tidy.finding) part
+  pub does : (p ≡ approach_progress (seek_reading tidy.finding (slice_rest u) part))
+      × (then ≡ approached tidy u (seek_reading tidy.finding (slice_rest u) part))
+
+-- then it locks that border, unless that is marked deleted, and the way begins again, or is locked
+abbrev pub LocksLeft : ArenaView → Tidy → Unlinking → Progress → Tidy → Type 0
+LocksLeft a tidy u p then = AtLock tidy.finding × (
+    (IsMarkedAt a u.node.0 × (p ≡ Waits) × (then ≡ approached tidy u Restarts))
+    ⊎ ((IsLockedAlready a u.node.0 × (p ≡ Waits) × (then ≡ tidy))
+    ⊎ ((p ≡ Moved) × (then ≡ record tidy { finding = Begins; stage = LeftLocked u }))))
+
+-- a right link is to the border
+abbrev pub names : Option RightLink → NodeNo → Bool
+names None border = false
+names (Some link) border = link.node.0 == border.0
+
+-- ITS RIGHT LINK IS READ AGAIN: it names the border still, or the way begins again
+abbrev pub LooksLeft : Tidy → Unlinking → Bool → Progress → Tidy → Type 0
+LooksLeft tidy u true p then = GoesTo tidy p then (LeftNames u)
+LooksLeft tidy u false p then = GoesTo tidy p then (LeftMissed u)
 
 -- ---- an interior with one child
 -- it is locked, if it still has the one child that was noted; or the tidy ends
@@ -111,56 +195,69 @@ FollowsNamer a tidy interior (NamedByHead head) p then = IsSomeAnd (head_at a.no
 abbrev pub rest_above : Tidy → List ℕ
 rest_above tidy = rest_at (tidy.way.layer - 1) tidy.key
 
--- the border above is locked, if it still has the link to the layer's head; or the tidy gives up
-abbrev pub LocksAbove : Tidy → NodeNo → NodeNo → NodeNo → Option ℕ → Progress → Tidy → Type 0
-LocksAbove tidy root head above None p then = GoesTo tidy p then (KeepsBorder root)
-LocksAbove tidy root head above (Some place) p then =
-    GoesTo tidy p then (AboveLocked (record { above = above; place = place; head = head; root = root }))
-
-abbrev pub FollowsRoot : ArenaView → Tidy → NodeNo → NodeNo → NodeNo → Progress → Tidy → Type 0
-FollowsRoot a tidy root head above p then = IsSomeAnd (node_at a.nodes above.0) (λ node.
-    LocksAbove tidy root head above (link_place (rest_above tidy) node head) p then)
+-- the border above is locked, unless it is marked deleted or locked; or the tidy gives up
+abbrev pub LocksAbove : Tidy → EmptyLayer → Bool → Progress → Tidy → Type 0
+LocksAbove tidy layer true p then = GoesTo tidy p then (AboveLocked layer)
+LocksAbove tidy layer false p then = GoesTo tidy p then (KeepsBorder layer.root)
 
 -- the head is marked deleted, if the border is still its root; or the tidy gives up
 abbrev pub FollowsAbove : ArenaView → Tidy → Layer → Progress → Tidy → Type 0
 FollowsAbove a tidy layer p then = IsSomeAnd (head_at a.nodes layer.head.0) (λ h.
     (IsRootOf layer.root h × GoesTo tidy p then (HeadMarked layer)) ⊎ ((IsRootOf layer.root h → ⊥)
-    × GoesTo tidy p then (KeepsLayer layer)))
+    × GoesTo tidy p then (KeepsLayer layer.above layer.root)))
 
 -- ---- at each stage
 abbrev pub Follows : ArenaView → Tidy → Stage → Progress → Tidy → Type 0
-Follows a tidy (Seeks noted) p then =
-    IsSomeAnd (node_at a.nodes tidy.way.node.0)
-    (λ node. FollowsVisit a tidy noted node (went_by tidy.way (node_visit (rest_of tidy.key tidy.way) node)) p then)
+Follows a tidy (Seeks noted) p then = FollowsPart a tidy noted p then
+Follows a tidy (LooksAgain border head emptied glance) p then = IsSomeAnd (border_at a.nodes border.0)
+    (λ b. LooksAt tidy border (order_shown b ≡ glance.order) (LooksRight border head emptied glance.right) p then)
+Follows a tidy (LooksRight border head emptied right) p then = IsSomeAnd (border_at a.nodes border.0)
+    (λ b. LooksAt tidy border (b.right ≡ right) (emptied_stage border head emptied) p then)
 Follows a tidy (Locked border head parent) p then =
     IsSomeAnd (node_at a.nodes parent.0) (λ node. DropsBy tidy border head (later_place node border) p then)
-Follows a tidy (Dropped border head) p then =
-    (slice : ℕ) × (slice < 2 ^ 64) × GoesTo tidy p then (Marked border head head slice)
-Follows a tidy (Marked border head node slice) p then = FollowsMarked a tidy border head node slice p then
+Follows a tidy (Dropped border head) p then = (slice : ℕ) × (slice < 2 ^ 64) × GoesTo (unread tidy) p then
+    (Marked (record { border = border; head = head; node = head; slice = slice }))
+Follows a tidy (Marked u) p then = ApproachesPart a tidy u p then ⊎ LocksLeft a tidy u p then
+Follows a tidy (LeftLocked u) p then =
+    IsSomeAnd (border_at a.nodes u.node.0) (λ b. LooksLeft tidy u (names b.right u.border) p then)
+Follows a tidy (LeftNames u) p then = GoesTo tidy p then (LeftWritten u.border u.node)
+Follows a tidy (LeftMissed u) p then = GoesTo (unread tidy) p then (Marked (record u { node = u.head }))
+Follows a tidy (LeftWritten border left) p then = GoesTo tidy p then (Unlinked border)
 Follows a tidy (Unlinked border) p then = Did BorderRule p
 Follows a tidy (Lonely lone) p then =
     IsSomeAnd (node_at a.nodes lone.interior.0) (λ node. LocksBy tidy lone (is_lone node lone.child) p then)
 Follows a tidy (LoneLocked lone) p then = FollowsNamer a tidy lone.interior lone.namer p then
 Follows a tidy (Bypassed interior rule) p then = Did rule p
-Follows a tidy (RootLocked root head above) p then = FollowsRoot a tidy root head above p then
-Follows a tidy (AboveLocked layer) p then = FollowsAbove a tidy layer p then
+Follows a tidy (RootLocked layer) p then =
+    IsSomeAnd (node_at a.nodes layer.above.0) (λ node. LocksAbove tidy layer (is_free_border node) p then)
+Follows a tidy (AboveLocked layer) p then = IsSomeAnd (border_at a.nodes layer.above.0)
+    (λ b. GoesTo tidy p then (bound_stage (slice_number (rest_above tidy)) layer b.right))
+Follows a tidy (AboveBounded layer) p then = IsSomeAnd (border_at a.nodes layer.above.0)
+    (λ b. GoesTo tidy p then (searched layer (order_shown b) 0 None))
+Follows a tidy (AboveSearched layer order place at) p then = IsSomeAnd (border_at a.nodes layer.above.0)
+    (λ b. GoesTo tidy p then (searched layer order (place + 1)
+    (key_noted (slice_number (rest_above tidy)) place (key_at b (slice_index order.live place)) at)))
+Follows a tidy (AboveFound layer slot) p then = IsSomeAnd (border_at a.nodes layer.above.0)
+    (λ b. GoesTo tidy p then (link_stage layer (link_of (slot_at b slot).entry.content)))
+Follows a tidy (LinkFound layer) p then = FollowsAbove a tidy layer p then
 Follows a tidy (HeadMarked layer) p then = GoesTo tidy p then (RootMarked layer)
 Follows a tidy (RootMarked layer) p then = GoesTo tidy p then (LinkHidden layer)
 Follows a tidy (LinkHidden layer) p then = GoesTo tidy p then (LayerGone layer.root layer.head)
 Follows a tidy (LayerGone root head) p then = GoesTo tidy p then (RootRetired head)
 Follows a tidy (RootRetired head) p then = Did LayerRule p
-Follows a tidy (KeepsLayer layer) p then = GoesTo tidy p then (KeepsBorder layer.root)
+Follows a tidy (KeepsLayer above root) p then = GoesTo tidy p then (KeepsBorder root)
 Follows a tidy (KeepsBorder border) p then = Did NoRule p
 Follows a tidy (KeepsInterior interior) p then = Did NoRule p
 
 abbrev pub TidyFollows : ArenaView → Tidy → Progress → Tidy → Type 0
 TidyFollows a tidy p then = Follows a tidy tidy.stage p then
 
--- WHY IT WAITS: the node that it visits is marked deleted; or is the border before the one that it unlinks, and is
--- locked. At no other stage does it wait.
+-- WHY IT WAITS: for what a get waits for at the node that it reads; or the border before the one that it unlinks, which
+-- it is to lock, is marked deleted or locked. At no other stage does it wait.
 abbrev pub StageWaits : ArenaView → Tidy → Stage → Progress → Type 0
-StageWaits a tidy (Seeks noted) Waits = IsMarkedAt a tidy.way.node.0
-StageWaits a tidy (Marked border head node slice) Waits = IsMarkedAt a node.0 ⊎ IsLockedAlready a node.0
+StageWaits a tidy (Seeks noted) Waits = IsSomeAnd (node_at a.nodes tidy.way.node.0) (FindingWaits tidy.finding)
+StageWaits a tidy (Marked u) Waits = IsSomeAnd (node_at a.nodes u.node.0) (FindingWaits tidy.finding)
+    ⊎ (AtLock tidy.finding × (IsMarkedAt a u.node.0 ⊎ IsLockedAlready a u.node.0))
 StageWaits a tidy _ Waits = ⊥
 StageWaits a tidy _ _ = Unit {0}
 
@@ -186,3 +283,33 @@ pub record TidyStep (epoch : ℕ) (a after : ArenaView) (tidy : Tidy) (p : Progr
   pub waits : TidyWaits a tidy p
   pub follows : Follows a tidy tidy.stage p then
   pub retires : TidyRetires epoch a after tidy
+
+-- at its place: the same, by what is true once it is there
+pub record PlaceStep (epoch : ℕ) (a after : ArenaView) (tidy : Tidy) (noted : Noted) (p : Progress) (then : Tidy) : Type 0 where
+  pub key : then.key ≡ tidy.key
+  pub steps : (begun : ℕ) (w : World) → IsWorld a epoch w → begun ≤ epoch
+      → IsAtItsPlace begun tidy.key tidy.way noted a w →
+      Goes epoch a after w [] (left_with p (tidy_held then)).owns (ThenTidy p begun then after)
+      × SameContent (arena_seen a) (arena_seen after)
+  pub tidied : IsTidied p
+  pub waits_not : p ≢ Waits
+  pub begins : IsSomeAnd (border_at a.nodes tidy.way.node.0) (λ b. BeginsAt tidy noted b p then)
+  pub retires : after.retired ≡ a.retired
+
+-- once it is at its place, it is at a border
+abbrev pub AtPlace : ArenaView → ℕ → FindReading → Type 0
+AtPlace a number (Finds (LinkSight head)) = Unit {0}
+AtPlace a number (Finds _) = IsSome (border_at a.nodes number)
+AtPlace a number _ = Unit {0}
+
+-- after a reading: no node is changed, but at its place
+abbrev pub ReadChanges : ℕ → ArenaView → ArenaView → Tidy → Noted → FindReading → Progress → Tidy → Type 0
+ReadChanges epoch a after tidy noted (Finds (LinkSight head)) p then = after ≡ a
+ReadChanges epoch a after tidy noted (Finds _) p then = PlaceStep epoch a after tidy noted p then
+ReadChanges epoch a after tidy noted _ p then = after ≡ a
+
+pub record ReadStep (epoch : ℕ) (a after : ArenaView) (tidy : Tidy) (noted : Noted) (reading : FindReading)
+    (p : Progress) (then : Tidy) : Type 0 where
+  pub key : then.key ≡ tidy.key
+  pub changes : ReadChanges epoch a after tidy noted reading p then
+  pub follows : FollowsReading a tidy noted reading p then

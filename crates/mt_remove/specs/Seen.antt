@@ -1,15 +1,16 @@
--- What a tidy sees of an interior, or of the border above a layer: whether it is still as it was noted.
-use Rattle.std.specs.Prelude.{ℕ, ◌==◌, if◌then◌else◌, Bool, false, List, [], ◌∷◌, Option, Some, None, position}
+-- What a tidy sees of an interior, and what it reads of a field of a border that it has locked.
+use Rattle.std.specs.Prelude.{ℕ, ◌==◌, ◌&&◌, not, if◌then◌else◌, Bool, true, false, List, [], ◌∷◌, Option, Some, None, position}
 use Rattle.std.specs.Option.{option_and_then}
 use Rattle.mt_types.specs.declared.numbers.NodeNo.{NodeNo}
-use Rattle.mt_border.specs.Border.{BorderView}
-use Rattle.mt_border.specs.declared.found.Found.{Found}
-use Rattle.mt_border.specs.declared.found.Found.TheVariants.{Absent, Row, OtherSuffix, Link}
+use Rattle.mt_border.specs.declared.field.Mark.{Mark}
+use Rattle.mt_border.specs.declared.field.Mark.TheVariants.{Layer}
+use Rattle.mt_border.specs.declared.entry.Content.{Content}
+use Rattle.mt_border.specs.declared.entry.Content.TheVariants.{Short, Long, Link}
+use Rattle.mt_border.specs.Keys.{KeyView}
 use Rattle.mt_interior.specs.Interior.{InteriorView}
 use Rattle.mt_interior.specs.declared.child.Child.{Child}
 use Rattle.mt_arena.specs.declared.node.Node.{Node}
 use Rattle.mt_arena.specs.declared.node.Node.TheVariants.{Head, Interior, Border}
-use Rattle.mt_tree.specs.Descent.{found_for}
 
 -- the interior that a node is, if it is neither marked deleted nor locked
 abbrev pub free_interior : Node → Option InteriorView
@@ -44,19 +45,22 @@ not_first (Some place) = if place == 0 then None else Some place
 abbrev pub later_place : Node → NodeNo → Option ℕ
 later_place node child = not_first (place_in node child)
 
--- the border that a node is, if it is neither marked deleted nor locked
-abbrev pub free_border : Node → Option BorderView
-free_border (Head head) = None
-free_border (Interior i) = None
-free_border (Border b) = if b.version.deleted then None else (if b.version.locked then None else Some b)
+-- the node is a border that is neither marked deleted nor locked
+abbrev pub is_free_border : Node → Bool
+is_free_border (Head head) = false
+is_free_border (Interior i) = false
+is_free_border (Border b) = not b.version.deleted && not b.version.locked
 
--- the place of the link to a head, if that is what was found
-abbrev pub link_to : NodeNo → Found → Option ℕ
-link_to head (Absent place) = None
-link_to head (Row place) = None
-link_to head (OtherSuffix place) = None
-link_to head (Link place found) = if found.0 == head.0 then Some place else None
+-- the key leads below from the slice
+abbrev pub is_layer : Mark → Bool
+is_layer Layer = true
+is_layer _ = false
 
--- the place of such a border's link to the head, for the rest of a key
-abbrev pub link_place : List ℕ → Node → NodeNo → Option ℕ
-link_place rest node head = option_and_then (λ b. link_to head (found_for rest b.live)) (free_border node)
+abbrev pub leads_below : ℕ → KeyView → Bool
+leads_below slice key = is_layer key.mark && (key.slice == slice)
+
+-- the head to which a value leads, if it is a link
+abbrev pub link_of : Content → Option NodeNo
+link_of (Short bytes row) = None
+link_of (Long suffix row) = None
+link_of (Link head) = Some head

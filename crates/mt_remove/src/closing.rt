@@ -5,53 +5,26 @@ ghost use Rattle.std.specs.Prelude.{◌≡◌};
 ghost use Rattle.mt_remove.specs.Tidy.{MayTidy};
 ghost use Rattle.mt_remove.specs.Follows.{TidyStep};
 
-use crate::seen::link_place;
 use crate::stage::{Layer, Stage};
 use crate::tidy::Tidy;
 use mt_steps::progress::Progress;
-use mt_steps::way::rest_of;
 use mt_tree::Tree;
 use mt_types::event::{Answer, TidyRule};
 use mt_types::numbers::NodeNo;
 
 impl Tidy {
-    // The border above is locked, if it still has the link to the head.
-    pub(crate) fn lock_above(
-        &mut self,
-        tree: &mut Tree,
-        epoch: u64,
-        root: NodeNo,
-        head: NodeNo,
-        above: NodeNo,
-    ) -> Progress
-        requires at { self.old.stage ≡ Stage.RootLocked root head above }
-        requires may { MayTidy epoch tree.old self.old }
-        ensures { TidyStep epoch tree.old tree.new self.old result self.new }
-    {
-        let rest = rest_of(&self.key, self.way.layer - 1);
-        let Some(place) = link_place(tree, above, rest, head) else {
-            self.stage = Stage::KeepsBorder(root);
-            return Progress::Moved;
-        };
-        tree.lock_border(above);
-        self.stage = Stage::AboveLocked(Layer {
-            above,
-            place,
-            head,
-            root,
-        });
-        Progress::Moved
-    }
-
     // The head is marked deleted, if the border is still its root.
     pub(crate) fn mark_head(&mut self, tree: &mut Tree, epoch: u64, layer: Layer) -> Progress
-        requires at { self.old.stage ≡ Stage.AboveLocked layer }
+        requires at { self.old.stage ≡ Stage.LinkFound layer }
         requires may { MayTidy epoch tree.old self.old }
         ensures { TidyStep epoch tree.old tree.new self.old result self.new }
     {
         let head = tree.head(layer.head);
         if head.version().deleted() || head.root().0 != layer.root.0 {
-            self.stage = Stage::KeepsLayer(layer);
+            self.stage = Stage::KeepsLayer {
+                above: layer.above,
+                root: layer.root,
+            };
             return Progress::Moved;
         }
         tree.mark_head_deleted(layer.head);
@@ -124,13 +97,19 @@ impl Tidy {
     }
 
     // It gives up, and unlocks the border above as it was.
-    pub(crate) fn keep_layer(&mut self, tree: &mut Tree, epoch: u64, layer: Layer) -> Progress
-        requires at { self.old.stage ≡ Stage.KeepsLayer layer }
+    pub(crate) fn keep_layer(
+        &mut self,
+        tree: &mut Tree,
+        epoch: u64,
+        above: NodeNo,
+        root: NodeNo,
+    ) -> Progress
+        requires at { self.old.stage ≡ Stage.KeepsLayer above root }
         requires may { MayTidy epoch tree.old self.old }
         ensures { TidyStep epoch tree.old tree.new self.old result self.new }
     {
-        tree.unlock_border(layer.above);
-        self.stage = Stage::KeepsBorder(layer.root);
+        tree.unlock_border(above);
+        self.stage = Stage::KeepsBorder(root);
         Progress::Moved
     }
 }

@@ -1,15 +1,14 @@
-//! An empty border is dropped from the interior that names it, marked deleted, unlinked and retired.
+//! An empty border is dropped from the interior that names it, marked deleted, and, once it is unlinked, retired.
 
 ghost use Rattle.std.specs.Prelude.{◌≡◌};
-ghost use Rattle.mt_steps.specs.Ranging.{IsAtSlice};
 ghost use Rattle.mt_remove.specs.Tidy.{MayTidy};
 ghost use Rattle.mt_remove.specs.Follows.{TidyStep};
 
 use crate::seen::later_place;
-use crate::stage::Stage;
+use crate::stage::{Stage, Unlinking};
 use crate::tidy::{Tidy, nothing};
 use mt_steps::progress::Progress;
-use mt_steps::ranging::{Sought, seek};
+use mt_steps::reader::Reader;
 use mt_tree::Tree;
 use mt_types::event::{Answer, TidyRule};
 use mt_types::numbers::NodeNo;
@@ -51,73 +50,14 @@ impl Tidy {
     {
         let slice = tree.border(border).low() - 1;
         tree.mark_border_deleted(border);
-        self.stage = Stage::Marked {
+        self.finding = Reader::Begins;
+        self.stage = Stage::Marked(Unlinking {
             border,
             head,
             node: head,
             slice,
-        };
+        });
         Progress::Moved
-    }
-
-    // At the border before it, which takes its right link, unless it is locked.
-    fn unlink_at(
-        &mut self,
-        tree: &mut Tree,
-        epoch: u64,
-        border: NodeNo,
-        head: NodeNo,
-        node: NodeNo,
-        slice: u64,
-    ) -> Progress
-        requires at { self.old.stage ≡ Stage.Marked border head node slice }
-        requires here { IsAtSlice tree.old node.0 slice }
-        requires may { MayTidy epoch tree.old self.old }
-        ensures { TidyStep epoch tree.old tree.new self.old result self.new }
-    {
-        if tree.border(node).version().is_locked() {
-            return Progress::Waits;
-        }
-        tree.unlink(node, border);
-        self.stage = Stage::Unlinked(border);
-        Progress::Moved
-    }
-
-    // On its way to the border before it.
-    pub(crate) fn unlink_border(
-        &mut self,
-        tree: &mut Tree,
-        epoch: u64,
-        border: NodeNo,
-        head: NodeNo,
-        node: NodeNo,
-        slice: u64,
-    ) -> Progress
-        requires at { self.old.stage ≡ Stage.Marked border head node slice }
-        requires may { MayTidy epoch tree.old self.old }
-        ensures { TidyStep epoch tree.old tree.new self.old result self.new }
-    {
-        match seek(tree, node, slice) {
-            Sought::Again => {
-                self.stage = Stage::Marked {
-                    border,
-                    head,
-                    node: head,
-                    slice,
-                };
-                Progress::Waits
-            }
-            Sought::To(next) => {
-                self.stage = Stage::Marked {
-                    border,
-                    head,
-                    node: next,
-                    slice,
-                };
-                Progress::Moved
-            }
-            Sought::Here => self.unlink_at(tree, epoch, border, head, node, slice),
-        }
     }
 
     // The border is retired.

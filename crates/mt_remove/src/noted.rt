@@ -1,11 +1,14 @@
 //! What a tidy notes on its way through a layer.
 
 ghost use Rattle.std.specs.Prelude.{◌≡◌, IsSome, IsSomeAnd};
-ghost use Rattle.mt_arena.specs.Node.{node_at};
-ghost use Rattle.mt_remove.specs.Noted.{is_first, namer_of, noted_from, noted_below};
+ghost use Rattle.mt_arena.specs.Node.{node_at, border_at};
+ghost use Rattle.mt_remove.specs.Noted.{is_first, namer_of, noted_from, noted_below, AtOrder, glanced};
 
+use crate::seen::order_at;
 use mt_arena::Node;
 use mt_interior::Interior;
+use mt_steps::finding::Finding;
+use mt_steps::reader::{Glance, Reader};
 use mt_steps::way::Way;
 use mt_tree::{TOP, Tree};
 use mt_types::numbers::NodeNo;
@@ -50,6 +53,8 @@ pub struct Noted {
     pub came: Came,
     /// The lowest interior with one child, of those that it came through.
     pub lone: Option<OneChild>,
+    /// What it has read of the border at which it is, up to its order.
+    pub glance: Option<Glance>,
 }
 
 /// What is noted at the begin.
@@ -58,6 +63,7 @@ pub const NOTHING: Noted = Noted {
     above: None,
     came: Came::Head,
     lone: None,
+    glance: None,
 };
 
 // Whether the node is the first child of an interior.
@@ -87,6 +93,26 @@ impl Noted {
             above: Some(above),
             came: Came::Head,
             lone: None,
+            glance: None,
+        }
+    }
+
+    /// Returns what is noted once the call reads the next field of a border: if that is the order, what it has read up to
+    /// it. Constant cost.
+    pub fn glanced(self, finding: &Finding, tree: &Tree, number: NodeNo) -> Noted
+        requires { AtOrder finding.now → IsSome (border_at tree.now.nodes number.0) }
+        ensures { result ≡ glanced finding.now (border_at tree.now.nodes number.0) self }
+    {
+        match finding {
+            Reader::Bounded(counters, right) => Noted {
+                glance: Some(Glance {
+                    counters: *counters,
+                    right: *right,
+                    order: order_at(tree, number),
+                }),
+                ..self
+            },
+            _ => self,
         }
     }
 
@@ -102,6 +128,7 @@ impl Noted {
         match tree.node(way.node) {
             Node::Head(_) => Noted {
                 came: Came::Head,
+                glance: None,
                 ..*self
             },
             Node::Interior(interior) => {
@@ -121,11 +148,13 @@ impl Noted {
                         first,
                     },
                     lone,
+                    glance: None,
                     ..*self
                 }
             }
             Node::Border(_) => Noted {
                 came: Came::Left,
+                glance: None,
                 ..*self
             },
         }
