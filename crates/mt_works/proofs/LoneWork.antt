@@ -25,7 +25,8 @@ use Rattle.mt_steps.proofs.LoneGet.{GetStands, get_left, lone_get_waits_not}
 use Rattle.mt_steps.proofs.LoneListing.{ListStands}
 use Rattle.mt_steps.proofs.LoneWay.{IsOnThere, starts_on}
 use Rattle.mt_steps.proofs.LoneRange.{ScanStands, RangeStands, range_left, lone_range_waits_not, range_begins}
-use Rattle.mt_remove.proofs.LoneTidy.{tidy_stands, tidy_left, tidy_begins, lone_tidy_waits_not, lone_tidy_nearer}
+use Rattle.mt_remove.proofs.LoneStages.{tidy_stands, tidy_left, tidy_begins, lone_tidy_waits_not}
+use Rattle.mt_remove.proofs.LoneTidy.{lone_tidy_nearer}
 use Rattle.mt_write.proofs.LoneWrite.{request_key}
 use Rattle.mt_write.proofs.LoneWrites.{lone_stands as write_stands, lone_left as write_left, begins as write_begins, waits_not as write_waits_not, nearer as write_nearer}
 use Rattle.mt_works.specs.Works.{IsKey}
@@ -45,7 +46,7 @@ abbrev pub work_stands : ArenaView → ℕ → World → Work → Type 0
 work_stands a commits w (Get get) = GetStands a w get
 work_stands a commits w (Write write) = write_stands a w write
 work_stands a commits w (Range range) = RangeStands a w range
-work_stands a commits w (Tidy tidy) = tidy_stands w tidy
+work_stands a commits w (Tidy tidy) = tidy_stands a w tidy
 work_stands a commits w (Build building) = lone_build_stands a commits w building
 
 -- WHAT IS LEFT of it, at most
@@ -294,7 +295,7 @@ begins_so C number a now w world free (Range range) new = record {
   node = subst (λ (n : NodeNo). ScanStands w.chart n.0 range.scan.prefix) (sym new.at_start.0) (subst (λ (p : List ℕ). ScanStands w.chart 0 p) (sym new.at_start.1) (range_begins a now w world));
   noted = subst (λ (listing : Listing). ListStands a range.node.0 listing) (sym new.at_start.2) tt;
 }
-begins_so C number a now w world free (Tidy tidy) new = tidy_begins a now w tidy world new.at_start.0 new.at_start.1
+begins_so C number a now w world free (Tidy tidy) new = tidy_begins a now w tidy world new.at_start.0 new.at_start.1 new.at_start.2
 begins_so C number a now w world free (Build building) new = (
   subst (λ (u : Option ℕ). StandsBy u a w building.node.0 building.build building.listing) (sym new.opens.0) (
     subst (λ (n : NodeNo). ScanStands w.chart n.0 building.build.prefix) (sym new.at_start.0) (subst (λ (p : List ℕ). ScanStands w.chart 0 p) (sym new.at_start.1) (range_begins a now w world)),
@@ -309,7 +310,8 @@ waits_so C now begun moves past a log w (Get get) _ lone unbuilt key waits follo
 waits_so C now begun moves past a log w (Write write) new lone unbuilt key waits follows = write_waits_not C now begun a w write lone.world lone.before lone.true.0 lone.stands (write_key write key).0 (write_key write key).1 lone.owns waits
 waits_so C now begun moves past a log w (Range range) (Range new) lone unbuilt key waits follows = lone_range_waits_not a now begun moves past w range new lone.world lone.true lone.stands (none_owned a w lone.owns) follows
 waits_so C now begun moves past a log w (Range range) _ lone unbuilt key waits follows = absurd follows
-waits_so C now begun moves past a log w (Tidy tidy) new lone unbuilt key waits follows = lone_tidy_waits_not a now begun w tidy lone.world lone.true lone.stands lone.owns waits
+waits_so C now begun moves past a log w (Tidy tidy) (Tidy new) lone unbuilt key waits follows = lone_tidy_waits_not a now begun w tidy new lone.world lone.true lone.stands lone.owns follows waits
+waits_so C now begun moves past a log w (Tidy tidy) _ lone unbuilt key waits follows = absurd follows
 waits_so C now begun moves past a log w (Build building) (Build new) lone unbuilt key waits follows = lone_build_waits_not a log now begun moves past w building new lone.world lone.true lone.stands.0 (none_owned a w lone.owns) follows waits
 waits_so C now begun moves past a log w (Build building) _ lone unbuilt key waits follows = absurd follows
 
@@ -333,7 +335,7 @@ nearer_so C now begun moves past a after log left w next (Range range) (Committe
 nearer_so C now begun moves past a after log left w next (Range range) p (Range new) lone unbuilt key s = absurd s.goes
 nearer_so C now begun moves past a after log left w next (Range range) p _ lone unbuilt key s = absurd s.follows
 nearer_so C now begun moves past a after log left w next (Tidy tidy) Moved (Tidy new) lone unbuilt key s =
-    lone_tidy_nearer a after now begun w next tidy new lone.world lone.true lone.stands key.0 key.1 s.follows s.world s.spots s.true
+    lone_tidy_nearer a after now begun w next tidy new lone.world lone.true lone.stands lone.owns key.0 key.1 s.read s.follows s.world s.spots s.true
 nearer_so C now begun moves past a after log left w next (Tidy tidy) (Committed number) (Tidy new) lone unbuilt key s = absurd s.does.0
 nearer_so C now begun moves past a after log left w next (Tidy tidy) p (Tidy new) lone unbuilt key s = absurd s.goes
 nearer_so C now begun moves past a after log left w next (Tidy tidy) p _ lone unbuilt key s = absurd s.follows

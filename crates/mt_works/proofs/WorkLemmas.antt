@@ -103,7 +103,7 @@ module _ (a after : ArenaView) (w next : World) (C begun moves : ℕ) (past : Li
   stays now world age (GetWork get) same truth = get_stays a after now w next world age begun moves evolves past get truth
   stays now world age (WriteWork write) same truth = write_stays a after w next C begun moves past evolves write same truth
   stays now world age (RangeWork range) same truth = range_stays a after now w next world age begun moves evolves past range truth
-  stays now world age (TidyWork tidy) same truth = tidy_stays a after w next begun evolves tidy same truth
+  stays now world age (TidyWork tidy) same truth = tidy_stays a after now w next world age begun evolves tidy same truth
   stays now world age (BuildWork building) same truth = scan_stays now world age building.upto building.build building.node.0 building.listing truth
 
 -- ---- what a call owns is taken

@@ -6,6 +6,7 @@ use Rattle.mt_steps.specs.Getting.{GetFollows}
 use Rattle.mt_steps.specs.Ranging.{RangeReads}
 use Rattle.mt_commit.specs.Log.{LogView}
 use Rattle.mt_write.specs.Follows.{WriteFollows, HeadFollows, PostsFollow}
+use Rattle.mt_remove.specs.Tidy.{TidyReads}
 use Rattle.mt_remove.specs.Follows.{TidyFollows}
 use Rattle.mt_works.specs.Building.{BuildFollows}
 use Rattle.mt_works.specs.declared.work.Work.{Work}
@@ -25,12 +26,12 @@ WorkFollows a log (Tidy tidy) p _ = ⊥
 WorkFollows a log (Build building) p (Build new) = BuildFollows a log building p new
 WorkFollows a log (Build building) p _ = ⊥
 
--- a get, range or build changes no node
+-- a get, range or build changes no node, nor does a tidy on a way
 abbrev pub WorkReads : ArenaView → ArenaView → Work → Type 0
 WorkReads a after (Get get) = after ≡ a
 WorkReads a after (Write write) = Unit {0}
 WorkReads a after (Range range) = after ≡ a
-WorkReads a after (Tidy tidy) = Unit {0}
+WorkReads a after (Tidy tidy) = TidyReads a after tidy
 WorkReads a after (Build building) = after ≡ a
 
 -- for a put or remove, which head it then has, and with which posting it continues; and the tree is an arena of nodes

@@ -98,7 +98,7 @@ abbrev pub IsAtStart : Work → Type 0
 IsAtStart (Get get) = (get.way ≡ start) × (get.finding ≡ Begins)
 IsAtStart (Write write) = (write.way ≡ start) × (write.stage ≡ WriteSeeks) × (write.head ≡ start.node)
 IsAtStart (Range range) = (range.node ≡ start.node) × (range.scan.prefix ≡ []) × (range.listing ≡ Begins)
-IsAtStart (Tidy tidy) = (tidy.way ≡ start) × (tidy.stage ≡ TidySeeks not_noted)
+IsAtStart (Tidy tidy) = (tidy.way ≡ start) × (tidy.finding ≡ Begins) × (tidy.stage ≡ TidySeeks not_noted)
 IsAtStart (Build building) = (building.node ≡ start.node) × (building.build.prefix ≡ [])
     × (building.listing ≡ Begins)
 
