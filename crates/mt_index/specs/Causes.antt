@@ -55,9 +55,9 @@ pub record FreesSo (s : MachineView) (count : ℕ) (t : MachineView) : Type 0 wh
 
 -- WHY A CALL WAITS, FAILS OR IS REFUSED, by the machine before the step and after it. It waits only if the node that
 -- its step visits is marked deleted; or, for a put or remove, is a border that is locked or, while it posts, an
--- interior that is; or, for a tidy, is the locked border before the one that it unlinks; or, for a get, range or build
--- that reads fields, is a border that has a flag set or was changed since it began to read it. So none of these three
--- waits at a lock, if no flag is set.
+-- interior that is; or, for a tidy, is the locked border before the one that it unlinks; or, for a get, range, build or
+-- tidy that reads fields, is a border that has a flag set or was changed since it began to read it. So no get, range or
+-- build waits at a lock, if no flag is set.
 abbrev pub IsCaused : MachineView → Event → Outcome → MachineView → Type 0
 IsCaused s (Step call) Again t = WaitsFor s (call_at call.0 s.calls.calls)
 IsCaused s (Step call) Moved t = FailsFor s call.0 t

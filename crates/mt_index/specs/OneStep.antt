@@ -24,7 +24,7 @@ EndsSo s number p = (before : Call) → call_at number s.calls.calls ≡ Some be
     → IsBuiltWork before.work ⊎ ((last : Work) × WorkFollows s.tree s.log before.work p last)
 
 -- A STEP OF A CALL IS ONE STEP OF ITS KIND: it visits one node, of which it reads one field if it is a border on the way
--- of a get, put, remove, range or build; or it takes one delta. The tree before the step determines what it comes to.
+-- of the call; or it takes one delta. The tree before the step determines what it comes to.
 abbrev pub IsOneStep : MachineView → Event → Outcome → MachineView → Type 0
 IsOneStep s (Step call) Moved t = GoesSo s call.0 WentOn t
 IsOneStep s (Step call) Again t = GoesSo s call.0 Waits t
