@@ -1222,6 +1222,11 @@ step 286
 step 290
 step 289
 step 281
+step 281
+step 281
+step 281
+step 281
+step 281
 begin 1 put 0000000000000113 0=448201
 step 286
 step 292
@@ -5847,6 +5852,11 @@ step 1473
 step 1472
 step 1465
 step 1473
+step 1473
+step 1473
+step 1473
+step 1473
+step 1473
 step 1470
 begin 2 tidy 0000000000000152
 step 1473
@@ -5877,6 +5887,9 @@ advance
 begin 2 tidy 0000000000000143
 step 1475
 step 1476
+step 1475
+step 1475
+step 1475
 step 1475
 step 1476
 begin 3 tidy 0000000000000053
@@ -5916,6 +5929,9 @@ step 1482
 step 1489
 feed 1366 1
 step 1490
+step 1482
+step 1482
+step 1482
 step 1482
 finish 1480
 step 1491
@@ -6060,6 +6076,11 @@ finish 1542
 begin 3 tidy 0000000000000023
 finish 1543
 begin 3 tidy 00000000000000cd
+step 1540
+step 1540
+step 1540
+step 1540
+step 1540
 step 1540
 step 1545
 finish 1540
@@ -6260,6 +6281,10 @@ begin 1 tidy 00000000000000fc
 step 1615
 step 1616
 step 1615
+step 1615
+step 1615
+step 1615
+step 1615
 finish 1612
 finish 1616
 begin 3 tidy 0000000000000104
@@ -6285,6 +6310,9 @@ begin 3 tidy 0000000000000083
 finish 1619
 begin 1 tidy 000000000000019b
 finish 1609
+step 1620
+step 1620
+step 1620
 step 1620
 finish 1609
 step 1624
@@ -6435,6 +6463,9 @@ begin 1 tidy 0000000000000209
 step 1672
 step 1664
 step 1664
+step 1664
+step 1664
+step 1664
 advance
 begin 3 tidy 000000000000014a
 finish 1672
@@ -6517,6 +6548,9 @@ finish 1703
 begin 1 tidy 00000000000001a6
 step 1701
 step 1707
+step 1701
+step 1701
+step 1701
 step 1701
 finish 1705
 step 1704
@@ -6608,6 +6642,9 @@ finish 1737
 step 1739
 finish 1734
 finish 1739
+step 1740
+step 1740
+step 1740
 step 1740
 step 1740
 begin 2 tidy 00000000000001c3
@@ -6753,6 +6790,9 @@ step 1798
 begin 1 tidy 0000000000000194
 step 1792
 step 1792
+step 1792
+step 1792
+step 1792
 begin 1 tidy 000000000000016b
 step 1797
 step 1797
@@ -6852,6 +6892,11 @@ begin 2 tidy 00000000000000f0
 begin 3 tidy 0000000000000291
 finish 1832
 step 1830
+step 1830
+step 1830
+step 1830
+step 1830
+step 1830
 begin 3 tidy 0000000000000022
 begin 3 tidy 00000000000000d1
 step 1834
@@ -6878,6 +6923,11 @@ collect
 step 1839
 begin 3 tidy 000000000000020d
 drop 4
+step 1837
+step 1837
+step 1837
+step 1837
+step 1837
 step 1837
 step 1840
 step 1840
@@ -6995,6 +7045,10 @@ begin 1 tidy 00000000000000aa
 finish 1884
 begin 3 tidy 0000000000000029
 step 1879
+step 1879
+step 1879
+step 1879
+step 1879
 begin 3 tidy 00000000000000c4
 collect
 finish 1886
@@ -7005,6 +7059,9 @@ begin 1 tidy 00000000000001f8
 begin 1 tidy 0000000000000122
 step 1863
 step 1888
+step 1863
+step 1863
+step 1863
 step 1863
 collect
 step 1889
@@ -7073,12 +7130,20 @@ step 1907
 begin 1 tidy 0000000000000050
 step 1913
 step 1904
+step 1904
+step 1904
+step 1904
+step 1904
 step 1907
 finish 1902
 step 1908
 step 1913
 begin 2 tidy 00000000000000f5
 finish 1912
+step 1913
+step 1913
+step 1913
+step 1913
 step 1913
 step 1908
 begin 2 tidy 00000000000001ac
@@ -7098,6 +7163,10 @@ finish 1916
 step 1919
 begin 2 tidy 0000000000000120
 finish 1915
+step 1907
+step 1907
+step 1907
+step 1907
 step 1907
 begin 2 tidy 0000000000000096
 begin 2 tidy 0000000000000077
@@ -7144,6 +7213,10 @@ begin 2 tidy 000000000000000b
 step 1940
 finish 1923
 begin 3 tidy 000000000000028f
+step 1940
+step 1940
+step 1940
+step 1940
 step 1940
 step 1940
 begin 3 range 000000000000011a 1 all
@@ -7257,6 +7330,11 @@ step 1985
 finish 1985
 feed 535 3
 step 1979
+step 1979
+step 1979
+step 1979
+step 1979
+step 1979
 begin 3 tidy 000000000000021a
 begin 3 tidy 000000000000027e
 finish 1986
@@ -7342,6 +7420,10 @@ begin 3 tidy 0000000000000255
 finish 2014
 begin 2 tidy 0000000000000232
 step 2000
+step 2000
+step 2000
+step 2000
+step 2000
 begin 3 tidy 0000000000000268
 finish 2019
 finish 2018
@@ -7403,6 +7485,10 @@ step 2039
 step 2039
 finish 2040
 begin 1 tidy 00000000000001ca
+step 2039
+step 2039
+step 2039
+step 2039
 step 2039
 begin 3 tidy 00000000000001db
 finish 2030
@@ -7472,6 +7558,11 @@ step 2055
 step 2063
 step 2063
 step 2055
+step 2055
+step 2055
+step 2055
+step 2055
+step 2055
 feed 79 1
 begin 1 tidy 0000000000000142
 finish 2064
@@ -7491,11 +7582,20 @@ step 2053
 finish 2065
 begin 1 tidy 000000000000010b
 step 2053
+step 2053
+step 2053
+step 2053
+step 2053
+step 2053
 step 2070
 begin 2 tidy 00000000000000a8
 finish 2069
 step 2070
 step 2071
+step 2070
+step 2070
+step 2070
+step 2070
 step 2070
 begin 1 tidy 00000000000001e9
 finish 2072
@@ -7509,6 +7609,11 @@ finish 2074
 begin 2 tidy 000000000000024e
 begin 1 tidy 00000000000000e8
 step 2076
+step 2071
+step 2071
+step 2071
+step 2071
+step 2071
 step 2071
 step 2077
 begin 3 tidy 0000000000000168
@@ -7531,6 +7636,11 @@ finish 2085
 feed 279 3
 step 2077
 finish 2075
+step 2077
+step 2077
+step 2077
+step 2077
+step 2077
 step 2077
 begin 2 tidy 00000000000000be
 step 2083
@@ -7566,6 +7676,11 @@ begin 2 tidy 0000000000000006
 finish 2094
 finish 2095
 step 2084
+step 2084
+step 2084
+step 2084
+step 2084
+step 2084
 begin 3 tidy 0000000000000292
 step 2097
 begin 1 tidy 000000000000009b
@@ -7595,6 +7710,11 @@ begin 2 range 000000000000029c 1 all
 begin 1 tidy 00000000000000a1
 finish 2101
 step 2098
+step 2098
+step 2098
+step 2098
+step 2098
+step 2098
 begin 2 tidy 000000000000026f
 begin 1 tidy 0000000000000226
 step 2105
@@ -7614,12 +7734,21 @@ step 2110
 advance
 begin 1 tidy 00000000000001cc
 step 2110
+step 2110
+step 2110
+step 2110
+step 2110
+step 2110
 finish 2102
 finish 2109
 begin 1 tidy 0000000000000045
 begin 3 tidy 0000000000000297
 begin 3 tidy 0000000000000035
 finish 2107
+step 2112
+step 2112
+step 2112
+step 2112
 step 2112
 step 2112
 step 2112
@@ -7641,6 +7770,11 @@ begin 2 tidy 00000000000000ce
 step 2111
 begin 2 tidy 0000000000000121
 begin 2 tidy 0000000000000113
+step 2108
+step 2108
+step 2108
+step 2108
+step 2108
 step 2108
 begin 1 tidy 00000000000000ef
 finish 2111
@@ -7831,6 +7965,13 @@ finish 2188
 begin 3 tidy 0000000000000173
 step 2180
 step 2180
+step 2180
+step 2180
+step 2180
+step 2180
+step 2180
+step 2180
+step 2180
 finish 2186
 finish 2182
 feed 405 10
@@ -7899,6 +8040,14 @@ begin 1 tidy 0000000000000053
 finish 2212
 collect
 finish 2211
+step 2207
+step 2207
+step 2207
+step 2207
+step 2207
+step 2207
+step 2207
+step 2207
 step 2207
 begin 3 tidy 0000000000000043
 begin 3 tidy 0000000000000282
@@ -8016,6 +8165,11 @@ step 2256
 finish 2249
 finish 2251
 begin 3 put 0000000000000154 0=0ee4b9
+step 2244
+step 2244
+step 2244
+step 2244
+step 2244
 step 2244
 finish 2255
 step 2256
@@ -8188,6 +8342,11 @@ step 2314
 step 2314
 finish 2306
 step 2314
+step 2314
+step 2314
+step 2314
+step 2314
+step 2314
 begin 2 tidy 00000000000001fa
 begin 3 tidy 000000000000010c
 step 2316
@@ -8225,6 +8384,14 @@ begin 2 tidy 000000000000007b
 finish 2325
 begin 2 tidy 000000000000018b
 finish 2324
+step 2323
+step 2323
+step 2323
+step 2323
+step 2323
+step 2323
+step 2323
+step 2323
 step 2323
 begin 2 tidy 000000000000016a
 finish 2329
@@ -8316,6 +8483,14 @@ begin 1 tidy 00000000000000c6
 begin 1 range 00000000000001f5 3 all
 finish 2362
 step 2357
+step 2357
+step 2357
+step 2357
+step 2357
+step 2357
+step 2357
+step 2357
+step 2357
 step 2364
 step 2364
 step 2364
@@ -8395,6 +8570,15 @@ step 2388
 step 2390
 step 2390
 step 2381
+step 2390
+step 2390
+step 2390
+step 2390
+step 2390
+step 2390
+step 2390
+step 2390
+step 2390
 step 2390
 finish 2385
 begin 2 tidy 0000000000000271
@@ -8537,6 +8721,15 @@ finish 2437
 finish 2434
 step 2442
 step 2442
+step 2442
+step 2442
+step 2442
+step 2442
+step 2442
+step 2442
+step 2442
+step 2442
+step 2442
 begin 1 tidy 00000000000000a7
 begin 3 tidy 00000000000000ac
 finish 2447
@@ -8633,9 +8826,27 @@ begin 2 tidy 000000000000011b
 step 2476
 finish 2466
 step 2476
+step 2476
+step 2476
+step 2476
+step 2476
+step 2476
+step 2476
+step 2476
+step 2476
+step 2476
 begin 3 tidy 00000000000000ff
 step 2480
 begin 1 tidy 0000000000000258
+step 2472
+step 2472
+step 2472
+step 2472
+step 2472
+step 2472
+step 2472
+step 2472
+step 2472
 step 2472
 begin 1 tidy 00000000000001ee
 finish 2475
@@ -8747,6 +8958,10 @@ step 2513
 step 2510
 step 2513
 step 2504
+step 2504
+step 2504
+step 2504
+step 2504
 begin 3 tidy 00000000000001ce
 finish 2508
 step 2509
@@ -8758,6 +8973,13 @@ finish 2514
 begin 2 tidy 00000000000000fb
 begin 1 tidy 00000000000002b4
 collect
+step 2513
+step 2513
+step 2513
+step 2513
+step 2513
+step 2513
+step 2513
 step 2513
 finish 2512
 feed 1100 3
@@ -9023,6 +9245,14 @@ begin 1 tidy 00000000000000d0
 collect
 finish 2594
 step 2584
+step 2584
+step 2584
+step 2584
+step 2584
+step 2584
+step 2584
+step 2584
+step 2584
 begin 2 put 00000000000000c5 0=34630d7f
 collect
 begin 2 tidy 00000000000002a4
@@ -9082,12 +9312,28 @@ begin 2 tidy 00000000000000e1
 step 2616
 step 2613
 step 2605
+step 2605
+step 2605
+step 2605
+step 2605
+step 2605
+step 2605
+step 2605
 begin 1 tidy 0000000000000259
 finish 2617
 begin 1 tidy 0000000000000184
 finish 2618
 finish 2609
 feed 709 1
+step 2601
+step 2601
+step 2601
+step 2601
+step 2601
+step 2601
+step 2601
+step 2601
+step 2601
 step 2601
 begin 2 tidy 00000000000001cd
 finish 2613
@@ -9278,6 +9524,10 @@ step 2683
 begin 1 tidy 00000000000001fe
 finish 2687
 step 2685
+step 2685
+step 2685
+step 2685
+step 2685
 step 2690
 finish 2683
 step 2680
@@ -9326,6 +9576,15 @@ begin 3 tidy 00000000000000af
 step 2697
 begin 2 tidy 0000000000000031
 step 2697
+step 2697
+step 2697
+step 2697
+step 2697
+step 2697
+step 2697
+step 2697
+step 2697
+step 2697
 begin 3 tidy 000000000000010e
 finish 2705
 begin 2 put 000000000000027a 0=-
@@ -9357,6 +9616,15 @@ step 2715
 finish 2708
 begin 1 tidy 0000000000000079
 step 2703
+step 2703
+step 2703
+step 2703
+step 2703
+step 2703
+step 2703
+step 2703
+step 2703
+step 2703
 finish 2716
 step 2710
 begin 2 tidy 00000000000001fb
@@ -9369,6 +9637,12 @@ step 2711
 begin 2 get 0000000000000006 all
 finish 2717
 feed 157 3
+step 2715
+step 2715
+step 2715
+step 2715
+step 2715
+step 2715
 step 2715
 begin 2 tidy 0000000000000040
 begin 3 tidy 0000000000000020
@@ -9406,6 +9680,15 @@ feed 148 10
 step 2730
 step 2731
 step 2726
+step 2726
+step 2726
+step 2726
+step 2726
+step 2726
+step 2726
+step 2726
+step 2726
+step 2726
 begin 2 tidy 000000000000021a
 collect
 finish 2729
@@ -9420,6 +9703,16 @@ begin 3 tidy 000000000000018c
 step 2733
 step 2735
 step 2733
+step 2735
+step 2735
+step 2735
+step 2735
+step 2735
+step 2735
+step 2735
+step 2735
+step 2735
+step 2735
 step 2735
 begin 1 tidy 000000000000023e
 step 2738
@@ -9448,10 +9741,25 @@ begin 3 tidy 00000000000001df
 step 2739
 step 2741
 step 2741
+step 2741
+step 2741
+step 2741
+step 2741
+step 2741
+step 2741
+step 2741
+step 2741
+step 2741
+step 2741
 step 2731
 finish 2732
 begin 3 tidy 000000000000007e
 finish 2739
+step 2731
+step 2731
+step 2731
+step 2731
+step 2731
 step 2731
 begin 1 tidy 0000000000000033
 step 2746
@@ -9513,6 +9821,15 @@ begin 1 tidy 0000000000000232
 begin 3 tidy 0000000000000268
 begin 1 tidy 0000000000000112
 step 2764
+step 2764
+step 2764
+step 2764
+step 2764
+step 2764
+step 2764
+step 2764
+step 2764
+step 2764
 finish 2765
 finish 2767
 step 2769
@@ -9547,6 +9864,10 @@ step 2774
 finish 2776
 step 2774
 begin 2 tidy 00000000000001b6
+step 2774
+step 2774
+step 2774
+step 2774
 step 2774
 begin 1 tidy 00000000000000d8
 begin 1 tidy 0000000000000025
@@ -9586,6 +9907,16 @@ begin 1 tidy 000000000000010d
 finish 2792
 step 2788
 finish 2790
+step 2783
+step 2783
+step 2783
+step 2783
+step 2783
+step 2783
+step 2783
+step 2783
+step 2783
+step 2783
 step 2783
 step 2783
 collect
@@ -9633,6 +9964,21 @@ finish 2803
 begin 2 tidy 0000000000000183
 finish 2801
 step 2802
+step 2802
+step 2802
+step 2802
+step 2802
+step 2802
+step 2798
+step 2798
+step 2798
+step 2798
+step 2798
+step 2798
+step 2798
+step 2798
+step 2798
+step 2798
 step 2798
 finish 2806
 begin 1 tidy 0000000000000129
@@ -9707,6 +10053,15 @@ begin 1 tidy 0000000000000206
 step 2835
 step 2836
 step 2830
+step 2830
+step 2830
+step 2830
+step 2830
+step 2830
+step 2830
+step 2830
+step 2830
+step 2830
 begin 3 tidy 0000000000000011
 finish 2838
 step 2834
@@ -9726,6 +10081,12 @@ step 2834
 advance
 finish 2841
 finish 2835
+step 2834
+step 2834
+step 2834
+step 2834
+step 2834
+step 2834
 step 2834
 begin 1 tidy 00000000000001fd
 begin 1 tidy 0000000000000006
@@ -9856,6 +10217,16 @@ step 2889
 finish 2889
 advance
 step 2876
+step 2876
+step 2876
+step 2876
+step 2876
+step 2876
+step 2876
+step 2876
+step 2876
+step 2876
+step 2876
 begin 3 tidy 0000000000000224
 begin 3 tidy 0000000000000080
 step 2891
@@ -9984,6 +10355,12 @@ step 2927
 finish 2931
 begin 1 tidy 00000000000000d2
 step 2925
+step 2925
+step 2925
+step 2925
+step 2925
+step 2925
+step 2925
 finish 2927
 step 2934
 begin 1 tidy 00000000000000e5
@@ -9994,6 +10371,10 @@ begin 2 tidy 0000000000000171
 begin 3 tidy 00000000000000ab
 finish 2936
 finish 2938
+step 2932
+step 2932
+step 2932
+step 2932
 step 2932
 begin 3 tidy 00000000000000c9
 step 2934
@@ -10183,6 +10564,17 @@ collect
 finish 2999
 step 3001
 step 3001
+step 3001
+step 3001
+step 3001
+step 3001
+step 3001
+step 3001
+step 3001
+step 3001
+step 3001
+step 3001
+step 3001
 begin 1 tidy 00000000000001e1
 step 3006
 step 3006
@@ -10230,6 +10622,17 @@ finish 3023
 collect
 begin 3 tidy 0000000000000023
 step 3014
+step 3019
+step 3019
+step 3019
+step 3019
+step 3019
+step 3019
+step 3019
+step 3019
+step 3019
+step 3019
+step 3019
 step 3019
 begin 3 tidy 00000000000000cd
 step 3026
@@ -10345,6 +10748,16 @@ begin 3 tidy 00000000000000b1
 step 3048
 finish 3061
 step 3048
+step 3048
+step 3048
+step 3048
+step 3048
+step 3048
+step 3048
+step 3048
+step 3048
+step 3048
+step 3048
 step 3062
 step 3059
 finish 3058
@@ -10369,6 +10782,17 @@ begin 2 tidy 0000000000000114
 begin 3 tidy 0000000000000220
 step 3055
 step 3062
+step 3062
+step 3062
+step 3062
+step 3062
+step 3062
+step 3062
+step 3062
+step 3062
+step 3062
+step 3062
+step 3062
 step 3069
 finish 3069
 finish 3065
@@ -10380,6 +10804,17 @@ begin 2 tidy 000000000000018b
 begin 3 tidy 000000000000016a
 begin 3 tidy 00000000000001c9
 step 3072
+step 3055
+step 3055
+step 3055
+step 3055
+step 3055
+step 3055
+step 3055
+step 3055
+step 3055
+step 3055
+step 3055
 step 3055
 begin 3 tidy 00000000000002b2
 finish 3072
@@ -10497,6 +10932,9 @@ finish 3106
 begin 2 tidy 00000000000000fa
 step 3105
 step 3111
+step 3111
+step 3111
+step 3111
 feed 1302 10
 begin 1 tidy 0000000000000177
 step 3107
@@ -10508,6 +10946,17 @@ step 3115
 finish 3113
 finish 3115
 begin 3 tidy 00000000000001de
+step 3107
+step 3107
+step 3107
+step 3107
+step 3107
+step 3107
+step 3107
+step 3107
+step 3107
+step 3107
+step 3107
 step 3107
 begin 1 tidy 00000000000002ac
 begin 1 tidy 0000000000000141
@@ -10590,6 +11039,20 @@ feed 232 10
 begin 3 tidy 0000000000000107
 step 3143
 step 3143
+step 3143
+step 3143
+step 3143
+step 3143
+step 3143
+step 3143
+step 3143
+step 3143
+step 3143
+step 3143
+step 3143
+step 3143
+step 3143
+step 3143
 step 3145
 begin 3 tidy 00000000000000e2
 feed 383 1
@@ -10657,6 +11120,18 @@ begin 1 tidy 0000000000000058
 step 3168
 step 3166
 step 3162
+step 3168
+step 3168
+step 3168
+step 3168
+step 3168
+step 3168
+step 3168
+step 3168
+step 3168
+step 3168
+step 3168
+step 3168
 step 3168
 step 3168
 begin 1 tidy 00000000000000b5
@@ -10804,6 +11279,17 @@ advance
 finish 3210
 begin 2 tidy 0000000000000055
 step 3208
+step 3208
+step 3208
+step 3208
+step 3208
+step 3208
+step 3208
+step 3208
+step 3208
+step 3208
+step 3208
+step 3208
 feed 377 3
 begin 3 tidy 0000000000000234
 finish 3215
@@ -10913,6 +11399,16 @@ step 3250
 finish 3249
 finish 3245
 begin 3 tidy 000000000000028b
+step 3243
+step 3243
+step 3243
+step 3243
+step 3243
+step 3243
+step 3243
+step 3243
+step 3243
+step 3243
 step 3243
 step 3243
 begin 2 tidy 00000000000001ce
@@ -11025,6 +11521,22 @@ step 3279
 finish 3286
 finish 3284
 step 3285
+step 3279
+step 3279
+step 3279
+step 3279
+step 3279
+step 3279
+step 3279
+step 3279
+step 3279
+step 3279
+step 3279
+step 3279
+step 3279
+step 3279
+step 3279
+step 3279
 step 3279
 begin 3 tidy 000000000000012f
 finish 3285
@@ -11289,6 +11801,18 @@ begin 3 tidy 00000000000001b4
 begin 3 range 000000000000028c 3 all
 step 3379
 step 3375
+step 3375
+step 3375
+step 3375
+step 3375
+step 3375
+step 3375
+step 3375
+step 3375
+step 3375
+step 3375
+step 3375
+step 3375
 begin 1 tidy 000000000000019f
 finish 3380
 finish 3381
@@ -11357,6 +11881,23 @@ finish 3402
 finish 3403
 begin 2 tidy 000000000000016d
 step 3395
+step 3395
+step 3395
+step 3395
+step 3395
+step 3395
+step 3395
+step 3395
+step 3395
+step 3395
+step 3395
+step 3395
+step 3395
+step 3395
+step 3395
+step 3395
+step 3395
+step 3395
 begin 1 tidy 000000000000000d
 begin 1 tidy 0000000000000096
 begin 2 tidy 0000000000000077
@@ -11378,6 +11919,11 @@ begin 3 tidy 0000000000000151
 finish 3412
 step 3411
 finish 3413
+step 3410
+step 3410
+step 3410
+step 3410
+step 3410
 step 3410
 finish 3411
 begin 1 tidy 0000000000000088
@@ -11415,6 +11961,10 @@ finish 3426
 begin 2 tidy 000000000000015e
 finish 3425
 step 3424
+step 3424
+step 3424
+step 3424
+step 3424
 begin 1 tidy 000000000000019c
 begin 2 tidy 00000000000001fe
 finish 3416
@@ -11447,6 +11997,14 @@ begin 2 tidy 0000000000000069
 finish 3436
 begin 2 tidy 000000000000023f
 begin 1 tidy 0000000000000120
+step 3430
+step 3430
+step 3430
+step 3430
+step 3430
+step 3430
+step 3430
+step 3430
 step 3430
 step 3438
 begin 1 tidy 000000000000016f
@@ -11519,6 +12077,11 @@ step 3457
 begin 1 tidy 0000000000000012
 finish 3447
 finish 3461
+step 3457
+step 3457
+step 3457
+step 3457
+step 3457
 step 3457
 begin 3 tidy 00000000000002b6
 begin 1 tidy 00000000000001d2
@@ -11617,6 +12180,18 @@ begin 1 tidy 0000000000000093
 step 3500
 feed 833 10
 finish 3501
+step 3500
+step 3500
+step 3500
+step 3500
+step 3500
+step 3500
+step 3500
+step 3500
+step 3500
+step 3500
+step 3500
+step 3500
 step 3500
 step 3500
 begin 2 tidy 0000000000000048
@@ -11718,6 +12293,20 @@ step 3535
 step 3529
 advance
 step 3529
+step 3529
+step 3529
+step 3529
+step 3529
+step 3529
+step 3529
+step 3529
+step 3529
+step 3529
+step 3529
+step 3529
+step 3529
+step 3529
+step 3529
 begin 3 tidy 00000000000001dd
 step 3535
 finish 3537
@@ -11726,6 +12315,12 @@ begin 2 put 0000000000000140 0=35f665
 step 3530
 finish 3534
 begin 2 tidy 0000000000000017
+step 3535
+step 3535
+step 3535
+step 3535
+step 3535
+step 3535
 step 3535
 step 3536
 begin 2 tidy 00000000000002a9
@@ -11856,6 +12451,13 @@ finish 3578
 begin 1 tidy 0000000000000295
 begin 2 tidy 00000000000001fd
 step 3565
+step 3565
+step 3565
+step 3565
+step 3565
+step 3565
+step 3565
+step 3565
 finish 3582
 finish 3583
 begin 1 tidy 0000000000000006
@@ -11877,6 +12479,17 @@ begin 2 tidy 00000000000000ae
 step 3587
 finish 3592
 finish 3591
+step 3587
+step 3587
+step 3587
+step 3587
+step 3587
+step 3587
+step 3587
+step 3587
+step 3587
+step 3587
+step 3587
 step 3587
 begin 1 tidy 00000000000000a1
 finish 3590
@@ -12033,9 +12646,26 @@ finish 3651
 begin 2 tidy 0000000000000065
 step 3649
 step 3644
+step 3644
+step 3644
+step 3644
+step 3644
+step 3644
 begin 3 tidy 00000000000001c0
 finish 3649
 collect
+step 3640
+step 3640
+step 3640
+step 3640
+step 3640
+step 3640
+step 3640
+step 3640
+step 3640
+step 3640
+step 3640
+step 3640
 step 3640
 begin 2 tidy 00000000000001aa
 begin 3 tidy 00000000000000a3
@@ -12125,6 +12755,12 @@ begin 3 tidy 00000000000000dd
 begin 1 tidy 00000000000001b0
 feed 340 3
 begin 1 tidy 0000000000000290
+step 3673
+step 3673
+step 3673
+step 3673
+step 3673
+step 3673
 step 3673
 finish 3678
 step 3683
@@ -12228,6 +12864,10 @@ finish 3719
 feed 677 1
 begin 2 tidy 000000000000017e
 step 3715
+step 3715
+step 3715
+step 3715
+step 3715
 begin 2 tidy 0000000000000153
 finish 3716
 finish 3722
@@ -12294,6 +12934,17 @@ step 3745
 step 3743
 step 3747
 step 3739
+step 3739
+step 3739
+step 3739
+step 3739
+step 3739
+step 3739
+step 3739
+step 3739
+step 3739
+step 3739
+step 3739
 finish 3741
 finish 3743
 step 3745
@@ -12346,6 +12997,11 @@ advance
 finish 3750
 begin 2 put 0000000000000250 0=f6ea
 step 3761
+step 3761
+step 3761
+step 3761
+step 3761
+step 3761
 begin 3 tidy 00000000000000cd
 advance
 finish 3754
@@ -12382,6 +13038,17 @@ begin 1 tidy 00000000000002b3
 begin 3 tidy 000000000000008e
 step 3771
 step 3767
+step 3766
+step 3766
+step 3766
+step 3766
+step 3766
+step 3766
+step 3766
+step 3766
+step 3766
+step 3766
+step 3766
 step 3766
 begin 3 tidy 00000000000000c1
 finish 3774
@@ -12427,6 +13094,15 @@ step 3787
 finish 3784
 step 3788
 begin 2 tidy 00000000000001e2
+step 3788
+step 3788
+step 3788
+step 3788
+step 3788
+step 3788
+step 3788
+step 3788
+step 3788
 step 3788
 begin 1 range 0000000000000161 10 all
 step 3787
@@ -12477,6 +13153,17 @@ finish 3798
 begin 3 tidy 0000000000000114
 step 3796
 step 3785
+step 3785
+step 3785
+step 3785
+step 3785
+step 3785
+step 3785
+step 3785
+step 3785
+step 3785
+step 3785
+step 3785
 begin 2 tidy 0000000000000220
 finish 3801
 begin 2 tidy 0000000000000159
@@ -12512,6 +13199,11 @@ step 3813
 begin 3 tidy 00000000000001ff
 step 3809
 step 3809
+step 3809
+step 3809
+step 3809
+step 3809
+step 3809
 begin 2 tidy 0000000000000221
 finish 3814
 begin 3 tidy 000000000000005c
@@ -12541,6 +13233,18 @@ step 3819
 finish 3825
 begin 3 tidy 0000000000000214
 step 3823
+step 3823
+step 3823
+step 3823
+step 3823
+step 3823
+step 3823
+step 3823
+step 3823
+step 3823
+step 3823
+step 3823
+step 3823
 begin 1 tidy 000000000000008c
 step 3819
 finish 3826
@@ -12552,6 +13256,18 @@ begin 2 tidy 0000000000000005
 step 3828
 collect
 finish 3816
+step 3828
+step 3828
+step 3828
+step 3828
+step 3828
+step 3828
+step 3828
+step 3828
+step 3828
+step 3828
+step 3828
+step 3828
 step 3828
 step 3815
 step 3827
@@ -12796,6 +13512,19 @@ step 3922
 begin 1 tidy 00000000000000ac
 step 3922
 step 3922
+step 3922
+step 3922
+step 3922
+step 3922
+step 3922
+step 3922
+step 3922
+step 3922
+step 3922
+step 3922
+step 3922
+step 3922
+step 3922
 advance
 begin 3 tidy 000000000000001a
 begin 1 tidy 00000000000001a6
@@ -12844,10 +13573,26 @@ begin 1 tidy 0000000000000099
 finish 3935
 step 3930
 step 3930
+step 3930
+step 3930
+step 3930
+step 3930
+step 3930
+step 3930
+step 3930
+step 3930
+step 3930
+step 3930
 step 3937
 begin 2 tidy 000000000000017a
 begin 2 tidy 0000000000000106
 begin 3 tidy 0000000000000060
+step 3937
+step 3937
+step 3937
+step 3937
+step 3937
+step 3937
 step 3937
 finish 3940
 finish 3942
@@ -12859,6 +13604,17 @@ begin 2 tidy 0000000000000124
 step 3941
 step 3946
 finish 3941
+step 3946
+step 3946
+step 3946
+step 3946
+step 3946
+step 3946
+step 3946
+step 3946
+step 3946
+step 3946
+step 3946
 step 3946
 step 3946
 begin 2 tidy 0000000000000055
@@ -12874,6 +13630,13 @@ begin 3 tidy 000000000000023b
 finish 3948
 feed 747 10
 begin 2 tidy 000000000000003f
+step 3950
+step 3950
+step 3950
+step 3950
+step 3950
+step 3950
+step 3950
 step 3950
 begin 3 tidy 000000000000011b
 begin 3 tidy 00000000000000ff
@@ -12922,6 +13685,11 @@ finish 3965
 begin 2 range 000000000000001a 10 all
 finish 3963
 begin 2 build range 0000000000000070 none atleast 0 188
+step 3960
+step 3960
+step 3960
+step 3960
+step 3960
 step 3960
 finish 3966
 finish 3967
@@ -13327,6 +14095,12 @@ finish 4111
 finish 4110
 finish 4112
 step 4100
+step 4100
+step 4100
+step 4100
+step 4100
+step 4100
+step 4100
 step 4107
 finish 4107
 alone tidy 0000000000000019
@@ -13376,6 +14150,12 @@ begin 1 tidy 00000000000001ac
 finish 4128
 step 4131
 step 4126
+step 4126
+step 4126
+step 4126
+step 4126
+step 4126
+step 4126
 finish 4133
 begin 2 tidy 0000000000000299
 step 4127
@@ -13420,6 +14200,12 @@ finish 4142
 begin 3 put 0000000000000146 0=291025
 finish 4145
 step 4139
+step 4139
+step 4139
+step 4139
+step 4139
+step 4139
+step 4139
 begin 3 tidy 00000000000001a9
 finish 4148
 begin 1 tidy 0000000000000095
@@ -13433,6 +14219,19 @@ finish 4153
 apply 0
 begin 2 tidy 0000000000000244
 begin 2 tidy 000000000000004b
+step 4141
+step 4141
+step 4141
+step 4141
+step 4141
+step 4141
+step 4141
+step 4141
+step 4141
+step 4141
+step 4141
+step 4141
+step 4141
 step 4141
 step 4151
 finish 4155
@@ -13457,6 +14256,19 @@ begin 1 tidy 000000000000019c
 finish 4162
 finish 4149
 step 4151
+step 4151
+step 4151
+step 4151
+step 4151
+step 4151
+step 4151
+step 4151
+step 4151
+step 4151
+step 4151
+step 4151
+step 4151
+step 4151
 finish 4157
 begin 3 tidy 00000000000001fe
 begin 1 tidy 000000000000005b
@@ -13473,6 +14285,16 @@ step 4165
 step 4167
 step 4165
 finish 4166
+step 4165
+step 4165
+step 4165
+step 4165
+step 4165
+step 4165
+step 4165
+step 4165
+step 4165
+step 4165
 step 4165
 finish 4167
 begin 2 tidy 0000000000000240
@@ -13540,6 +14362,18 @@ begin 1 tidy 0000000000000040
 step 4190
 finish 4191
 step 4190
+step 4190
+step 4190
+step 4190
+step 4190
+step 4190
+step 4190
+step 4190
+step 4190
+step 4190
+step 4190
+step 4190
+step 4190
 begin 3 tidy 0000000000000020
 finish 4187
 begin 1 tidy 0000000000000278
@@ -13551,6 +14385,19 @@ begin 2 tidy 00000000000001ba
 step 4186
 step 4194
 finish 4193
+step 4186
+step 4186
+step 4186
+step 4186
+step 4186
+step 4186
+step 4186
+step 4186
+step 4186
+step 4186
+step 4186
+step 4186
+step 4186
 step 4186
 begin 3 tidy 00000000000000b2
 begin 1 tidy 0000000000000072
@@ -13578,6 +14425,12 @@ step 4205
 finish 4200
 begin 2 tidy 000000000000027e
 step 4194
+step 4194
+step 4194
+step 4194
+step 4194
+step 4194
+step 4194
 finish 4204
 begin 2 tidy 0000000000000139
 begin 2 tidy 0000000000000149
@@ -13601,6 +14454,17 @@ finish 4215
 begin 1 tidy 0000000000000202
 begin 3 tidy 00000000000001df
 finish 4205
+step 4208
+step 4208
+step 4208
+step 4208
+step 4208
+step 4208
+step 4208
+step 4208
+step 4208
+step 4208
+step 4208
 step 4208
 finish 4214
 finish 4213
@@ -13686,6 +14550,12 @@ finish 4237
 begin 1 tidy 0000000000000117
 finish 4249
 step 4247
+step 4247
+step 4247
+step 4247
+step 4247
+step 4247
+step 4247
 step 4248
 finish 4250
 begin 1 tidy 00000000000001b6
@@ -13726,6 +14596,14 @@ finish 4255
 begin 1 tidy 000000000000025a
 step 4265
 finish 4261
+step 4260
+step 4260
+step 4260
+step 4260
+step 4260
+step 4260
+step 4260
+step 4260
 step 4260
 finish 4256
 finish 4263
@@ -13839,8 +14717,30 @@ finish 4289
 begin 1 tidy 000000000000024e
 step 4290
 step 4281
+step 4281
+step 4281
+step 4281
+step 4281
+step 4281
+step 4281
+step 4281
+step 4281
+step 4281
+step 4281
+step 4281
+step 4281
+step 4281
+step 4281
+step 4281
+step 4281
 finish 4296
 begin 2 tidy 00000000000000e8
+step 4290
+step 4290
+step 4290
+step 4290
+step 4290
+step 4290
 step 4290
 finish 4297
 begin 3 tidy 0000000000000168
@@ -13880,6 +14780,11 @@ step 4310
 begin 2 tidy 0000000000000162
 finish 4304
 begin 1 tidy 0000000000000064
+step 4310
+step 4310
+step 4310
+step 4310
+step 4310
 step 4310
 step 4310
 advance
@@ -13990,6 +14895,11 @@ begin 1 tidy 00000000000000b6
 step 4352
 step 4352
 step 4350
+step 4335
+step 4335
+step 4335
+step 4335
+step 4335
 step 4335
 finish 4353
 begin 3 tidy 000000000000019d
@@ -14133,6 +15043,12 @@ step 4402
 apply 6
 begin 3 tidy 00000000000001c2
 begin 2 tidy 0000000000000000
+step 4402
+step 4402
+step 4402
+step 4402
+step 4402
+step 4402
 step 4402
 finish 4401
 finish 4403

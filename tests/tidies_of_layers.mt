@@ -41,6 +41,10 @@ step 7
 collect
 step 2
 step 5
+step 5
+step 5
+step 5
+step 5
 step 6
 begin 2 remove 616161616161616162626262626262620101
 step 7
@@ -409,6 +413,12 @@ begin 2 tidy 616161616161616102
 step 33
 step 30
 step 31
+step 31
+step 31
+step 31
+step 31
+step 31
+step 31
 finish 30
 feed 9 10
 begin 2 tidy 616161616161616162626262626262620303
@@ -426,6 +436,11 @@ step 23
 finish 27
 step 33
 step 33
+step 33
+step 33
+step 33
+step 33
+step 33
 begin 3 tidy 626262626262626201
 finish 31
 begin 1 tidy 61616161616161610101
@@ -436,14 +451,44 @@ step 23
 begin 3 tidy 6161616161616161626262626262626202
 collect
 step 37
+step 37
+step 37
+step 37
+step 37
+step 37
+step 37
+step 35
+step 35
+step 35
+step 35
+step 35
 step 35
 step 35
 step 38
+step 38
+step 38
+step 38
+step 38
+step 38
 step 37
+step 36
+step 36
+step 36
+step 36
+step 36
 step 36
 advance
 step 37
+step 37
+step 37
+step 37
+step 37
 begin 3 remove 61616161616161610303
+step 39
+step 39
+step 39
+step 39
+step 39
 step 39
 step 39
 finish 35
@@ -472,7 +517,15 @@ begin 1 remove 616161616161616162626262626262620101
 finish 23
 step 36
 step 36
+step 36
+step 36
+step 36
+step 36
 begin 2 remove 626262626262626203
+step 38
+step 38
+step 38
+step 38
 step 38
 step 41
 begin 3 remove 6161616161616161626262626262626200
@@ -536,12 +589,18 @@ finish 54
 begin 3 tidy 62626262626262620000
 step 58
 step 52
+step 52
+step 52
+step 52
 begin 2 tidy 6161616161616161626262626262626202
 begin 2 tidy 616161616161616100
 finish 55
 step 61
 begin 1 tidy 626262626262626201
 step 49
+step 61
+step 61
+step 61
 step 61
 begin 2 get 616161616161616100 all
 step 63
@@ -550,6 +609,12 @@ step 63
 feed 3 10
 step 62
 step 62
+step 62
+step 62
+step 62
+step 58
+step 58
+step 58
 step 58
 begin 1 tidy 61616161616161610101
 feed 22 3
@@ -562,6 +627,9 @@ finish 65
 begin 3 tidy 62626262626262620202
 begin 3 tidy 616161616161616102
 step 60
+step 60
+step 60
+step 60
 begin 2 tidy 616161616161616162626262626262620303
 step 66
 step 68
@@ -571,10 +639,16 @@ begin 2 tidy 616161616161616162626262626262620101
 step 67
 finish 69
 step 68
+step 68
+step 68
+step 68
 begin 1 tidy 626262626262626203
 advance
 step 64
 begin 2 tidy 6161616161616161626262626262626200
+step 66
+step 66
+step 66
 step 66
 step 71
 finish 71
@@ -588,22 +662,40 @@ step 74
 finish 74
 begin 2 tidy 616161616161616100
 step 64
+step 64
+step 64
+step 64
 step 73
 begin 3 tidy 626262626262626201
 begin 1 get 61616161616161610303 all
 step 75
 step 67
+step 67
+step 67
+step 67
 begin 1 tidy 61616161616161610101
 step 59
+step 59
+step 59
+step 59
 step 78
+step 75
+step 75
+step 75
 step 75
 begin 2 tidy 61616161616161610303
 begin 2 tidy 62626262626262620202
 step 79
 finish 78
 step 73
+step 73
+step 73
+step 73
 begin 2 tidy 616161616161616162626262626262620303
 finish 76
+step 79
+step 79
+step 79
 step 79
 finish 81
 step 77
@@ -630,19 +722,34 @@ feed 15 1
 step 85
 finish 85
 step 86
+step 86
+step 86
+step 86
+step 87
+step 87
+step 87
 step 87
 collect
 begin 2 tidy 616161616161616100
 collect
 begin 1 tidy 626262626262626201
 step 82
+step 82
+step 82
+step 82
 begin 3 tidy 61616161616161610101
 begin 2 tidy 61616161616161610303
+step 84
+step 84
+step 84
 step 84
 begin 2 tidy 62626262626262620202
 step 88
 finish 91
 finish 90
+step 88
+step 88
+step 88
 step 88
 step 89
 begin 3 tidy 616161616161616162626262626262620303
@@ -659,9 +766,15 @@ begin 2 tidy 62626262626262620000
 finish 99
 begin 3 tidy 6161616161616161626262626262626202
 step 89
+step 89
+step 89
+step 89
 step 100
 begin 2 tidy 616161616161616100
 step 95
+step 100
+step 100
+step 100
 step 100
 step 98
 step 98
@@ -670,11 +783,23 @@ step 101
 step 93
 feed 14 3
 step 95
+step 95
+step 95
+step 95
 begin 3 tidy 61616161616161610101
 step 93
+step 93
+step 93
+step 93
+step 96
+step 96
+step 96
 step 96
 begin 2 remove 616161616161616102
 begin 2 remove 616161616161616162626262626262620101
+step 101
+step 101
+step 101
 step 101
 begin 1 remove 616161616161616100
 step 102
@@ -685,10 +810,16 @@ step 98
 begin 1 get 6161616161616161626262626262626202 all
 step 106
 step 102
+step 102
+step 102
+step 102
 step 105
 finish 106
 step 105
 begin 3 remove 61616161616161610303
+step 103
+step 103
+step 103
 step 103
 begin 1 put 6161616161616161626262626262626202 0=-
 step 108
@@ -751,6 +882,9 @@ step 117
 step 116
 finish 117
 step 120
+step 120
+step 120
+step 120
 begin 1 tidy 616161616161616100
 begin 3 tidy 61616161616161610303
 step 115
@@ -774,9 +908,21 @@ finish 122
 begin 2 tidy 61616161616161610101
 step 125
 step 123
+step 123
+step 123
+step 123
+step 123
 begin 1 tidy 626262626262626201
 step 119
+step 119
+step 119
+step 119
+step 119
 finish 126
+step 125
+step 125
+step 125
+step 125
 step 125
 begin 2 tidy 6161616161616161626262626262626200
 finish 124
@@ -797,18 +943,38 @@ step 109
 step 109
 step 130
 step 127
+step 127
+step 127
+step 127
+step 127
 step 132
 begin 1 tidy 616161616161616162626262626262620101
+step 129
+step 129
+step 129
+step 129
 step 129
 begin 2 put 616161616161616162626262626262620101 0=07c6f9
 step 131
 step 133
 step 131
 step 132
+step 132
+step 132
+step 132
+step 132
 begin 2 tidy 616161616161616100
 step 135
 step 134
 step 133
+step 133
+step 133
+step 133
+step 133
+step 130
+step 130
+step 130
+step 130
 step 130
 step 131
 step 109
@@ -822,6 +988,10 @@ step 134
 step 134
 advance
 step 135
+step 135
+step 135
+step 135
+step 135
 step 131
 begin 3 tidy 62626262626262620202
 step 134
@@ -829,7 +999,15 @@ step 131
 step 131
 step 131
 step 137
+step 137
+step 137
+step 137
+step 137
 begin 2 tidy 61616161616161610101
+step 139
+step 139
+step 139
+step 139
 step 139
 step 139
 step 131
@@ -858,6 +1036,11 @@ finish 141
 finish 142
 finish 140
 step 136
+step 136
+step 136
+step 136
+step 136
+step 136
 step 109
 step 136
 step 109
@@ -870,6 +1053,10 @@ step 109
 begin 2 range 61616161616161610303 1000 all
 finish 109
 step 138
+step 138
+step 138
+step 138
+step 138
 begin 3 tidy 626262626262626203
 begin 1 tidy 62626262626262620000
 begin 1 put 61616161616161610101 0=-
@@ -878,6 +1065,10 @@ step 147
 step 146
 step 143
 feed 4 3
+step 136
+step 136
+step 136
+step 136
 step 136
 step 147
 step 144
@@ -941,6 +1132,12 @@ finish 158
 begin 1 tidy 616161616161616162626262626262620303
 begin 2 put 6161616161616161626262626262626202 0=02f6
 step 153
+step 153
+step 153
+step 153
+step 153
+step 153
+step 153
 step 160
 step 154
 finish 154
@@ -954,6 +1151,11 @@ finish 162
 finish 159
 advance
 step 156
+step 156
+step 156
+step 156
+step 156
+step 156
 begin 2 put 626262626262626203 0=25a1c56c
 finish 164
 begin 3 put 62626262626262620202 0=6ecd39
@@ -965,6 +1167,14 @@ collect
 finish 166
 feed 12 3
 step 156
+step 156
+step 156
+step 156
+step 156
+step 156
+step 156
+step 156
+step 156
 finish 161
 begin 2 put 61616161616161610303 0=-
 advance
@@ -975,6 +1185,12 @@ feed 21 10
 step 165
 begin 2 remove 616161616161616162626262626262620101
 finish 165
+step 156
+step 156
+step 156
+step 156
+step 156
+step 156
 step 156
 begin 1 remove 616161616161616102
 finish 163
@@ -1052,6 +1268,11 @@ begin 2 tidy 626262626262626203
 step 181
 finish 182
 step 181
+step 181
+step 181
+step 181
+step 181
+step 181
 begin 1 tidy 616161616161616162626262626262620303
 step 183
 finish 184
@@ -1065,6 +1286,12 @@ step 185
 finish 185
 begin 3 get 62626262626262620000 all
 finish 171
+step 183
+step 183
+step 183
+step 183
+step 183
+step 183
 step 183
 begin 2 remove 61616161616161610303
 step 174
@@ -1108,7 +1335,24 @@ begin 3 remove 616161616161616162626262626262620303
 step 189
 step 183
 step 189
+step 189
+step 189
+step 189
+step 189
+step 189
+step 189
 step 183
+step 183
+step 183
+step 183
+step 183
+step 183
+step 181
+step 181
+step 181
+step 181
+step 181
+step 181
 step 181
 begin 1 tidy 61616161616161610303
 feed 17 10
@@ -1167,12 +1411,29 @@ step 197
 begin 2 tidy 616161616161616162626262626262620303
 step 196
 step 193
+step 193
+step 193
+step 193
+step 193
+step 193
+step 193
+step 194
+step 194
+step 194
+step 194
+step 194
 step 194
 step 194
 step 193
 finish 194
 begin 2 remove 616161616161616100
 finish 196
+step 197
+step 197
+step 197
+step 197
+step 197
+step 197
 step 197
 step 198
 begin 2 get 616161616161616162626262626262620101 all
@@ -1189,6 +1450,16 @@ collect
 step 201
 step 200
 step 193
+step 193
+step 193
+step 193
+step 193
+step 193
+step 201
+step 201
+step 201
+step 201
+step 201
 step 201
 step 200
 step 200
@@ -1209,6 +1480,11 @@ begin 3 remove 61616161616161610101
 step 205
 step 204
 step 205
+step 205
+step 205
+step 205
+step 205
+step 205
 finish 201
 begin 1 tidy 61616161616161610101
 step 206
@@ -1218,6 +1494,12 @@ finish 208
 begin 3 tidy 626262626262626201
 step 203
 collect
+step 203
+step 203
+step 203
+step 203
+step 203
+step 203
 step 203
 step 209
 finish 205
@@ -1231,6 +1513,12 @@ step 206
 step 206
 step 206
 finish 203
+step 209
+step 209
+step 209
+step 209
+step 209
+step 209
 step 209
 begin 1 tidy 616161616161616162626262626262620101
 step 204
@@ -1260,6 +1548,15 @@ step 199
 step 199
 step 199
 step 211
+step 211
+step 211
+step 211
+step 211
+step 211
+step 209
+step 209
+step 209
+step 209
 step 209
 step 199
 step 210
@@ -1268,6 +1565,13 @@ step 204
 step 211
 collect
 step 204
+step 211
+step 211
+step 211
+step 211
+step 211
+step 211
+step 211
 step 211
 step 212
 feed 10 10
@@ -1290,6 +1594,15 @@ begin 3 remove 62626262626262620202
 step 211
 step 213
 step 211
+step 211
+step 211
+step 211
+step 211
+step 213
+step 213
+step 213
+step 213
+step 213
 step 213
 step 210
 step 210
@@ -1299,6 +1612,12 @@ step 210
 step 210
 step 210
 begin 3 tidy 62626262626262620202
+step 215
+step 215
+step 215
+step 215
+step 215
+step 215
 step 215
 step 215
 step 199
@@ -1321,6 +1640,10 @@ step 212
 step 212
 step 215
 step 210
+step 215
+step 215
+step 215
+step 215
 step 215
 step 212
 begin 2 remove 6161616161616161626262626262626202
@@ -1360,6 +1683,15 @@ step 216
 step 216
 step 216
 step 217
+step 217
+step 217
+step 217
+step 217
+step 217
+step 213
+step 213
+step 213
+step 213
 step 213
 step 212
 step 212
@@ -1368,6 +1700,16 @@ step 212
 step 212
 step 212
 begin 1 tidy 61616161616161610303
+step 219
+step 219
+step 219
+step 219
+step 219
+step 219
+step 219
+step 219
+step 219
+step 219
 step 219
 step 219
 step 219
@@ -1393,6 +1735,11 @@ step 218
 step 218
 step 217
 step 217
+step 217
+step 217
+step 217
+step 217
+step 217
 step 216
 step 216
 step 217
@@ -1402,6 +1749,9 @@ step 220
 step 214
 begin 1 remove 616161616161616162626262626262620303
 step 218
+step 217
+step 217
+step 217
 step 217
 begin 1 tidy 616161616161616162626262626262620303
 step 220
@@ -1416,6 +1766,11 @@ step 216
 step 216
 step 216
 begin 3 put 62626262626262620000 0=751b
+step 223
+step 223
+step 223
+step 223
+step 223
 step 223
 step 222
 step 221
@@ -1456,6 +1811,11 @@ step 224
 step 228
 finish 225
 begin 1 put 61616161616161610303 0=-
+step 223
+step 223
+step 223
+step 223
+step 223
 step 223
 step 227
 step 227
@@ -1519,6 +1879,10 @@ step 229
 step 224
 step 224
 step 224
+step 223
+step 223
+step 223
+step 223
 step 223
 step 223
 step 224
@@ -1632,10 +1996,28 @@ step 239
 finish 240
 finish 235
 step 239
+step 239
+step 239
+step 239
+step 239
+step 239
 begin 3 put 616161616161616162626262626262620101 0=fdff6227
 begin 2 put 62626262626262620202 0=-
 step 238
+step 238
+step 238
+step 238
+step 238
+step 238
 finish 237
+step 238
+step 238
+step 238
+step 238
+step 238
+step 238
+step 238
+step 238
 step 238
 step 238
 begin 1 tidy 616161616161616162626262626262620101
@@ -1657,6 +2039,14 @@ step 239
 finish 242
 begin 1 put 616161616161616162626262626262620303 0=-
 step 239
+step 239
+step 239
+step 239
+step 239
+step 239
+step 239
+step 239
+step 239
 step 245
 step 241
 step 241
@@ -1667,6 +2057,17 @@ step 241
 step 241
 step 244
 step 243
+step 243
+step 243
+step 243
+step 243
+step 243
+step 238
+step 238
+step 238
+step 238
+step 238
+step 238
 step 238
 begin 1 put 6161616161616161626262626262626202 0=8a
 step 244
@@ -1734,6 +2135,11 @@ step 248
 step 255
 step 248
 step 253
+step 253
+step 253
+step 253
+step 253
+step 253
 step 248
 step 248
 step 248
@@ -1743,6 +2149,11 @@ step 248
 step 248
 step 248
 step 251
+step 255
+step 255
+step 255
+step 255
+step 255
 step 255
 step 251
 step 245
@@ -1760,6 +2171,11 @@ step 251
 step 251
 step 252
 step 252
+step 252
+step 252
+step 252
+step 252
+step 252
 step 248
 finish 253
 begin 2 put 61616161616161610101 0=eb968f
@@ -1767,6 +2183,14 @@ finish 256
 step 245
 step 245
 begin 1 put 61616161616161610303 0=1d35c1
+step 255
+step 255
+step 255
+step 255
+step 255
+step 255
+step 255
+step 255
 step 255
 step 255
 begin 1 put 616161616161616162626262626262620303 0=-
@@ -1795,6 +2219,14 @@ finish 258
 step 259
 begin 3 put 6161616161616161626262626262626202 0=5790b0
 begin 1 put 6161616161616161626262626262626200 0=1fe88ded
+step 252
+step 252
+step 252
+step 252
+step 252
+step 252
+step 252
+step 252
 step 252
 step 260
 step 259
@@ -1836,6 +2268,20 @@ step 257
 step 257
 step 259
 step 252
+step 252
+step 252
+step 252
+step 252
+step 252
+step 252
+step 252
+step 255
+step 255
+step 255
+step 255
+step 255
+step 255
+step 255
 step 255
 begin 1 put 616161616161616100 0=dad8
 step 259
@@ -2017,6 +2463,11 @@ step 270
 step 270
 step 272
 step 272
+step 272
+step 272
+step 272
+step 272
+step 272
 step 270
 finish 266
 begin 2 get 616161616161616102 all
@@ -2028,6 +2479,16 @@ step 275
 advance
 step 272
 step 274
+step 274
+step 274
+step 274
+step 274
+step 274
+step 274
+step 272
+step 272
+step 272
+step 272
 step 272
 step 270
 step 275
@@ -2039,6 +2500,10 @@ step 275
 step 275
 step 276
 begin 2 remove 61616161616161610101
+step 274
+step 274
+step 274
+step 274
 step 274
 step 274
 begin 2 tidy 61616161616161610101
@@ -2063,6 +2528,11 @@ collect
 begin 3 remove 616161616161616162626262626262620101
 begin 2 tidy 616161616161616162626262626262620101
 finish 279
+step 277
+step 277
+step 277
+step 277
+step 277
 step 277
 advance
 step 275
@@ -2093,11 +2563,22 @@ step 286
 finish 276
 finish 284
 step 277
+step 277
+step 277
+step 277
+step 277
+step 277
+step 277
 view 1 0 - 1000
 step 285
 begin 1 tidy 62626262626262620202
 advance
 advance
+step 283
+step 283
+step 283
+step 283
+step 283
 step 283
 step 286
 begin 1 remove 6161616161616161626262626262626202
@@ -2132,7 +2613,22 @@ step 291
 step 291
 step 291
 step 289
+step 289
+step 289
+step 289
+step 289
+step 289
 step 283
+step 283
+step 283
+step 283
+step 283
+step 283
+step 285
+step 285
+step 285
+step 285
+step 285
 step 285
 begin 2 tidy 61616161616161610303
 finish 283
@@ -2155,6 +2651,11 @@ begin 2 remove 62626262626262620202
 finish 299
 finish 293
 step 289
+step 289
+step 289
+step 289
+step 289
+step 289
 step 298
 step 289
 begin 1 remove 626262626262626201
@@ -2166,6 +2667,10 @@ step 298
 step 298
 step 298
 step 300
+step 289
+step 289
+step 289
+step 289
 step 289
 begin 1 remove 6161616161616161626262626262626200
 step 300
@@ -2186,11 +2691,21 @@ step 288
 step 288
 step 297
 step 297
+step 297
+step 297
+step 297
+step 297
+step 297
 step 303
 step 303
 step 303
 step 303
 begin 2 remove 62626262626262620000
+step 297
+step 297
+step 297
+step 297
+step 297
 step 297
 step 298
 step 298
@@ -2227,6 +2742,10 @@ step 297
 step 306
 step 306
 view 1 0 - 1000
+step 297
+step 297
+step 297
+step 297
 step 297
 step 305
 step 305
@@ -2362,11 +2881,17 @@ step 309
 begin 2 tidy 626262626262626203
 begin 1 tidy 62626262626262620000
 step 320
+step 320
+step 320
+step 320
 begin 1 get 616161616161616100 all
 begin 2 tidy 616161616161616162626262626262620101
 step 324
 step 322
 step 313
+step 324
+step 324
+step 324
 step 324
 begin 3 tidy 616161616161616100
 step 323
@@ -2374,6 +2899,10 @@ finish 313
 finish 321
 begin 2 tidy 61616161616161610303
 finish 322
+step 325
+step 325
+step 325
+step 325
 step 325
 step 325
 begin 3 tidy 616161616161616162626262626262620303
@@ -2395,8 +2924,16 @@ begin 1 tidy 626262626262626201
 step 327
 step 309
 step 326
+step 326
+step 326
+step 326
+step 326
 begin 2 get 626262626262626201 all
 collect
+step 327
+step 327
+step 327
+step 327
 step 327
 step 331
 begin 1 tidy 616161616161616102
@@ -2414,6 +2951,10 @@ finish 333
 step 334
 begin 3 tidy 6161616161616161626262626262626200
 finish 330
+step 331
+step 331
+step 331
+step 331
 step 331
 step 332
 step 332
@@ -2437,13 +2978,32 @@ step 339
 step 338
 step 334
 step 338
+step 338
+step 338
+step 338
+step 338
 step 334
 step 334
 step 334
 begin 1 tidy 616161616161616100
 step 339
+step 339
+step 339
+step 339
+step 339
+step 339
 step 340
 step 340
+step 340
+step 340
+step 340
+step 340
+step 340
+step 335
+step 335
+step 335
+step 335
+step 335
 step 335
 step 335
 finish 334
@@ -2453,7 +3013,16 @@ begin 3 tidy 616161616161616162626262626262620303
 step 340
 step 339
 step 335
+step 335
+step 335
+step 335
+step 335
+step 335
 finish 335
+step 337
+step 337
+step 337
+step 337
 step 337
 step 336
 begin 2 tidy 61616161616161610101
@@ -2464,10 +3033,19 @@ begin 2 tidy 6161616161616161626262626262626202
 step 345
 collect
 step 340
+step 340
+step 340
+step 340
+step 340
 step 344
 finish 344
 step 342
 finish 336
+step 342
+step 342
+step 342
+step 342
+step 342
 step 342
 begin 2 tidy 62626262626262620202
 begin 1 tidy 626262626262626201
@@ -2476,20 +3054,43 @@ collect
 finish 343
 step 347
 step 345
+step 345
+step 345
+step 345
+step 345
+step 345
 begin 3 tidy 6161616161616161626262626262626200
 step 349
+step 347
+step 347
+step 347
+step 347
 step 347
 begin 3 tidy 626262626262626203
 feed 10 3
 step 348
 step 350
 step 350
+step 350
+step 350
+step 350
+step 350
 step 342
 begin 2 get 62626262626262620000 all
 step 345
 step 345
+step 345
+step 345
+step 345
+step 345
+step 345
 finish 342
 finish 349
+step 348
+step 348
+step 348
+step 348
+step 348
 step 348
 step 346
 begin 1 tidy 62626262626262620000
@@ -2502,7 +3103,15 @@ finish 351
 begin 2 tidy 61616161616161610303
 step 348
 step 348
+step 348
+step 348
+step 348
+step 348
 begin 3 tidy 616161616161616162626262626262620303
+step 346
+step 346
+step 346
+step 346
 step 346
 finish 355
 finish 352
@@ -2510,13 +3119,33 @@ step 345
 feed 97 3
 step 356
 step 356
+step 356
+step 356
+step 356
+step 356
+step 356
 collect
 step 345
+step 345
+step 345
+step 345
+step 345
+step 345
+step 354
+step 354
+step 354
+step 354
+step 354
 step 354
 step 354
 step 354
 step 356
 collect
+step 356
+step 356
+step 356
+step 356
+step 356
 step 356
 begin 2 tidy 61616161616161610101
 begin 3 tidy 6161616161616161626262626262626202
@@ -2535,6 +3164,11 @@ step 361
 step 361
 step 358
 step 358
+step 358
+step 358
+step 358
+step 358
+step 358
 finish 360
 begin 1 tidy 616161616161616102
 begin 3 tidy 6161616161616161626262626262626200
@@ -2547,19 +3181,48 @@ begin 2 remove 62626262626262620000
 step 357
 step 363
 step 363
+step 363
+step 363
+step 363
+step 363
+step 363
 step 358
 step 365
 step 364
 step 362
 step 358
+step 358
+step 358
+step 358
+step 358
+step 358
 finish 358
 begin 2 tidy 62626262626262620000
 step 363
+step 363
+step 363
+step 363
+step 363
+step 363
+step 357
+step 357
+step 357
+step 357
+step 357
 step 357
 step 357
 step 362
+step 362
+step 362
+step 362
+step 362
+step 362
 step 363
 finish 365
+step 357
+step 357
+step 357
+step 357
 step 357
 begin 1 tidy 616161616161616162626262626262620101
 begin 3 range 61616161616161610303 1 all
@@ -2572,13 +3235,27 @@ begin 2 tidy 61616161616161610303
 step 362
 finish 366
 step 367
+step 367
+step 367
+step 367
+step 367
+step 367
 feed 52 3
 step 369
+step 362
+step 362
+step 362
+step 362
 step 362
 begin 1 put 616161616161616162626262626262620101 0=7ba3
 begin 2 tidy 616161616161616162626262626262620303
 step 372
 finish 363
+step 369
+step 369
+step 369
+step 369
+step 369
 step 369
 begin 1 tidy 61616161616161610101
 finish 369
@@ -2591,12 +3268,22 @@ step 371
 step 374
 step 367
 step 372
+step 372
+step 372
+step 372
+step 372
+step 372
 step 374
 step 374
 step 374
 step 374
 step 374
 step 374
+step 367
+step 367
+step 367
+step 367
+step 367
 step 367
 step 373
 step 372
@@ -2605,13 +3292,27 @@ step 374
 step 367
 step 375
 step 373
+step 373
+step 373
+step 373
+step 373
+step 373
 step 374
 step 374
 step 374
 step 374
+step 372
+step 372
+step 372
+step 372
+step 372
 step 372
 begin 1 remove 616161616161616162626262626262620303
 step 375
+step 367
+step 367
+step 367
+step 367
 step 367
 step 373
 step 372
@@ -2620,11 +3321,25 @@ collect
 begin 3 put 616161616161616162626262626262620303 0=05ea
 step 376
 step 372
+step 372
+step 372
+step 372
+step 372
+step 372
 begin 3 tidy 61616161616161610303
 step 371
 step 378
 step 373
+step 373
+step 373
+step 373
+step 373
 collect
+step 378
+step 378
+step 378
+step 378
+step 378
 step 378
 begin 2 tidy 626262626262626203
 step 379
@@ -2663,6 +3378,10 @@ step 376
 step 376
 step 376
 step 379
+step 379
+step 379
+step 379
+step 379
 step 377
 step 377
 step 377
@@ -2673,6 +3392,11 @@ begin 2 remove 616161616161616100
 collect
 step 380
 step 377
+step 380
+step 380
+step 380
+step 380
+step 380
 step 380
 step 371
 step 371
@@ -2705,6 +3429,10 @@ begin 2 remove 62626262626262620000
 step 382
 finish 376
 begin 2 remove 6161616161616161626262626262626200
+step 378
+step 378
+step 378
+step 378
 step 378
 begin 3 remove 61616161616161610101
 step 383
@@ -2788,10 +3516,21 @@ step 383
 feed 64 10
 step 380
 step 380
+step 380
+step 380
+step 380
+step 380
+step 380
 step 377
 begin 1 remove 6161616161616161626262626262626202
 step 386
 step 387
+step 380
+step 380
+step 380
+step 380
+step 380
+step 380
 step 380
 begin 1 remove 61616161616161610303
 step 388
@@ -2861,6 +3600,11 @@ step 394
 begin 2 tidy 62626262626262620000
 step 393
 step 394
+step 394
+step 394
+step 394
+step 394
+step 394
 feed 8 3
 step 393
 step 393
@@ -2884,10 +3628,24 @@ step 389
 step 393
 step 389
 step 395
+step 395
+step 395
+step 395
+step 395
 begin 2 tidy 61616161616161610101
 step 397
 step 397
 step 397
+step 397
+step 397
+step 397
+step 397
+step 397
+step 396
+step 396
+step 396
+step 396
+step 396
 step 396
 step 393
 step 396
@@ -2923,6 +3681,10 @@ step 393
 step 393
 step 393
 step 393
+step 397
+step 397
+step 397
+step 397
 step 397
 step 392
 begin 2 tidy 62626262626262620202
@@ -2938,16 +3700,30 @@ begin 1 tidy 616161616161616102
 finish 398
 begin 1 tidy 62626262626262620202
 step 396
+step 396
+step 396
+step 396
+step 396
+step 396
 finish 399
 begin 2 get 616161616161616100 all
 step 402
 step 401
 finish 393
 step 401
+step 401
+step 401
+step 401
+step 401
+step 401
 begin 1 tidy 6161616161616161626262626262626202
 step 404
 step 401
 step 396
+step 402
+step 402
+step 402
+step 402
 step 402
 collect
 begin 3 tidy 616161616161616100
@@ -2955,16 +3731,40 @@ step 400
 step 405
 step 405
 step 405
+step 405
+step 405
+step 405
+step 405
+step 405
 step 404
 step 404
+step 404
+step 404
+step 404
+step 404
+step 404
+step 396
+step 396
+step 396
+step 396
+step 396
 step 396
 step 403
 step 403
 step 403
 step 403
+step 396
+step 396
+step 396
+step 396
 step 396
 finish 396
 begin 2 tidy 61616161616161610303
+step 404
+step 404
+step 404
+step 404
+step 404
 step 404
 step 406
 finish 404
@@ -2972,8 +3772,14 @@ begin 3 tidy 626262626262626203
 finish 407
 begin 2 tidy 616161616161616162626262626262620303
 step 406
+step 406
+step 406
+step 406
 begin 1 remove 6161616161616161626262626262626202
 collect
+step 400
+step 400
+step 400
 step 400
 advance
 step 403
@@ -3009,6 +3815,9 @@ step 405
 step 405
 step 401
 step 405
+step 405
+step 405
+step 405
 begin 3 remove 626262626262626203
 step 415
 step 415
@@ -3025,6 +3834,9 @@ step 415
 step 415
 begin 2 remove 62626262626262620202
 step 401
+step 401
+step 401
+step 401
 step 416
 step 410
 step 411
@@ -3036,6 +3848,9 @@ begin 3 remove 616161616161616100
 begin 2 remove 616161616161616162626262626262620101
 step 413
 step 416
+step 416
+step 416
+step 416
 begin 3 remove 616161616161616162626262626262620303
 step 418
 step 419
@@ -3046,6 +3861,9 @@ begin 3 remove 62626262626262620000
 step 419
 step 420
 step 420
+step 418
+step 418
+step 418
 step 418
 begin 1 remove 616161616161616102
 step 423
@@ -3100,6 +3918,9 @@ begin 2 tidy 616161616161616162626262626262620101
 advance
 step 429
 step 429
+step 429
+step 429
+step 429
 collect
 begin 3 tidy 616161616161616162626262626262620303
 step 432
@@ -3110,6 +3931,9 @@ begin 3 get 6161616161616161626262626262626202 all
 finish 428
 begin 1 tidy 62626262626262620000
 step 433
+step 430
+step 430
+step 430
 step 430
 begin 3 tidy 616161616161616102
 step 425
@@ -3122,6 +3946,9 @@ step 434
 step 434
 finish 435
 step 425
+step 425
+step 425
+step 425
 step 434
 begin 2 tidy 6161616161616161626262626262626200
 begin 3 tidy 61616161616161610303
@@ -3131,9 +3958,15 @@ begin 2 tidy 61616161616161610101
 step 440
 step 431
 step 431
+step 431
+step 431
+step 431
 step 437
 step 439
 begin 1 tidy 626262626262626203
+step 439
+step 439
+step 439
 step 439
 step 441
 begin 3 remove 62626262626262620202
@@ -3144,11 +3977,17 @@ finish 441
 begin 3 tidy 62626262626262620202
 step 442
 step 442
+step 442
+step 442
+step 442
 step 445
 begin 1 tidy 616161616161616100
 step 446
 finish 443
 begin 1 tidy 616161616161616162626262626262620101
+step 445
+step 445
+step 445
 step 445
 begin 1 tidy 616161616161616162626262626262620303
 step 447
@@ -3159,6 +3998,9 @@ finish 449
 begin 2 tidy 616161616161616102
 step 450
 step 446
+step 446
+step 446
+step 446
 begin 2 remove 616161616161616162626262626262620303
 step 444
 step 444
@@ -3166,6 +4008,9 @@ step 444
 step 444
 step 448
 step 444
+step 447
+step 447
+step 447
 step 447
 step 451
 begin 2 remove 626262626262626203
@@ -3178,10 +4023,16 @@ finish 454
 step 452
 step 452
 step 436
+step 436
+step 436
+step 436
 begin 1 tidy 626262626262626203
 step 453
 collect
 begin 2 put 616161616161616100 0=a912
+step 450
+step 450
+step 450
 step 450
 finish 452
 begin 2 put 62626262626262620000 0=-
@@ -3200,7 +4051,16 @@ step 459
 step 456
 begin 3 put 626262626262626201 0=b7bc20
 finish 458
+step 456
+step 456
+step 456
+step 456
+step 456
 finish 457
+step 455
+step 455
+step 455
+step 455
 step 455
 step 460
 begin 2 put 616161616161616162626262626262620101 0=-
@@ -3683,6 +4543,11 @@ step 473
 step 473
 apply 2
 step 478
+step 478
+step 478
+step 478
+step 478
+step 478
 advance
 step 479
 advance
@@ -3693,9 +4558,32 @@ step 473
 step 473
 step 473
 step 480
+step 480
+step 480
+step 480
+step 480
+step 480
+step 480
+step 479
+step 479
+step 479
+step 479
+step 479
 step 479
 step 480
 step 480
+step 480
+step 480
+step 480
+step 480
+step 480
+step 480
+step 479
+step 479
+step 479
+step 479
+step 479
+step 479
 step 479
 step 479
 step 476
@@ -3711,6 +4599,11 @@ step 483
 begin 2 tidy 6161616161616161626262626262626202
 step 486
 step 483
+step 483
+step 483
+step 483
+step 483
+step 483
 step 485
 step 483
 step 482
@@ -3719,12 +4612,40 @@ begin 1 tidy 61616161616161610303
 finish 482
 begin 2 tidy 616161616161616162626262626262620101
 step 483
+step 483
+step 483
+step 483
+step 483
+step 483
+step 483
+step 483
 step 488
 step 486
+step 486
+step 486
+step 486
+step 486
+step 486
+step 483
+step 483
+step 483
+step 483
+step 483
 step 483
 step 483
 begin 3 tidy 616161616161616102
 step 485
+step 485
+step 485
+step 485
+step 485
+step 485
+step 485
+step 488
+step 488
+step 488
+step 488
+step 488
 step 488
 step 488
 finish 484
@@ -3735,6 +4656,13 @@ finish 485
 finish 489
 finish 486
 finish 490
+step 488
+step 488
+step 488
+step 488
+step 488
+step 488
+step 488
 step 488
 finish 487
 finish 488
@@ -3751,6 +4679,16 @@ advance
 step 494
 begin 2 tidy 61616161616161610303
 step 493
+step 493
+step 493
+step 493
+step 493
+step 493
+step 494
+step 494
+step 494
+step 494
+step 494
 step 494
 finish 497
 apply 0
@@ -3762,6 +4700,13 @@ step 499
 begin 2 remove 61616161616161610101
 step 494
 step 493
+step 493
+step 493
+step 493
+step 493
+step 493
+step 493
+step 493
 step 495
 finish 495
 begin 2 tidy 61616161616161610101
@@ -3769,7 +4714,17 @@ finish 501
 finish 494
 step 493
 step 493
+step 493
+step 493
+step 493
+step 493
+step 493
 step 500
+step 499
+step 499
+step 499
+step 499
+step 499
 step 499
 step 499
 step 498
@@ -3777,9 +4732,19 @@ finish 500
 collect
 begin 3 remove 626262626262626201
 step 499
+step 499
+step 499
+step 499
+step 499
+step 499
+step 499
 begin 3 tidy 626262626262626201
 step 499
 finish 503
+step 499
+step 499
+step 499
+step 499
 step 499
 begin 2 remove 616161616161616162626262626262620101
 finish 504
@@ -3845,6 +4810,12 @@ step 515
 step 515
 step 515
 step 516
+step 516
+step 516
+step 516
+step 516
+step 516
+step 516
 finish 511
 begin 1 get 62626262626262620000 all
 finish 519
@@ -3861,6 +4832,11 @@ step 513
 step 520
 apply 0
 step 520
+step 520
+step 520
+step 520
+step 520
+step 520
 step 518
 step 516
 step 515
@@ -3871,6 +4847,10 @@ step 517
 step 517
 step 517
 step 517
+step 520
+step 520
+step 520
+step 520
 step 520
 step 520
 step 513
@@ -3904,6 +4884,10 @@ begin 3 tidy 626262626262626203
 step 525
 finish 524
 step 516
+step 516
+step 516
+step 516
+step 516
 begin 2 remove 616161616161616162626262626262620303
 begin 1 tidy 616161616161616162626262626262620303
 step 523
@@ -3912,14 +4896,30 @@ finish 518
 finish 517
 step 526
 step 527
+step 527
+step 527
+step 527
+step 527
+step 527
 begin 2 remove 626262626262626201
 begin 1 tidy 626262626262626201
 finish 527
 begin 1 remove 616161616161616102
 step 523
+step 523
+step 523
+step 523
+step 523
+step 523
 finish 525
 step 529
 begin 3 tidy 616161616161616102
+step 529
+step 529
+step 529
+step 529
+step 529
+step 529
 step 529
 finish 523
 begin 2 remove 62626262626262620202
@@ -3954,6 +4954,10 @@ step 532
 step 532
 step 532
 begin 1 tidy 616161616161616162626262626262620303
+step 529
+step 529
+step 529
+step 529
 step 529
 step 526
 step 526
@@ -4000,11 +5004,25 @@ step 540
 step 540
 step 540
 step 535
+step 535
+step 535
+step 535
+step 535
+step 535
 collect
 step 535
 advance
 step 537
+step 537
+step 537
+step 537
+step 537
+step 537
 step 539
+step 535
+step 535
+step 535
+step 535
 step 535
 step 530
 step 530
@@ -4040,7 +5058,17 @@ step 544
 step 544
 step 544
 step 537
+step 537
+step 537
+step 537
+step 537
 step 545
+step 539
+step 539
+step 539
+step 539
+step 539
+step 539
 step 539
 begin 2 tidy 6161616161616161626262626262626202
 step 541
@@ -4060,12 +5088,22 @@ step 545
 step 545
 step 545
 step 542
+step 542
+step 542
+step 542
+step 542
+step 542
 step 539
 step 542
 finish 542
 step 547
 begin 2 tidy 616161616161616162626262626262620101
 step 544
+step 546
+step 546
+step 546
+step 546
+step 546
 step 546
 step 544
 step 544
@@ -4079,6 +5117,11 @@ begin 2 get 6161616161616161626262626262626200 all
 step 546
 collect
 step 539
+step 539
+step 539
+step 539
+step 539
+step 539
 step 547
 step 547
 step 547
@@ -4087,6 +5130,11 @@ step 547
 step 547
 step 547
 feed 49 3
+step 539
+step 539
+step 539
+step 539
+step 539
 step 539
 step 550
 step 550
@@ -4103,6 +5151,16 @@ finish 550
 step 545
 begin 3 remove 61616161616161610101
 step 546
+step 546
+step 546
+step 546
+step 546
+step 546
+step 548
+step 548
+step 548
+step 548
+step 548
 step 548
 begin 1 remove 626262626262626201
 step 552
@@ -4124,6 +5182,9 @@ step 552
 step 552
 step 552
 step 552
+step 548
+step 548
+step 548
 step 548
 step 551
 step 552
@@ -4202,6 +5263,11 @@ finish 560
 begin 3 tidy 61616161616161610101
 step 564
 step 563
+step 563
+step 563
+step 563
+step 563
+step 563
 step 556
 step 556
 step 556
@@ -4209,6 +5275,16 @@ step 556
 step 556
 begin 1 range 6161616161616161626262626262626202 3 all
 step 561
+step 561
+step 561
+step 561
+step 561
+step 561
+step 564
+step 564
+step 564
+step 564
+step 564
 step 564
 finish 562
 step 563
@@ -4218,11 +5294,25 @@ begin 1 tidy 616161616161616162626262626262620101
 step 567
 advance
 step 563
+step 563
+step 563
+step 563
+step 563
+step 563
 step 566
 step 561
 step 567
+step 567
+step 567
+step 567
+step 567
+step 567
 step 554
 step 564
+step 566
+step 566
+step 566
+step 566
 step 566
 begin 1 tidy 616161616161616102
 step 554
@@ -4238,20 +5328,32 @@ begin 2 tidy 6161616161616161626262626262626202
 step 569
 step 554
 step 564
+step 564
+step 564
+step 564
 begin 3 tidy 61616161616161610303
 step 571
 collect
 feed 5 10
+step 569
+step 569
+step 569
 step 569
 step 561
 feed 94 10
 step 554
 begin 1 tidy 626262626262626203
 step 571
+step 571
+step 571
+step 571
 begin 3 tidy 616161616161616162626262626262620303
 step 567
 step 570
 step 554
+step 561
+step 561
+step 561
 step 561
 finish 554
 finish 567
@@ -4275,6 +5377,9 @@ step 580
 feed 57 3
 step 579
 step 572
+step 572
+step 572
+step 572
 finish 574
 finish 580
 finish 579
@@ -4292,9 +5397,25 @@ feed 29 3
 step 584
 step 582
 step 584
+step 584
+step 584
+step 584
+step 584
+step 586
+step 586
+step 586
+step 586
 step 586
 step 581
+step 581
+step 581
+step 581
+step 581
 begin 3 tidy 616161616161616162626262626262620101
+step 582
+step 582
+step 582
+step 582
 step 582
 begin 1 tidy 626262626262626201
 begin 1 tidy 62626262626262620202
@@ -4636,6 +5757,11 @@ step 615
 step 619
 collect
 step 619
+step 619
+step 619
+step 619
+step 619
+step 619
 step 613
 step 613
 step 613
@@ -4651,16 +5777,31 @@ step 617
 step 617
 step 619
 step 619
+step 619
+step 619
+step 619
+step 619
 begin 3 tidy 62626262626262620000
 finish 617
 begin 1 tidy 6161616161616161626262626262626200
 begin 1 tidy 61616161616161610101
 step 620
 step 620
+step 620
+step 620
+step 620
+step 620
+step 620
+step 620
 step 618
 step 618
 step 618
 step 618
+step 622
+step 622
+step 622
+step 622
+step 622
 step 622
 step 622
 step 618
@@ -4670,12 +5811,38 @@ step 621
 finish 616
 begin 1 tidy 626262626262626201
 step 621
+step 621
+step 621
+step 621
+step 621
+step 621
 step 620
 step 623
 step 621
 step 623
+step 623
+step 623
+step 623
+step 623
+step 623
+step 623
 step 620
 step 620
+step 620
+step 620
+step 620
+step 620
+step 620
+step 620
+step 620
+step 620
+step 620
+step 620
+step 621
+step 621
+step 621
+step 621
+step 621
 step 621
 step 621
 finish 620
@@ -4684,6 +5851,10 @@ step 622
 step 624
 finish 613
 begin 1 put 626262626262626201 0=-
+step 622
+step 622
+step 622
+step 622
 step 622
 step 625
 finish 624
@@ -4716,6 +5887,23 @@ step 623
 step 618
 step 618
 finish 625
+step 627
+step 627
+step 627
+step 627
+step 627
+step 627
+step 623
+step 623
+step 623
+step 623
+step 623
+step 623
+step 626
+step 626
+step 626
+step 626
+step 626
 step 626
 begin 3 tidy 626262626262626203
 begin 1 tidy 616161616161616162626262626262620303
@@ -4726,6 +5914,11 @@ step 632
 finish 618
 step 626
 begin 2 tidy 61616161616161610303
+step 630
+step 630
+step 630
+step 630
+step 630
 step 630
 begin 3 remove 626262626262626203
 apply 4
@@ -4751,8 +5944,22 @@ step 629
 step 637
 finish 631
 step 629
+step 629
+step 629
+step 629
+step 629
+step 629
+step 626
+step 626
+step 626
+step 626
 step 626
 begin 1 remove 6161616161616161626262626262626202
+step 637
+step 637
+step 637
+step 637
+step 637
 step 637
 step 636
 step 636
@@ -4765,6 +5972,11 @@ step 636
 begin 1 remove 6161616161616161626262626262626200
 begin 2 remove 616161616161616162626262626262620101
 step 629
+step 637
+step 637
+step 637
+step 637
+step 637
 step 637
 step 637
 finish 640
@@ -4836,6 +6048,11 @@ step 647
 step 648
 step 650
 step 650
+step 650
+step 650
+step 650
+step 650
+step 650
 step 648
 step 644
 step 648
@@ -4873,6 +6090,11 @@ advance
 step 648
 collect
 step 650
+step 650
+step 650
+step 650
+step 650
+step 650
 step 648
 step 648
 step 648
@@ -4880,16 +6102,37 @@ step 648
 begin 3 tidy 62626262626262620000
 step 651
 step 651
+step 651
+step 651
+step 651
+step 651
+step 651
 step 652
+step 650
+step 650
+step 650
+step 650
 step 650
 step 651
 step 647
+step 651
+step 651
+step 651
 step 651
 begin 1 tidy 616161616161616162626262626262620303
 step 655
 step 647
 step 654
 step 655
+step 655
+step 655
+step 655
+step 655
+step 655
+step 654
+step 654
+step 654
+step 654
 step 654
 finish 650
 begin 1 tidy 62626262626262620202
@@ -4899,13 +6142,22 @@ finish 653
 step 655
 finish 647
 step 652
+step 652
+step 652
+step 652
 begin 3 tidy 616161616161616100
 finish 647
 begin 1 tidy 626262626262626201
 step 655
+step 655
+step 655
+step 655
 begin 1 tidy 61616161616161610101
 step 656
 begin 2 tidy 626262626262626203
+step 656
+step 656
+step 656
 step 656
 begin 2 tidy 61616161616161610303
 begin 1 tidy 6161616161616161626262626262626202
@@ -4916,6 +6168,9 @@ step 662
 step 661
 finish 662
 begin 2 range 62626262626262620202 10 all
+step 661
+step 661
+step 661
 step 661
 step 663
 step 663
@@ -4929,6 +6184,12 @@ begin 3 tidy 616161616161616162626262626262620101
 finish 660
 begin 2 tidy 616161616161616102
 step 659
+step 659
+step 659
+step 659
+step 666
+step 666
+step 666
 step 666
 step 666
 begin 3 tidy 62626262626262620000
@@ -4937,6 +6198,12 @@ step 664
 advance
 step 668
 step 657
+step 657
+step 657
+step 657
+step 668
+step 668
+step 668
 step 668
 begin 3 tidy 62626262626262620202
 begin 2 tidy 616161616161616100
@@ -4952,9 +6219,15 @@ finish 670
 begin 1 tidy 61616161616161610303
 step 667
 step 667
+step 667
+step 667
+step 667
 begin 2 tidy 6161616161616161626262626262626202
 finish 663
 step 674
+step 673
+step 673
+step 673
 step 673
 finish 665
 begin 1 tidy 6161616161616161626262626262626200
@@ -4965,6 +6238,9 @@ begin 2 tidy 616161616161616102
 step 676
 begin 2 tidy 62626262626262620000
 step 679
+step 676
+step 676
+step 676
 step 676
 begin 1 tidy 616161616161616162626262626262620303
 finish 672
@@ -4977,6 +6253,9 @@ feed 101 3
 finish 679
 begin 2 tidy 626262626262626201
 step 677
+step 677
+step 677
+step 677
 step 681
 begin 3 tidy 61616161616161610101
 step 682
@@ -4988,14 +6267,23 @@ begin 1 tidy 61616161616161610303
 finish 674
 begin 2 tidy 6161616161616161626262626262626202
 step 681
+step 681
+step 681
+step 681
 begin 1 tidy 6161616161616161626262626262626200
 advance
 step 685
 step 687
 step 685
+step 685
+step 685
+step 685
 finish 686
 begin 3 tidy 616161616161616162626262626262620101
 begin 2 tidy 616161616161616102
+step 682
+step 682
+step 682
 step 682
 begin 3 tidy 62626262626262620000
 finish 691
@@ -5008,15 +6296,30 @@ begin 2 tidy 62626262626262620202
 finish 693
 step 694
 step 692
+step 692
+step 692
+step 692
+step 694
+step 694
+step 694
 step 694
 begin 2 remove 6161616161616161626262626262626200
+step 687
+step 687
+step 687
 step 687
 step 695
 step 695
 step 688
 advance
 step 678
+step 678
+step 678
+step 678
 begin 1 tidy 616161616161616100
+step 688
+step 688
+step 688
 step 688
 begin 2 tidy 626262626262626201
 step 696
@@ -5028,6 +6331,12 @@ advance
 step 698
 feed 84 10
 step 697
+step 697
+step 697
+step 697
+step 698
+step 698
+step 698
 step 698
 feed 32 3
 begin 1 remove 626262626262626203
@@ -5037,6 +6346,12 @@ finish 699
 begin 1 remove 61616161616161610303
 begin 2 tidy 61616161616161610303
 step 696
+step 696
+step 696
+step 696
+step 700
+step 700
+step 700
 step 700
 step 700
 step 703
@@ -5051,13 +6366,22 @@ step 702
 step 704
 step 708
 step 708
+step 708
+step 708
+step 708
 begin 1 remove 616161616161616100
 finish 703
 begin 3 tidy 616161616161616100
 step 704
+step 704
+step 704
+step 704
 step 709
 begin 3 remove 62626262626262620000
 step 709
+step 702
+step 702
+step 702
 step 702
 step 711
 begin 1 tidy 62626262626262620000
@@ -5067,11 +6391,20 @@ step 701
 step 711
 step 710
 step 710
+step 710
+step 710
+step 710
+step 712
+step 712
+step 712
 step 712
 advance
 step 709
 step 709
 step 709
+step 706
+step 706
+step 706
 step 706
 begin 2 remove 6161616161616161626262626262626200
 step 701
@@ -5093,9 +6426,15 @@ step 713
 step 711
 step 717
 step 717
+step 717
+step 717
+step 717
 begin 2 remove 626262626262626201
 step 716
 step 713
+step 714
+step 714
+step 714
 step 714
 begin 3 tidy 626262626262626201
 step 713
@@ -5122,6 +6461,9 @@ step 724
 advance
 step 720
 step 721
+step 721
+step 721
+step 721
 step 724
 collect
 step 724
@@ -5137,6 +6479,9 @@ begin 3 remove 61616161616161610303
 feed 147 3
 step 724
 step 723
+step 723
+step 723
+step 723
 step 726
 step 724
 step 724
@@ -5151,6 +6496,9 @@ finish 725
 step 728
 begin 1 remove 616161616161616162626262626262620303
 finish 722
+step 729
+step 729
+step 729
 step 729
 step 728
 step 732
@@ -5172,10 +6520,16 @@ step 730
 begin 1 tidy 616161616161616162626262626262620303
 finish 736
 step 733
+step 733
+step 733
+step 733
 step 734
 step 735
 begin 3 tidy 626262626262626203
 begin 1 tidy 616161616161616162626262626262620303
+step 737
+step 737
+step 737
 step 737
 step 737
 begin 2 tidy 626262626262626203
@@ -5185,6 +6539,12 @@ step 735
 step 735
 step 735
 step 731
+step 731
+step 731
+step 731
+step 739
+step 739
+step 739
 step 739
 begin 2 put 62626262626262620202 0=-
 begin 3 put 6161616161616161626262626262626202 0=8b7be3
@@ -5229,6 +6589,11 @@ step 741
 step 746
 step 747
 step 747
+step 747
+step 747
+step 747
+step 747
+step 747
 begin 3 tidy 616161616161616162626262626262620303
 step 741
 step 743
@@ -5236,6 +6601,10 @@ step 746
 step 746
 step 748
 step 745
+step 748
+step 748
+step 748
+step 748
 step 748
 step 743
 begin 3 tidy 626262626262626203
@@ -5286,6 +6655,12 @@ step 745
 step 745
 step 745
 step 749
+step 749
+step 749
+step 749
+step 749
+step 749
+step 749
 finish 749
 feed 104 3
 begin 3 tidy 616161616161616162626262626262620303
@@ -5295,18 +6670,40 @@ finish 744
 step 750
 step 751
 step 751
+step 751
+step 751
+step 751
+step 751
+step 751
 begin 1 tidy 626262626262626203
 begin 3 tidy 616161616161616162626262626262620303
 step 754
 step 755
 step 752
 step 755
+step 755
+step 755
+step 755
+step 755
+step 755
 step 751
 step 745
 finish 755
 begin 1 put 616161616161616100 0=37
 step 754
+step 754
+step 754
+step 754
+step 754
+step 754
+step 754
 step 745
+step 752
+step 752
+step 752
+step 752
+step 752
+step 752
 step 752
 step 745
 step 745
@@ -5317,6 +6714,17 @@ step 745
 step 756
 step 754
 step 750
+step 750
+step 750
+step 750
+step 750
+step 750
+step 750
+step 754
+step 754
+step 754
+step 754
+step 754
 step 754
 begin 1 put 62626262626262620000 0=d3821b86
 step 756
@@ -5329,6 +6737,11 @@ step 756
 step 756
 step 750
 step 750
+step 750
+step 750
+step 750
+step 750
+step 750
 step 756
 step 752
 step 745
@@ -5337,10 +6750,20 @@ step 745
 begin 1 put 61616161616161610101 0=1c
 step 759
 step 752
+step 752
+step 752
+step 752
+step 752
 step 758
 collect
 begin 1 put 626262626262626201 0=94f196e7
 feed 157 3
+step 751
+step 751
+step 751
+step 751
+step 751
+step 751
 step 751
 step 758
 step 758
@@ -5420,6 +6843,11 @@ step 758
 step 758
 step 758
 step 761
+step 751
+step 751
+step 751
+step 751
+step 751
 step 751
 step 761
 begin 3 put 616161616161616102 0=3b5ebb99
@@ -5775,6 +7203,12 @@ step 774
 step 773
 step 774
 step 777
+step 777
+step 777
+step 777
+step 777
+step 777
+step 777
 step 772
 step 772
 step 772
@@ -5783,6 +7217,11 @@ step 772
 step 772
 step 772
 step 772
+step 775
+step 775
+step 775
+step 775
+step 775
 step 775
 step 773
 step 777
@@ -5792,9 +7231,22 @@ begin 2 get 61616161616161610101 all
 step 773
 step 776
 step 776
+step 776
+step 776
+step 776
+step 776
+step 776
 collect
 step 772
 step 773
+step 775
+step 775
+step 775
+step 775
+step 775
+step 775
+step 775
+step 775
 step 775
 step 773
 step 773
@@ -5812,12 +7264,35 @@ step 779
 step 778
 step 778
 step 776
+step 776
+step 776
+step 776
+step 776
+step 776
+step 776
 begin 3 tidy 616161616161616162626262626262620101
 step 779
 step 779
+step 779
+step 779
+step 779
+step 779
+step 779
+step 779
+step 777
+step 777
+step 777
+step 777
+step 777
+step 777
 step 777
 begin 1 tidy 6161616161616161626262626262626202
 step 781
+step 775
+step 775
+step 775
+step 775
+step 775
 step 775
 step 773
 step 773
@@ -5831,6 +7306,16 @@ feed 79 3
 step 778
 step 773
 step 779
+step 779
+step 779
+step 779
+step 779
+step 779
+step 781
+step 781
+step 781
+step 781
+step 781
 step 781
 step 778
 step 778
@@ -5843,6 +7328,11 @@ step 778
 step 782
 step 773
 step 780
+step 782
+step 782
+step 782
+step 782
+step 782
 step 782
 finish 780
 step 781
@@ -5865,6 +7355,11 @@ begin 1 tidy 62626262626262620202
 step 786
 step 787
 step 784
+step 786
+step 786
+step 786
+step 786
+step 786
 step 786
 step 787
 step 788
@@ -5889,10 +7384,29 @@ begin 2 tidy 616161616161616162626262626262620101
 begin 3 tidy 6161616161616161626262626262626202
 step 791
 step 788
+step 788
+step 788
+step 788
+step 788
+step 788
+step 786
+step 786
+step 786
+step 786
+step 786
+step 786
+step 786
+step 786
 step 786
 step 788
 finish 786
 finish 791
+step 784
+step 784
+step 784
+step 784
+step 784
+step 784
 step 784
 step 792
 begin 2 tidy 616161616161616102
@@ -5900,11 +7414,27 @@ finish 788
 begin 1 tidy 62626262626262620202
 step 793
 step 792
+step 792
+step 792
+step 792
+step 792
+step 792
 begin 2 tidy 626262626262626201
+step 784
+step 784
+step 784
+step 784
+step 784
 step 784
 step 784
 step 794
 begin 3 tidy 616161616161616162626262626262620101
+step 789
+step 789
+step 789
+step 789
+step 789
+step 789
 step 789
 feed 110 1
 finish 789
@@ -5914,6 +7444,22 @@ step 795
 step 794
 step 794
 step 794
+step 794
+step 794
+step 794
+step 794
+step 794
+step 794
+step 794
+step 794
+step 794
+step 794
+step 794
+step 793
+step 793
+step 793
+step 793
+step 793
 step 793
 begin 1 remove 616161616161616102
 step 797
@@ -5955,6 +7501,13 @@ finish 801
 begin 2 tidy 616161616161616102
 feed 2 1
 step 792
+step 792
+step 792
+step 792
+step 792
+step 792
+step 792
+step 792
 step 800
 step 800
 step 800
@@ -5983,6 +7536,12 @@ step 800
 begin 1 tidy 62626262626262620202
 step 802
 collect
+step 804
+step 804
+step 804
+step 804
+step 804
+step 804
 step 804
 step 804
 step 798
@@ -6035,6 +7594,11 @@ step 811
 step 811
 step 811
 step 807
+step 803
+step 803
+step 803
+step 803
+step 803
 step 803
 finish 810
 step 807
@@ -6098,6 +7662,11 @@ step 814
 step 814
 step 814
 step 814
+step 803
+step 803
+step 803
+step 803
+step 803
 step 803
 begin 1 remove 6161616161616161626262626262626202
 advance
@@ -6184,13 +7753,31 @@ step 817
 step 817
 step 823
 step 823
+step 823
+step 823
+step 823
+step 823
+step 823
+step 822
+step 822
+step 822
+step 822
+step 822
 step 822
 finish 809
 step 814
 step 823
 step 823
+step 823
+step 823
+step 823
+step 823
 begin 3 tidy 616161616161616162626262626262620101
 begin 1 tidy 616161616161616102
+step 824
+step 824
+step 824
+step 824
 step 824
 begin 3 tidy 62626262626262620202
 finish 814
@@ -6204,11 +7791,17 @@ finish 822
 begin 1 tidy 626262626262626203
 finish 829
 step 826
+step 826
+step 826
+step 826
 begin 3 tidy 616161616161616162626262626262620303
 begin 2 remove 6161616161616161626262626262626202
 step 825
 finish 825
 begin 2 remove 616161616161616162626262626262620303
+step 828
+step 828
+step 828
 step 828
 step 833
 begin 2 remove 62626262626262620202
@@ -6240,6 +7833,9 @@ begin 2 tidy 62626262626262620202
 step 830
 step 837
 step 827
+step 827
+step 827
+step 827
 step 839
 begin 1 tidy 61616161616161610303
 step 838
@@ -6253,6 +7849,12 @@ begin 3 tidy 626262626262626203
 step 837
 advance
 step 841
+step 841
+step 841
+step 841
+step 838
+step 838
+step 838
 step 838
 step 842
 step 842
@@ -6274,23 +7876,38 @@ begin 3 tidy 616161616161616162626262626262620303
 step 843
 step 847
 step 844
+step 844
+step 844
+step 844
 begin 2 tidy 62626262626262620202
 finish 847
 feed 69 3
 step 848
 step 846
 step 843
+step 843
+step 843
+step 843
 begin 3 tidy 61616161616161610303
 finish 839
+step 848
+step 848
+step 848
 step 848
 begin 3 tidy 626262626262626203
 begin 3 tidy 616161616161616102
 finish 851
 step 845
+step 845
+step 845
+step 845
 begin 1 tidy 6161616161616161626262626262626202
 begin 3 tidy 616161616161616162626262626262620303
 step 849
 step 853
+step 849
+step 849
+step 849
 step 849
 begin 1 tidy 62626262626262620202
 begin 3 tidy 61616161616161610303
@@ -6309,6 +7926,9 @@ finish 852
 step 857
 step 854
 step 850
+step 850
+step 850
+step 850
 advance
 begin 2 tidy 6161616161616161626262626262626202
 begin 1 tidy 616161616161616162626262626262620303
@@ -6323,10 +7943,16 @@ feed 155 3
 begin 3 tidy 616161616161616102
 step 860
 step 860
+step 860
+step 860
+step 860
 begin 3 get 626262626262626203 all
 finish 863
 step 859
 begin 3 put 6161616161616161626262626262626202 0=17
+step 859
+step 859
+step 859
 step 859
 step 858
 step 858
@@ -6352,6 +7978,10 @@ step 862
 finish 869
 step 864
 step 862
+step 862
+step 862
+step 862
+step 862
 apply 0
 begin 1 put 62626262626262620000 0=-
 begin 2 put 6161616161616161626262626262626200 0=4af08cd0
@@ -6373,6 +8003,10 @@ step 866
 step 866
 step 868
 step 871
+step 864
+step 864
+step 864
+step 864
 step 864
 begin 2 put 61616161616161610101 0=acdb51
 step 872
@@ -6911,6 +8545,11 @@ step 893
 step 895
 step 896
 step 896
+step 896
+step 896
+step 896
+step 896
+step 896
 step 894
 step 880
 step 894
@@ -6925,22 +8564,57 @@ step 892
 step 897
 step 894
 step 897
+step 897
+step 897
+step 897
+step 897
+step 897
 step 892
 step 897
 step 894
 step 892
 begin 3 tidy 626262626262626203
 step 895
+step 895
+step 895
+step 895
+step 895
+step 895
+step 895
 step 896
 step 896
+step 896
+step 896
+step 896
+step 896
+step 896
+step 897
+step 897
+step 897
+step 897
 step 897
 step 896
 begin 3 tidy 6161616161616161626262626262626202
 step 898
 step 895
 step 896
+step 896
+step 896
+step 896
+step 896
+step 896
 begin 2 tidy 626262626262626201
 step 898
+step 898
+step 898
+step 898
+step 898
+step 898
+step 898
+step 895
+step 895
+step 895
+step 895
 step 895
 begin 1 tidy 616161616161616100
 step 899
@@ -6952,9 +8626,20 @@ step 900
 finish 898
 begin 3 tidy 61616161616161610101
 step 900
+step 900
+step 900
+step 900
+step 900
+step 900
+step 900
 finish 900
 feed 158 3
 begin 3 tidy 6161616161616161626262626262626200
+step 899
+step 899
+step 899
+step 899
+step 899
 step 899
 collect
 step 905
@@ -6962,6 +8647,21 @@ step 899
 step 905
 step 905
 step 905
+step 905
+step 905
+step 905
+step 905
+step 905
+step 905
+step 905
+step 905
+step 905
+step 905
+step 899
+step 899
+step 899
+step 899
+step 899
 step 899
 step 902
 finish 903
@@ -6972,16 +8672,46 @@ step 904
 finish 899
 begin 2 tidy 62626262626262620000
 step 906
+step 906
+step 906
+step 906
+step 906
+step 906
 step 902
+step 902
+step 902
+step 902
+step 902
+step 902
+step 902
+step 905
+step 905
+step 905
+step 905
 step 905
 begin 3 tidy 616161616161616162626262626262620303
 step 908
 step 904
+step 904
+step 904
+step 904
+step 904
+step 904
+step 908
+step 908
+step 908
+step 908
+step 908
 step 908
 feed 198 10
 step 908
 finish 902
 begin 1 tidy 616161616161616102
+step 908
+step 908
+step 908
+step 908
+step 908
 step 908
 step 907
 step 906
@@ -6989,10 +8719,29 @@ step 894
 step 909
 step 904
 step 907
+step 907
+step 907
+step 907
+step 907
+step 907
+step 907
+step 906
+step 906
+step 906
+step 906
+step 906
 step 906
 step 906
 step 907
 step 907
+step 907
+step 907
+step 907
+step 907
+step 904
+step 904
+step 904
+step 904
 step 904
 step 908
 step 894
@@ -7006,18 +8755,36 @@ begin 3 tidy 626262626262626203
 finish 910
 step 909
 step 909
+step 909
+step 909
+step 909
+step 909
+step 909
 begin 1 tidy 6161616161616161626262626262626202
 begin 3 tidy 626262626262626201
 collect
 finish 906
 step 908
+step 908
+step 908
+step 908
+step 908
 begin 3 tidy 616161616161616100
 step 911
 begin 1 tidy 62626262626262620202
 step 909
+step 909
+step 909
+step 909
+step 909
 advance
 begin 3 tidy 61616161616161610303
 step 915
+step 911
+step 911
+step 911
+step 911
+step 911
 step 911
 begin 1 tidy 61616161616161610101
 step 914
@@ -7026,7 +8793,23 @@ finish 911
 begin 1 tidy 6161616161616161626262626262626200
 step 912
 step 916
+step 916
+step 916
+step 916
+step 916
+step 916
 step 915
+step 915
+step 915
+step 915
+step 915
+step 915
+step 912
+step 912
+step 912
+step 912
+step 912
+step 912
 step 912
 step 917
 finish 912
@@ -7035,6 +8818,17 @@ step 918
 finish 918
 begin 2 tidy 62626262626262620000
 step 917
+step 917
+step 917
+step 917
+step 917
+step 917
+step 914
+step 914
+step 914
+step 914
+step 914
+step 914
 step 914
 step 919
 step 917
@@ -7046,6 +8840,12 @@ finish 914
 begin 2 tidy 616161616161616102
 step 921
 finish 921
+step 919
+step 919
+step 919
+step 919
+step 919
+step 919
 step 919
 feed 105 1
 step 915
@@ -7065,6 +8865,10 @@ finish 924
 begin 1 tidy 6161616161616161626262626262626202
 collect
 step 916
+step 916
+step 916
+step 916
+step 916
 begin 2 tidy 626262626262626201
 step 925
 finish 925
@@ -7073,14 +8877,39 @@ step 927
 finish 927
 begin 3 tidy 62626262626262620202
 step 915
+step 915
+step 915
+step 915
+step 915
+step 920
+step 920
+step 920
+step 920
+step 920
 step 920
 step 920
 begin 3 tidy 61616161616161610303
 step 926
 step 913
+step 913
+step 913
+step 913
+step 913
+step 913
 step 923
 step 920
 step 920
+step 920
+step 920
+step 920
+step 920
+step 920
+step 926
+step 926
+step 926
+step 926
+step 926
+step 926
 step 926
 feed 153 1
 step 913
@@ -7093,14 +8922,28 @@ finish 929
 begin 2 tidy 61616161616161610101
 finish 923
 step 913
+step 913
+step 913
+step 913
+step 913
 begin 3 tidy 6161616161616161626262626262626200
 begin 1 tidy 616161616161616162626262626262620101
 feed 153 10
+step 926
+step 926
+step 926
+step 926
 step 926
 finish 930
 begin 2 tidy 62626262626262620000
 begin 3 tidy 616161616161616162626262626262620303
 collect
+step 928
+step 928
+step 928
+step 928
+step 928
+step 928
 step 928
 step 933
 finish 920
@@ -7110,20 +8953,42 @@ step 934
 begin 2 tidy 626262626262626203
 step 936
 step 933
+step 933
+step 933
+step 933
+step 933
+step 933
+step 933
 step 932
 finish 931
 begin 3 tidy 6161616161616161626262626262626202
+step 932
+step 932
+step 932
+step 932
+step 932
 step 932
 finish 928
 begin 3 tidy 626262626262626201
 step 932
 finish 938
 step 934
+step 934
+step 934
+step 934
+step 934
+step 934
 step 937
 begin 3 tidy 616161616161616100
 step 939
 collect
 step 934
+step 936
+step 936
+step 936
+step 936
+step 936
+step 936
 step 936
 finish 932
 finish 939
@@ -7133,7 +8998,15 @@ step 940
 step 936
 begin 3 tidy 61616161616161610303
 step 936
+step 936
+step 936
+step 936
+step 936
 begin 2 tidy 61616161616161610101
+step 933
+step 933
+step 933
+step 933
 step 933
 finish 937
 begin 1 tidy 6161616161616161626262626262626200
@@ -7141,15 +9014,40 @@ step 942
 begin 1 tidy 616161616161616162626262626262620101
 step 940
 step 940
+step 940
+step 940
+step 940
+step 940
+step 940
+step 940
 step 941
 finish 934
 begin 2 remove 616161616161616100
+step 940
+step 940
+step 940
+step 940
 step 940
 step 944
 begin 1 remove 62626262626262620000
 step 943
 step 944
+step 944
+step 944
+step 944
+step 944
+step 944
 step 942
+step 942
+step 942
+step 942
+step 942
+step 942
+step 941
+step 941
+step 941
+step 941
+step 941
 step 941
 finish 941
 collect
@@ -7160,10 +9058,24 @@ step 942
 advance
 begin 3 remove 61616161616161610101
 step 943
+step 943
+step 943
+step 943
+step 943
+step 943
 finish 947
+step 944
+step 944
+step 944
+step 944
+step 944
 step 944
 begin 3 remove 626262626262626201
 step 949
+step 942
+step 942
+step 942
+step 942
 step 942
 begin 2 remove 616161616161616162626262626262620101
 step 948
@@ -7225,6 +9137,11 @@ step 957
 begin 3 tidy 6161616161616161626262626262626200
 step 959
 step 957
+step 957
+step 957
+step 957
+step 957
+step 957
 finish 952
 step 946
 finish 949
@@ -7234,6 +9151,11 @@ finish 949
 finish 952
 feed 11 1
 step 946
+step 957
+step 957
+step 957
+step 957
+step 957
 step 957
 step 957
 step 946
@@ -7262,11 +9184,17 @@ finish 962
 begin 2 tidy 6161616161616161626262626262626202
 step 964
 step 964
+step 964
+step 964
+step 964
 begin 3 tidy 61616161616161610303
 feed 79 10
 finish 950
 step 963
 step 950
+step 963
+step 963
+step 963
 step 963
 begin 3 tidy 626262626262626203
 step 950
@@ -7274,7 +9202,13 @@ step 965
 step 966
 collect
 step 960
+step 960
+step 960
+step 960
 begin 2 tidy 616161616161616162626262626262620303
+step 965
+step 965
+step 965
 step 965
 feed 143 10
 begin 2 remove 61616161616161610101
@@ -7293,6 +9227,14 @@ collect
 begin 3 remove 616161616161616162626262626262620303
 finish 973
 step 966
+step 966
+step 966
+step 966
+step 966
+step 967
+step 967
+step 967
+step 967
 step 967
 begin 2 tidy 616161616161616162626262626262620303
 step 968
@@ -7306,6 +9248,10 @@ step 975
 step 975
 step 975
 finish 968
+step 970
+step 970
+step 970
+step 970
 step 970
 begin 2 remove 616161616161616162626262626262620101
 step 974
@@ -7331,6 +9277,10 @@ step 979
 step 979
 step 979
 step 976
+step 976
+step 976
+step 976
+step 976
 begin 1 tidy 61616161616161610303
 step 977
 step 977
@@ -7338,10 +9288,16 @@ step 977
 feed 103 10
 step 979
 step 974
+step 974
+step 974
+step 974
 step 977
 begin 1 remove 6161616161616161626262626262626200
 step 981
 step 980
+step 978
+step 978
+step 978
 step 978
 step 977
 step 982
@@ -7351,12 +9307,18 @@ step 977
 step 983
 step 980
 step 983
+step 983
+step 983
+step 983
 begin 2 remove 626262626262626201
 step 977
 step 979
 begin 1 tidy 626262626262626201
 step 985
 step 980
+step 985
+step 985
+step 985
 step 985
 begin 3 remove 62626262626262620202
 step 986
@@ -7367,6 +9329,10 @@ begin 3 tidy 62626262626262620202
 collect
 feed 176 3
 step 986
+step 981
+step 981
+step 981
+step 981
 step 981
 step 984
 feed 49 1
@@ -7397,6 +9363,10 @@ step 990
 step 990
 step 982
 step 990
+step 989
+step 989
+step 989
+step 989
 step 989
 begin 2 put 616161616161616100 0=22e4e966
 begin 1 tidy 62626262626262620000
@@ -7442,6 +9412,10 @@ step 995
 step 1000
 step 997
 step 997
+step 997
+step 997
+step 997
+step 997
 begin 2 put 616161616161616162626262626262620101 0=6e
 step 999
 step 1001
@@ -7459,6 +9433,10 @@ step 1000
 step 992
 step 992
 step 1001
+step 995
+step 995
+step 995
+step 995
 step 995
 begin 3 put 626262626262626201 0=-
 step 1002
@@ -7696,6 +9674,11 @@ advance
 step 1012
 step 1013
 step 1011
+step 1011
+step 1011
+step 1011
+step 1011
+step 1011
 step 1012
 step 1012
 step 1012
@@ -7705,7 +9688,19 @@ step 1012
 step 1012
 step 1011
 step 1013
+step 1013
+step 1013
+step 1013
+step 1013
+step 1013
+step 1013
 step 1009
+step 1011
+step 1011
+step 1011
+step 1011
+step 1011
+step 1011
 step 1011
 begin 2 remove 6161616161616161626262626262626200
 step 1008
@@ -7740,7 +9735,16 @@ step 1014
 step 1014
 step 1014
 step 1013
+step 1013
+step 1013
+step 1013
+step 1013
 begin 2 remove 626262626262626201
+step 1015
+step 1015
+step 1015
+step 1015
+step 1015
 step 1015
 step 1010
 step 1014
@@ -7765,6 +9769,14 @@ step 1014
 step 1014
 step 1014
 begin 3 tidy 626262626262626201
+step 1015
+step 1015
+step 1015
+step 1015
+step 1015
+step 1015
+step 1015
+step 1015
 step 1015
 step 1014
 finish 1010
@@ -7791,6 +9803,12 @@ step 1014
 step 1014
 advance
 step 1017
+step 1017
+step 1017
+step 1017
+step 1017
+step 1017
+step 1017
 step 1016
 collect
 step 1017
@@ -7815,6 +9833,11 @@ step 1016
 step 1016
 step 1019
 step 1019
+step 1019
+step 1019
+step 1019
+step 1019
+step 1019
 step 1018
 step 1018
 step 1018
@@ -7824,11 +9847,19 @@ step 1018
 step 1018
 step 1018
 step 1015
+step 1015
+step 1015
+step 1015
+step 1015
 begin 2 remove 62626262626262620202
 step 1018
 step 1018
 step 1019
 step 1020
+step 1017
+step 1017
+step 1017
+step 1017
 step 1017
 begin 2 tidy 62626262626262620202
 feed 65 10
@@ -7843,7 +9874,17 @@ step 1020
 step 1020
 step 1016
 step 1021
+step 1021
+step 1021
+step 1021
+step 1021
+step 1021
+step 1021
 step 1020
+step 1021
+step 1021
+step 1021
+step 1021
 step 1021
 step 1021
 begin 2 remove 616161616161616100
@@ -7859,11 +9900,27 @@ step 1020
 step 1018
 step 1022
 step 1023
+step 1023
+step 1023
+step 1023
+step 1023
+step 1023
 step 1009
+step 1019
+step 1019
+step 1019
+step 1019
+step 1019
+step 1019
+step 1019
 step 1020
 step 1023
 step 1020
 begin 1 remove 61616161616161610101
+step 1023
+step 1023
+step 1023
+step 1023
 step 1023
 step 1018
 begin 3 tidy 61616161616161610101
@@ -7889,6 +9946,11 @@ step 1025
 begin 3 remove 616161616161616162626262626262620303
 step 1024
 step 1025
+step 1025
+step 1025
+step 1025
+step 1025
+step 1025
 step 1022
 step 1022
 finish 1018
@@ -7905,6 +9967,11 @@ step 1020
 step 1027
 step 1025
 step 1025
+step 1025
+step 1025
+step 1025
+step 1025
+step 1025
 begin 1 remove 6161616161616161626262626262626202
 step 1022
 step 1026
@@ -7916,6 +9983,11 @@ step 1020
 step 1020
 step 1020
 feed 116 10
+step 1027
+step 1027
+step 1027
+step 1027
+step 1027
 step 1027
 step 1028
 step 1028
@@ -7937,6 +10009,12 @@ step 1026
 step 1026
 step 1026
 step 1027
+step 1027
+step 1027
+step 1027
+step 1027
+step 1027
+step 1027
 feed 34 1
 step 1027
 step 1022
@@ -7946,6 +10024,12 @@ step 1022
 step 1026
 begin 3 tidy 6161616161616161626262626262626202
 advance
+step 1027
+step 1027
+step 1027
+step 1027
+step 1027
+step 1027
 step 1027
 begin 3 remove 616161616161616162626262626262620101
 step 1022
@@ -7990,6 +10074,11 @@ finish 1029
 step 1026
 step 1032
 step 1031
+step 1031
+step 1031
+step 1031
+step 1031
+step 1031
 begin 1 tidy 626262626262626203
 step 1022
 begin 1 remove 616161616161616162626262626262620303
@@ -8011,6 +10100,12 @@ step 1033
 step 1034
 feed 25 10
 step 1031
+step 1031
+step 1031
+step 1031
+step 1031
+step 1031
+step 1031
 step 1026
 step 1026
 step 1026
@@ -8019,6 +10114,12 @@ step 1026
 step 1031
 step 1026
 step 1032
+step 1033
+step 1033
+step 1033
+step 1033
+step 1033
+step 1033
 step 1033
 step 1026
 begin 2 put 61616161616161610303 0=4b48
@@ -8031,8 +10132,17 @@ step 1034
 step 1034
 step 1033
 step 1031
+step 1031
+step 1031
+step 1031
+step 1031
+step 1031
 step 1032
 step 1035
+step 1033
+step 1033
+step 1033
+step 1033
 step 1033
 step 1022
 step 1034
@@ -8234,6 +10344,11 @@ step 1052
 step 1052
 step 1052
 step 1051
+step 1051
+step 1051
+step 1051
+step 1051
+step 1051
 step 1048
 step 1046
 step 1046
@@ -8255,6 +10370,15 @@ step 1050
 step 1050
 step 1050
 step 1052
+step 1051
+step 1051
+step 1051
+step 1051
+step 1051
+step 1051
+step 1051
+step 1051
+step 1051
 step 1051
 step 1048
 advance
@@ -8275,6 +10399,13 @@ step 1048
 advance
 begin 1 tidy 61616161616161610303
 step 1051
+step 1051
+step 1051
+step 1051
+step 1051
+step 1051
+step 1051
+step 1051
 begin 2 remove 616161616161616162626262626262620101
 step 1046
 begin 3 remove 616161616161616102
@@ -8282,6 +10413,11 @@ step 1054
 feed 103 3
 finish 1052
 begin 2 remove 62626262626262620202
+step 1053
+step 1053
+step 1053
+step 1053
+step 1053
 step 1053
 step 1053
 step 1044
@@ -8336,6 +10472,13 @@ step 1054
 step 1054
 step 1054
 step 1057
+step 1053
+step 1053
+step 1053
+step 1053
+step 1053
+step 1053
+step 1053
 step 1053
 begin 1 remove 61616161616161610303
 step 1057
@@ -8424,9 +10567,25 @@ step 1062
 step 1056
 begin 3 tidy 62626262626262620202
 step 1062
+step 1062
+step 1062
+step 1062
+step 1062
+step 1062
 step 1057
 step 1064
 step 1064
+step 1064
+step 1064
+step 1064
+step 1064
+step 1064
+step 1064
+step 1063
+step 1063
+step 1063
+step 1063
+step 1063
 step 1063
 step 1063
 step 1058
@@ -8465,23 +10624,63 @@ step 1054
 step 1054
 step 1062
 step 1063
+step 1063
+step 1063
+step 1063
+step 1063
+step 1063
+step 1063
 step 1057
+step 1062
+step 1062
+step 1062
+step 1062
+step 1062
+step 1062
+step 1062
 step 1062
 step 1057
 begin 1 tidy 61616161616161610303
 step 1065
+step 1065
+step 1065
+step 1065
+step 1065
+step 1065
 step 1062
+step 1064
+step 1064
+step 1064
+step 1064
+step 1064
 step 1064
 step 1064
 begin 2 tidy 626262626262626203
 step 1057
 step 1067
 step 1062
+step 1062
+step 1062
+step 1062
+step 1062
+step 1062
 step 1054
 step 1065
 begin 3 tidy 616161616161616162626262626262620303
 step 1065
+step 1065
+step 1065
+step 1065
+step 1065
+step 1065
+step 1065
+step 1065
 step 1066
+step 1068
+step 1068
+step 1068
+step 1068
+step 1068
 step 1068
 step 1068
 step 1054
@@ -8493,6 +10692,12 @@ step 1061
 step 1061
 begin 2 put 616161616161616102 0=a953ab
 step 1067
+step 1067
+step 1067
+step 1067
+step 1067
+step 1067
+step 1067
 finish 1057
 step 1065
 begin 2 remove 61616161616161610303
@@ -8503,15 +10708,30 @@ finish 1068
 begin 3 remove 616161616161616162626262626262620303
 step 1070
 step 1067
+step 1067
+step 1067
+step 1067
+step 1067
+step 1067
 step 1071
 feed 48 10
 finish 1071
 begin 3 tidy 616161616161616162626262626262620303
 step 1066
+step 1066
+step 1066
+step 1066
+step 1066
+step 1066
 step 1072
 begin 2 range 61616161616161610101 1000 all
 step 1073
 finish 1072
+step 1073
+step 1073
+step 1073
+step 1073
+step 1073
 step 1073
 step 1066
 step 1070
@@ -8524,6 +10744,13 @@ step 1070
 begin 2 remove 626262626262626203
 advance
 finish 1074
+step 1066
+step 1066
+step 1066
+step 1066
+step 1066
+step 1066
+step 1066
 step 1066
 finish 1065
 step 1075
@@ -8786,6 +11013,11 @@ step 1089
 begin 1 tidy 616161616161616102
 step 1094
 step 1094
+step 1094
+step 1094
+step 1094
+step 1094
+step 1094
 finish 1085
 step 1087
 step 1087
@@ -8824,6 +11056,10 @@ begin 1 get 616161616161616162626262626262620303 all
 finish 1096
 begin 1 tidy 61616161616161610101
 step 1094
+step 1094
+step 1094
+step 1094
+step 1094
 begin 1 tidy 62626262626262620000
 finish 1100
 begin 1 tidy 616161616161616162626262626262620101
@@ -8834,11 +11070,20 @@ begin 2 tidy 626262626262626203
 step 1101
 step 1102
 step 1102
+step 1102
+step 1102
+step 1102
+step 1102
 begin 1 tidy 616161616161616100
 step 1098
 step 1098
 step 1098
 step 1098
+step 1101
+step 1101
+step 1101
+step 1101
+step 1101
 step 1101
 step 1097
 step 1099
@@ -8850,6 +11095,11 @@ step 1091
 collect
 step 1103
 step 1099
+step 1099
+step 1099
+step 1099
+step 1099
+step 1099
 step 1098
 step 1098
 step 1098
@@ -8862,14 +11112,36 @@ step 1098
 step 1098
 step 1098
 step 1101
+step 1101
+step 1101
+step 1101
+step 1101
+step 1101
 step 1103
+step 1103
+step 1103
+step 1103
+step 1103
+step 1103
+step 1101
+step 1101
+step 1101
 step 1101
 step 1101
 feed 103 3
 step 1103
 begin 2 tidy 6161616161616161626262626262626200
 step 1099
+step 1099
+step 1099
+step 1099
+step 1099
 begin 3 tidy 616161616161616162626262626262620303
+step 1105
+step 1105
+step 1105
+step 1105
+step 1105
 step 1105
 step 1105
 finish 1091
@@ -8888,17 +11160,32 @@ step 1105
 step 1105
 step 1108
 step 1107
+step 1107
+step 1107
+step 1107
 begin 1 tidy 6161616161616161626262626262626202
 step 1110
 finish 1103
 step 1109
+step 1109
+step 1109
+step 1109
 step 1103
 step 1105
+step 1105
+step 1105
+step 1105
+step 1110
+step 1110
+step 1110
 step 1110
 finish 1108
 begin 2 tidy 61616161616161610101
 step 1104
 finish 1111
+step 1104
+step 1104
+step 1104
 step 1104
 begin 1 tidy 62626262626262620000
 begin 3 tidy 616161616161616162626262626262620101
@@ -8912,7 +11199,13 @@ begin 1 tidy 616161616161616100
 finish 1113
 begin 1 tidy 6161616161616161626262626262626200
 step 1112
+step 1112
+step 1112
+step 1112
 begin 3 tidy 616161616161616162626262626262620303
+step 1103
+step 1103
+step 1103
 step 1103
 begin 1 tidy 61616161616161610303
 begin 2 remove 62626262626262620202
@@ -8928,6 +11221,9 @@ step 1120
 step 1120
 step 1123
 step 1117
+step 1117
+step 1117
+step 1117
 step 1122
 begin 3 remove 626262626262626203
 step 1122
@@ -8936,6 +11232,9 @@ step 1118
 step 1124
 step 1124
 step 1124
+step 1118
+step 1118
+step 1118
 step 1118
 begin 2 remove 61616161616161610303
 step 1122
@@ -9003,6 +11302,9 @@ step 1128
 begin 2 tidy 626262626262626203
 step 1134
 step 1131
+step 1131
+step 1131
+step 1131
 collect
 begin 2 tidy 61616161616161610303
 finish 1132
@@ -9020,6 +11322,9 @@ begin 2 tidy 616161616161616102
 begin 1 range 6161616161616161626262626262626200 1 all
 step 1135
 step 1135
+step 1135
+step 1135
+step 1135
 finish 1136
 step 1133
 finish 1133
@@ -9031,8 +11336,14 @@ begin 1 tidy 616161616161616162626262626262620101
 step 1141
 feed 167 1
 step 1137
+step 1137
+step 1137
+step 1137
 begin 3 tidy 6161616161616161626262626262626202
 step 1140
+step 1139
+step 1139
+step 1139
 step 1139
 step 1138
 begin 3 tidy 626262626262626203
@@ -9050,7 +11361,13 @@ begin 1 tidy 616161616161616162626262626262620303
 finish 1146
 begin 1 tidy 616161616161616102
 step 1142
+step 1142
+step 1142
+step 1142
 begin 1 tidy 626262626262626201
+step 1140
+step 1140
+step 1140
 step 1140
 begin 3 put 626262626262626201 0=aa
 step 1145
@@ -9058,11 +11375,20 @@ step 1145
 step 1145
 step 1145
 step 1143
+step 1143
+step 1143
+step 1143
 step 1147
 finish 1148
 step 1134
+step 1134
+step 1134
+step 1134
 step 1149
 finish 1145
+step 1147
+step 1147
+step 1147
 step 1147
 step 1149
 begin 2 put 616161616161616100 0=cfa324
@@ -9180,6 +11506,11 @@ step 1163
 step 1152
 step 1161
 step 1161
+step 1161
+step 1161
+step 1161
+step 1161
+step 1161
 step 1152
 step 1163
 step 1163
@@ -9214,6 +11545,10 @@ step 1162
 step 1162
 step 1162
 step 1165
+step 1161
+step 1161
+step 1161
+step 1161
 step 1161
 begin 1 remove 616161616161616162626262626262620101
 step 1164
@@ -9265,6 +11600,11 @@ feed 274 3
 step 1167
 step 1167
 step 1167
+step 1167
+step 1167
+step 1167
+step 1167
+step 1167
 step 1165
 step 1162
 step 1162
@@ -9278,14 +11618,29 @@ step 1164
 step 1168
 step 1152
 step 1152
+step 1167
+step 1167
+step 1167
+step 1167
+step 1167
 feed 95 3
 begin 3 tidy 616161616161616102
 step 1162
 step 1168
 step 1168
+step 1168
+step 1168
+step 1168
+step 1168
+step 1168
 step 1165
 step 1169
 begin 2 tidy 62626262626262620202
+step 1169
+step 1169
+step 1169
+step 1169
+step 1169
 step 1169
 step 1162
 step 1162
@@ -9297,6 +11652,11 @@ step 1170
 begin 1 tidy 616161616161616162626262626262620303
 step 1169
 step 1168
+step 1168
+step 1168
+step 1168
+step 1168
+step 1168
 begin 2 tidy 6161616161616161626262626262626200
 step 1171
 step 1164
@@ -9307,9 +11667,30 @@ step 1164
 step 1164
 step 1164
 step 1170
+step 1170
+step 1170
+step 1170
+step 1170
+step 1170
+step 1170
+step 1171
+step 1171
+step 1171
+step 1171
+step 1171
 step 1171
 step 1166
 step 1172
+step 1172
+step 1172
+step 1172
+step 1172
+step 1172
+step 1169
+step 1169
+step 1169
+step 1169
+step 1169
 step 1169
 step 1166
 step 1166
@@ -9323,12 +11704,32 @@ begin 2 tidy 6161616161616161626262626262626202
 step 1164
 step 1172
 step 1172
+step 1172
+step 1172
+step 1172
+step 1172
+step 1172
 begin 2 tidy 626262626262626203
 step 1170
 step 1173
 step 1164
 step 1170
 step 1170
+step 1170
+step 1170
+step 1170
+step 1170
+step 1170
+step 1170
+step 1170
+step 1170
+step 1170
+step 1170
+step 1171
+step 1171
+step 1171
+step 1171
+step 1171
 step 1171
 begin 2 tidy 62626262626262620000
 begin 3 get 616161616161616162626262626262620101 all
@@ -9337,6 +11738,17 @@ advance
 step 1176
 step 1170
 step 1176
+step 1176
+step 1176
+step 1176
+step 1176
+step 1176
+step 1176
+step 1173
+step 1173
+step 1173
+step 1173
+step 1173
 step 1173
 finish 1170
 finish 1174
@@ -9350,6 +11762,10 @@ begin 3 tidy 61616161616161610101
 finish 1178
 feed 262 3
 feed 190 1
+step 1175
+step 1175
+step 1175
+step 1175
 step 1175
 begin 3 tidy 616161616161616102
 finish 1180
@@ -9369,6 +11785,11 @@ begin 1 remove 6161616161616161626262626262626202
 finish 1185
 step 1176
 step 1184
+step 1184
+step 1184
+step 1184
+step 1184
+step 1184
 begin 3 tidy 6161616161616161626262626262626200
 step 1177
 step 1177
@@ -9380,10 +11801,19 @@ step 1177
 begin 1 tidy 61616161616161610303
 step 1184
 step 1184
+step 1184
+step 1184
+step 1184
+step 1184
+step 1184
 step 1182
 finish 1187
 begin 1 tidy 61616161616161610101
 begin 2 tidy 6161616161616161626262626262626202
+step 1176
+step 1176
+step 1176
+step 1176
 step 1176
 step 1186
 step 1183
@@ -9396,9 +11826,18 @@ begin 2 tidy 626262626262626201
 step 1190
 begin 2 tidy 616161616161616162626262626262620101
 step 1182
+step 1182
+step 1182
+step 1182
+step 1182
+step 1182
 finish 1191
 step 1193
 begin 1 remove 616161616161616162626262626262620101
+step 1190
+step 1190
+step 1190
+step 1190
 step 1190
 step 1192
 begin 3 remove 616161616161616162626262626262620101
@@ -9438,9 +11877,18 @@ step 1197
 finish 1199
 begin 3 remove 616161616161616162626262626262620303
 step 1198
+step 1198
+step 1198
+step 1198
+step 1198
+step 1198
 step 1201
 finish 1201
 begin 3 remove 61616161616161610303
+step 1182
+step 1182
+step 1182
+step 1182
 step 1182
 step 1182
 begin 2 remove 6161616161616161626262626262626202
@@ -9465,6 +11913,10 @@ step 1203
 step 1200
 step 1195
 step 1195
+step 1198
+step 1198
+step 1198
+step 1198
 step 1198
 step 1200
 step 1200
