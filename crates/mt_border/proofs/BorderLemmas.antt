@@ -254,8 +254,9 @@ border_inserting b locked written unspent h = record {
   pending = all_written (with_inserting b) written;
 }
 
-pub border_keyed : (b : BorderView) (key : SlotKey) → length b.live < 15 → b.version.locked ≡ true → (first_held b.unused ≡ true → b.version.inserting ≡ true) → IsKey (key_seen key) → IsBorder b → IsBorder (with_key b key)
-border_keyed b key room locked marked whole h = record {
+-- something else of it is unwritten
+pub border_left : (b : BorderView) (left : Unwritten) → IsUnwritten (record b { unwritten = left }) left → IsBorder b → IsBorder (record b { unwritten = left })
+border_left b left pending h = record {
   seen = h.seen;
   slots = h.slots;
   low_fits = h.low_fits;
@@ -269,8 +270,11 @@ border_keyed b key room locked marked whole h = record {
   flags = h.flags;
   unspent = h.unspent;
   counters = h.counters;
-  pending = record { locked = locked; room = room; flagged = marked; whole = whole };
+  pending = pending;
 }
+
+pub border_keyed : (b : BorderView) (key : SlotKey) → length b.live < 15 → b.version.locked ≡ true → (first_held b.unused ≡ true → b.version.inserting ≡ true) → IsKey (key_seen key) → IsBorder b → IsBorder (with_key b key)
+border_keyed b key room locked marked whole h = border_left b (Value key) (record { locked = locked; room = room; flagged = marked; whole = whole }) h
 
 hold_filled : (entry : Entry) (slots : List Slot) → IsEntry entry → HoldEntries slots → HoldEntries (first_changed (filled entry) slots)
 hold_filled entry [] g h = h
@@ -323,25 +327,6 @@ border_splitting b locked written unspent h = record {
   unspent = record { inserts = h.unspent.inserts; splits = λ set. unspent };
   counters = record { vinsert_fits = h.counters.vinsert_fits; vsplit_fits = h.counters.vsplit_fits };
   pending = all_written (with_splitting b) written;
-}
-
--- something else of it is unwritten
-pub border_left : (b : BorderView) (left : Unwritten) → IsUnwritten (record b { unwritten = left }) left → IsBorder b → IsBorder (record b { unwritten = left })
-border_left b left pending h = record {
-  seen = h.seen;
-  slots = h.slots;
-  low_fits = h.low_fits;
-  ordered = h.ordered;
-  entries = h.entries;
-  held_back = h.held_back;
-  from_low = h.from_low;
-  left_of = h.left_of;
-  deleted_empty = h.deleted_empty;
-  border = h.border;
-  flags = h.flags;
-  unspent = h.unspent;
-  counters = h.counters;
-  pending = pending;
 }
 
 pub border_written : (b : BorderView) → IsBorder b → IsBorder (with_written b)

@@ -25,7 +25,7 @@ any_parts : (p : ℕ → Bool) (i : ℕ) (xs : List ℕ) → (list_any p (take i
 any_parts p i xs = sym (list_any-append p (take i xs) (drop i xs)) ∙ ap (λ (l : List ℕ). list_any p l) (take-append-drop i xs)
 
 -- a number is none but itself
-not_equal : (k n : ℕ) → k ≢ n → nat_eq k n ≡ false
+pub not_equal : (k n : ℕ) → k ≢ n → nat_eq k n ≡ false
 not_equal k n other = elim (eqb_tells k n) [
   | inl p ↦ absurd (other p.1)
   | inr p ↦ p.0

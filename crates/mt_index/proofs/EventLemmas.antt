@@ -26,6 +26,7 @@ use Rattle.mt_index.specs.Events.{EventDoes, Happens, AllHappen, StepsHappen, Ha
 use Rattle.mt_index.proofs.NumberLemmas.{changed-here, changed-there}
 use Rattle.mt_index.proofs.CauseLemmas.{steps-caused}
 use Rattle.mt_index.proofs.OneStepLemmas.{steps-once}
+use Rattle.mt_index.proofs.OneFieldLemmas.{steps-one_field}
 
 pub all-more : (s m t : MachineView) (events : List Event) (outcomes : List Outcome) (event : Event) (outcome : Outcome) → AllHappen s events outcomes m → Happens m event outcome t → AllHappen s (events ++ event ∷ []) (outcomes ++ outcome ∷ []) t
 all-more s m t [] [] event outcome same more = (t, subst (λ (x : MachineView). Happens x event outcome t) same more, refl)
@@ -73,6 +74,7 @@ step-happens s t call outcome steps = record {
   does = step-does s t outcome call steps;
   caused = steps-caused s t call outcome steps;
   one_step = steps-once s t call outcome steps;
+  one_field = steps-one_field s t call outcome steps;
 }
 
 -- a call alone has begun, has made these steps, and makes its last one
@@ -95,7 +97,7 @@ ends_alone s m t request call last begins (begun, happens, outcomes, steps) ends
 -- its begin is refused
 pub turned_away : (s t : MachineView) (request : Request) (refusal : Refusal) → Begins s pass_0 request (Refused refusal) t → HappensAlone s request (Refused refusal) t
 unfolding HappensAlone
-turned_away s t request refusal begins = inl (record { does = begin-does s t (Refused refusal) pass_0 request begins; caused = tt; one_step = tt })
+turned_away s t request refusal begins = inl (record { does = begin-does s t (Refused refusal) pass_0 request begins; caused = tt; one_step = tt; one_field = tt })
 
 -- ---- the pass of a call
 pass_here : (n number : ℕ) (call : Call) (ks : List (ℕ × Call)) → eqb number n ≡ true → pass_at n ((number, call) ∷ ks) ≡ Some call.pass

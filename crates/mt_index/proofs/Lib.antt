@@ -21,6 +21,7 @@ pub mod EpochStands
 pub mod MachineLemmas
 pub mod CauseLemmas
 pub mod OneStepLemmas
+pub mod OneFieldLemmas
 pub mod EventLemmas
 pub mod AloneStands
 pub mod QuietStands

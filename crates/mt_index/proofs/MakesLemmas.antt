@@ -20,7 +20,7 @@ module _ (s t : MachineView) (pass : PassNo) (request : Request) (outcome : Outc
   pub makes_begin : HasBounds s.log.feed s.log.keep t.log → Makes s (Begin pass request) outcome t
   makes_begin bounds = record {
     stands = λ h st. (0, begins-stands s t pass request outcome h begins st);
-    happens = record { does = begin-does s t outcome pass request begins; caused = tt; one_step = tt };
+    happens = record { does = begin-does s t outcome pass request begins; caused = tt; one_step = tt; one_field = tt };
     columns = begins-columns s t pass request outcome begins;
     bounds = bounds;
   }

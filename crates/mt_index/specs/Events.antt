@@ -16,6 +16,7 @@ use Rattle.mt_index.specs.declared.running.Run.{Run}
 use Rattle.mt_index.specs.Alone.{pass_0, next_call}
 use Rattle.mt_index.specs.Causes.{IsCaused}
 use Rattle.mt_index.specs.OneStep.{IsOneStep}
+use Rattle.mt_index.specs.OneField.{IsOneField}
 use Rattle.mt_index.specs.Stands.{MachineView, Stands, HasBounds, Begins, Steps, Applies, ReadsView, Drops, Advances, Collects}
 
 -- WHAT AN EVENT DOES, by its kind: it leads from one machine to the next with this outcome, and changes nothing else
@@ -28,11 +29,13 @@ EventDoes s (ViewDrop view) outcome t = Drops s view.0 outcome t
 EventDoes s Advance outcome t = Advances s outcome t
 EventDoes s Collect outcome t = Collects s outcome t
 
--- AN EVENT HAPPENS SO: what it does, for what cause, and that a step of a call is one step of its kind
+-- AN EVENT HAPPENS SO: what it does, for what cause, and that a step of a call is one step of its kind and changes at
+-- most one field of one border
 pub record Happens (s : MachineView) (event : Event) (outcome : Outcome) (t : MachineView) : Type 0 where
   pub does : EventDoes s event outcome t
   pub caused : IsCaused s event outcome t
   pub one_step : IsOneStep s event outcome t
+  pub one_field : IsOneField s event t
 
 -- these events happen one after the other, with these outcomes, one for each
 abbrev pub AllHappen : MachineView → List Event → List Outcome → MachineView → Type 0

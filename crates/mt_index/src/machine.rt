@@ -9,6 +9,7 @@ ghost use Rattle.mt_arena.specs.Node.{occupied};
 ghost use Rattle.mt_index.specs.Alone.{IsIdle, IsQuiet};
 ghost use Rattle.mt_index.specs.Causes.{IsCaused};
 ghost use Rattle.mt_index.specs.OneStep.{IsOneStep};
+ghost use Rattle.mt_index.specs.OneField.{IsOneField};
 ghost use Rattle.mt_commit.specs.Logged.{deltas_of};
 ghost use Rattle.mt_index.specs.Feed.{feed_fault};
 ghost use Rattle.mt_commit.specs.Log.{newest};
@@ -196,14 +197,15 @@ impl Machine {
     }
 
     /// Makes one event, and returns its outcome. Whichever history the machine is at, it is then at that history with
-    /// this event and this outcome, and that history is legal (`stands`). Three clauses state what a history doesn't
+    /// this event and this outcome, and that history is legal (`stands`). Four clauses state what a history doesn't
     /// show:
     ///
     /// - `does`: what an event of each kind changes, and that it changes nothing else;
     /// - `caused`: why a call waits, fails or is refused, and which nodes a collection frees;
     /// - `one_step`: that a step of a call is one step of its kind, by the tree before it. It visits one node, of which
-    ///   it reads one field if it is a border on the way of a get, put, remove, range or build; or it takes one delta of
-    ///   the log.
+    ///   it reads one field if it is a border on the way of the call; or it takes one delta of the log.
+    /// - `one_field`: that a step of a call changes at most one field of one border that others may read. When it shows
+    ///   a row, it changes the order, and gives the row its number of a commit.
     ///
     /// What the event answers keeps the limits of an index (`limited`).
     ///
@@ -218,6 +220,7 @@ impl Machine {
         ensures does { EventDoes self.old event.now result self.new }
         ensures caused { IsCaused self.old event.now result self.new }
         ensures one_step { IsOneStep self.old event.now result self.new }
+        ensures one_field { IsOneField self.old event.now self.new }
         ensures limited { OutcomeIsLimited result }
         ensures columns { self.new.columns ≡ self.old.columns }
         ensures bounds { HasBounds self.old.log.feed self.old.log.keep self.new.log }

@@ -37,7 +37,7 @@ use Rattle.mt_remove.specs.declared.stage.Stage.TheVariants.{Locked, Dropped, Ma
 use Rattle.mt_remove.specs.Seen.{later_place}
 use Rattle.mt_remove.specs.Tidy.{StageIsTrue, StageLaw, MayTidy}
 use Rattle.mt_remove.specs.Locked.{IsEmptyBorder}
-use Rattle.mt_remove.specs.Follows.{DropsBy, TidyStep}
+use Rattle.mt_remove.specs.Follows.{DropsBy, GoesTo, unread, TidyStep}
 use Rattle.mt_remove.proofs.StageLemmas.{at_stage, true_at, law_same, holds_known, known_there, IsSeen, named_so, later_seen, some_by}
 
 -- an empty border that the call has locked, and that is not marked deleted, is a locked border
@@ -170,7 +170,7 @@ module _ (epoch : ℕ) (a : ArenaView) (tidy : Tidy) (border head : NodeNo) (is 
               ),
           kept.content,
         );
-  }) tt tt (slice, within, (refl, refl))
+  }) tt tt (subst (λ (o : Option BorderView). IsSomeAnd o (λ x. GoesTo (unread tidy) Moved (record tidy { finding = Begins; stage = Marked (at_head slice) }) (Marked (at_head (x.low - 1))))) (sym read) (refl, ap (λ (n : ℕ). record tidy { finding = Begins; stage = Marked (at_head n) }) low_is))
 
 -- ---- it is unlocked as it was
 module _ (epoch : ℕ) (a : ArenaView) (tidy : Tidy) (border : NodeNo) (is : tidy.stage ≡ KeepsBorder border) where

@@ -210,7 +210,7 @@ module _ (now : ℕ) (a : ArenaView) (w : World) (layer : Layer) (k : IsClosing 
             | inr out ↦ inr (taken_back a new w next number (is_hidden number out) taken, out)
           ];
           spots = λ number out apart. (is_hidden number out).spot;
-          age = age_one n b (hide b) named (now_named a n b hide named) (λ known. (ages_hidden b layer.place, inr refl)) others;
+          age = age_one n b (hide b) named (now_named a n b hide named) (λ known. (ages_hidden b layer.place k.above.border.written, inr refl)) others;
           true = (still_above, then_gone, head_then_gone);
         },
         kept.content,

@@ -1,5 +1,5 @@
 -- A tidy that runs alone comes nearer to its end with each move.
-use Rattle.std.proofs.Common.{ℕ, ◌≡◌, ◌<◌, ◌≤◌, ◌+◌, ◌==◌, inl, inr, List, length, Option, Some, None, Bool, true, false, refl, sym, subst, arith}
+use Rattle.std.proofs.Common.{ℕ, ◌≡◌, ◌<◌, ◌≤◌, ◌+◌, ◌-◌, ◌==◌, inl, inr, List, length, Option, Some, None, Bool, true, false, refl, sym, subst, arith}
 use Rattle.std.specs.Prelude.{nat_le, nat_lt, slice_index, IsSomeAnd, if◌then◌else◌}
 use Rattle.mt_types.specs.declared.numbers.NodeNo.{NodeNo}
 use Rattle.mt_types.specs.declared.event.TidyRule.TheVariants.{Nothing as NoRule, EmptyBorder as BorderRule, EmptyLayer as LayerRule}
@@ -143,7 +143,7 @@ module _ (a after : ArenaView) (now begun : ℕ) (w next : World) (world : IsWor
   stage_nearer (LooksRight border head emptied right) is new truth stands reads follows = some_gives (border_at a.nodes border.0) _ (Comes (LooksRight border head emptied right) new) (λ b h. by_right border head emptied right stands new (b.right ≡ right) h) follows
   stage_nearer (Locked border head parent) is new truth stands reads follows = some_gives (node_at a.nodes parent.0) _ (Comes (Locked border head parent) new)
       (λ node h. by_place border head parent stands new (later_place node border) h) follows
-  stage_nearer (Dropped border head) is new truth stands reads follows = marks_nearer border head stands new follows.0 follows.2
+  stage_nearer (Dropped border head) is new truth stands reads follows = some_gives (border_at a.nodes border.0) _ (Comes (Dropped border head) new) (λ b h. marks_nearer border head stands new (b.low - 1) h) follows
   stage_nearer (Marked u) is new truth stands reads follows = marked_nearer a after now begun w next world world_next tidy bytes fits all_owned u is truth stands reads new follows
   stage_nearer (LeftLocked u) is new truth stands reads follows = by_left u stands new follows
   stage_nearer (LeftNames u) is new truth stands reads follows = goes (LeftNames u) (LeftWritten u.border u.node) new follows (λ spots new_true. (tt, omega arith))

@@ -125,7 +125,7 @@ module _ (epoch : ℕ) (a : ArenaView) (tidy : Tidy) (lone : OneChild) (is : tid
   -- what is known once it is bypassed
   gone_so : (begun : ℕ) (new : ArenaView) (w : World) (chart : Chart) → IsWorld a epoch w → begun ≤ epoch → new.retired ≡ a.retired → (l : IsLoneInterior a w q (prefix_of tidy.key tidy.way)) → interior_at new.nodes q ≡ Some l.i
       → chart q ≡ Some (spot (at_level l.stands.level) (prefix_of tidy.key tidy.way) l.stands.low (gone epoch)) → IsGoneInterior begun new (at_chart w chart) q
-  gone_so begun new w chart world before same l named place = record {
+  gone_so begun _ w chart world before same l named place = record {
     i = l.i;
     named = named;
     locked = l.locked;

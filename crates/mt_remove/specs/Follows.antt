@@ -1,5 +1,5 @@
 -- The stage of a tidy after a step, by the nodes before the step and the tidy before and after it.
-use Rattle.std.specs.Prelude.{ℕ, ◌≡◌, ◌≢◌, ◌<◌, ◌≤◌, ◌+◌, ◌^◌, ◌-◌, ◌⊎◌, ◌==◌, Bool, true, false, List, [], ◌∷◌, ◌++◌, slice_index, Option, Some, None, IsSome, IsSomeAnd}
+use Rattle.std.specs.Prelude.{ℕ, ◌≡◌, ◌≢◌, ◌≤◌, ◌+◌, ◌-◌, ◌⊎◌, ◌==◌, Bool, true, false, List, [], ◌∷◌, ◌++◌, slice_index, Option, Some, None, IsSome, IsSomeAnd}
 use Rattle.std.specs.Int.{w64, to_be_bytes}
 use Rattle.mt_types.specs.declared.numbers.NodeNo.{NodeNo}
 use Rattle.mt_types.specs.declared.event.Answer.TheVariants.{Tidied}
@@ -215,8 +215,8 @@ Follows a tidy (LooksRight border head emptied right) p then = IsSomeAnd (border
     (λ b. LooksAt tidy border (b.right ≡ right) (emptied_stage border head emptied) p then)
 Follows a tidy (Locked border head parent) p then =
     IsSomeAnd (node_at a.nodes parent.0) (λ node. DropsBy tidy border head (later_place node border) p then)
-Follows a tidy (Dropped border head) p then = (slice : ℕ) × (slice < 2 ^ 64) × GoesTo (unread tidy) p then
-    (Marked (record { border = border; head = head; node = head; slice = slice }))
+Follows a tidy (Dropped border head) p then = IsSomeAnd (border_at a.nodes border.0) (λ b. GoesTo (unread tidy) p then
+    (Marked (record { border = border; head = head; node = head; slice = b.low - 1 })))
 Follows a tidy (Marked u) p then = ApproachesPart a tidy u p then ⊎ LocksLeft a tidy u p then
 Follows a tidy (LeftLocked u) p then =
     IsSomeAnd (border_at a.nodes u.node.0) (λ b. LooksLeft tidy u (names b.right u.border) p then)

@@ -43,6 +43,7 @@ age_except {a = a} {after = after} {w = w} {next = next} n here others = record 
     | inl e ↦ subst (λ (m : ℕ). IsOn next.chart m ⊎ (then.right ≡ b.right)) (sym e) (there number e b then known was is).1
     | inr differ ↦ inr (ap (λ (t : BorderView). t.right) (sym (same number differ b then was is)))
   ];
+  one = (n, λ other b then differ known was is. sym (same other differ b then was is));
 }
   where
     there : (number : ℕ) → number ≡ n → (b then : BorderView) → IsSome (w.chart number) → border_at a.nodes number ≡ Some b → border_at after.nodes number ≡ Some then → BorderAges b then × (IsOn next.chart n ⊎ (then.right ≡ b.right))
@@ -57,6 +58,7 @@ pub age_known : {a after : ArenaView} {w next : World} → ((number : ℕ) → I
 age_known {a = a} {after = after} {w = w} {next = next} others = record {
   ages = λ number b then known was is. subst (λ (t : BorderView). BorderAges b t) (same number b then known was is) (ages_same b);
   rights = λ number b then known was is. inr (ap (λ (t : BorderView). t.right) (sym (same number b then known was is)));
+  one = (0, λ other b then differ known was is. sym (same other b then known was is));
 }
   where
     same : (number : ℕ) (b then : BorderView) → IsSome (w.chart number) → border_at a.nodes number ≡ Some b → border_at after.nodes number ≡ Some then → b ≡ then
@@ -88,6 +90,7 @@ age_less {a = a} {mid = mid} {after = after} {w = w} {between = between} {next =
     | inl on ↦ inl (record { role = on.role; prefix = on.prefix; low = on.low; posted = on.posted; place = placed number (apart number then is) ∙ on.place })
     | inr same ↦ inr same
   ];
+  one = (age.one.0, λ other b then differ known was is. age.one.1 other b then differ known was (there other then is));
 }
   where
     apart : (number : ℕ) (then : BorderView) → border_at after.nodes number ≡ Some then → number ≢ n

@@ -89,7 +89,7 @@ module _ (now : ℕ) (a mid : ArenaView) (w : World) (number : NodeNo) (rest : L
         ]
       ];
       spots = λ number out apart. refl;
-      age = record { ages = age.ages; rights = age.rights };
+      age = record { ages = age.ages; rights = age.rights; one = age.one };
       true = truth;
     },
     content,

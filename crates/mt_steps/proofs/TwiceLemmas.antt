@@ -48,6 +48,7 @@ goes_then now a mid after w owned has owns Then one still between then = record 
   age = record {
     ages = λ number b then known was is. two.age.ages number b then known (ap (option_and_then border_of) (still number known) ∙ was) is;
     rights = λ number b then known was is. two.age.rights number b then known (ap (option_and_then border_of) (still number known) ∙ was) is;
+    one = (two.age.one.0, λ other b then differ known was is. two.age.one.1 other b then differ known (ap (option_and_then border_of) (still other known) ∙ was) is);
   };
   true = two.true;
 }

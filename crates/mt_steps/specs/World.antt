@@ -159,12 +159,14 @@ abbrev pub GoneSince : ℕ → World → List ℕ → Type 0
 GoneSince begun w numbers = (number : ℕ) → Among number numbers → (below : ℕ) (prefix : List ℕ) (low epoch : ℕ)
     → w.chart number ≡ Some (spot (at_level (suc below)) prefix low (gone epoch)) → begun ≤ epoch
 
--- each border that the chart knows has aged; and its right link is as it was, unless it is on
+-- each border that the chart knows has aged; its right link is as it was, unless it is on; and each but one is as it was
 pub record BordersAge (a after : ArenaView) (w next : World) : Type 0 where
   pub ages : (number : ℕ) (b then : BorderView) → IsSome (w.chart number) → border_at a.nodes number ≡ Some b
       → border_at after.nodes number ≡ Some then → BorderAges b then
   pub rights : (number : ℕ) (b then : BorderView) → IsSome (w.chart number) → border_at a.nodes number ≡ Some b
       → border_at after.nodes number ≡ Some then → IsOn next.chart number ⊎ (then.right ≡ b.right)
+  pub one : (number : ℕ) × ((other : ℕ) (b then : BorderView) → other ≢ number → IsSome (w.chart other)
+      → border_at a.nodes other ≡ Some b → border_at after.nodes other ≡ Some then → then ≡ b)
 
 -- what a step of one call leaves, which owned these numbers and then owns those: there is a next world in which the
 -- tree is an index; all that calls rely on stays; each number that is taken by another call is as it was, and is not

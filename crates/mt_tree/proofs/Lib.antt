@@ -1,6 +1,7 @@
 -- Lemmas on how nodes are seen and changed, for this crate and for those above it.
 pub mod SeenLemmas
 pub mod AgeLemmas
+pub mod OneFieldLemmas
 pub mod SpareWrites
 pub mod SpareLemmas
 pub mod NewTreeLemmas

@@ -8,6 +8,7 @@ use Rattle.mt_border.specs.declared.entry.Content.TheVariants.{Short, Long, Link
 use Rattle.mt_border.specs.declared.entry.Entry.{Entry}
 use Rattle.mt_chart.specs.Noted.{Mark, plain, layer, SlotSeen, FieldsSeen, Ages}
 use Rattle.mt_tree.specs.Seen.{entry_seen, border_seen}
+use Rattle.mt_tree.specs.OneField.{ChangesOneField}
 
 -- the mark of the key of what a slot holds: a link's is that of a layer
 abbrev pub content_mark : Content → Mark
@@ -37,8 +38,9 @@ fields_seen b =
 abbrev pub HasSlots : BorderView → Type 0
 HasSlots b = AreInSlots b.live b.unused b.slots b.order
 
--- a border ages: its low stays, its fields age, and its slots still hold what is live and unused
+-- a border ages in a step: its low stays, one field changes at most, its fields age, and its slots still hold what is live and unused
 pub record BorderAges (b then : BorderView) : Type 0 where
   pub low : then.low ≡ b.low
+  pub one : ChangesOneField b then
   pub fields : Ages (fields_seen b) (fields_seen then)
   pub slots : HasSlots b → HasSlots then

@@ -1,5 +1,4 @@
 -- Why a call waits, fails or is refused: what a history doesn't show, of each kind of call.
-use Rattle.std.specs.Prelude.{◌≡◌, None}
 use Rattle.mt_types.specs.declared.refusal.Refusal.{Refusal}
 use Rattle.mt_commit.specs.Log.{LogView}
 use Rattle.mt_arena.specs.Arena.{ArenaView}

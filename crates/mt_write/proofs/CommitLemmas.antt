@@ -148,7 +148,7 @@ module _ (C : ℕ) (a : ArenaView) (log : LogView) (key : List ℕ) (edit : Edit
         record {
           goes = subst (λ (x : ArenaView). Goes now a x w (owned way.node.0 split) (owned way.node.0 split) (λ next. StageIsTrue C key edit way (Stored number split) begun after next)) (sym is)
               (goes_border a way.node.0 b show at.named now w (owned way.node.0 split) (owned way.node.0 split) _ world
-              (λ known. (ages_shown b f.sound (f.shows commit).room place commit (ap first_held f.unused ∙ f.fresh), inr refl))
+              (λ known. (ages_shown b f.sound (f.shows commit).room place commit (ap first_held f.unused ∙ f.fresh) at.written, inr refl))
               (subst (λ (x : ArenaView). IsIndexAt x now w.twins w.chart) is adds.0)
               (subst (λ (x : ArenaView). RowsAreOfKeys x) is (keys_changed a after log left key None (Some (put_row C number p.sets None)) number done world.keys)) (mine_free a way.node.0 w (owned way.node.0 split) has.own) (λ other i. inl i) (λ other ne i. i) (λ locked. has.own) (locked_may a way.node.0 b show at.named now w world at.locked at.free (inr at.alive))
               (subst (λ (x : ArenaView). HasLocked (prefix_of key way) x w way.node.0 split) (sym is) (has_changed (prefix_of key way) a way.node.0 b show at.named w split at.locked at.alive at.written refl has)));
@@ -224,7 +224,7 @@ module _ (C : ℕ) (a : ArenaView) (log : LogView) (key : List ℕ) (edit : Edit
         (appended ∙ (ap (λ (n : ℕ). with_delta log (remove_delta n stored before)) (sym next) ∙ ap (λ (k : List ℕ). with_delta log (remove_delta number k before)) f.stored_is)) in
         record {
           goes = subst (λ (x : ArenaView). Goes now a x w (way.node.0 ∷ []) (way.node.0 ∷ []) (λ next. StageIsTrue C key edit way (Stored number None) begun after next)) (sym is)
-              (goes_border a way.node.0 b hide at.named now w (way.node.0 ∷ []) (way.node.0 ∷ []) _ world (λ known. (ages_hidden b place, inr refl)) (subst (λ (x : ArenaView). IsIndexAt x now w.twins w.chart) is removes.0)
+              (goes_border a way.node.0 b hide at.named now w (way.node.0 ∷ []) (way.node.0 ∷ []) _ world (λ known. (ages_hidden b place at.written, inr refl)) (subst (λ (x : ArenaView). IsIndexAt x now w.twins w.chart) is removes.0)
               (subst (λ (x : ArenaView). RowsAreOfKeys x) is (keys_changed a after log left key (Some before) None number done world.keys)) (own_free a way.node.0 w) (λ other i. inl i) (λ other ne i. i) (λ locked. first) (locked_may a way.node.0 b hide at.named now w world at.locked at.free (inr at.alive))
               (subst (λ (x : ArenaView). HasLocked (prefix_of key way) x w way.node.0 None) (sym is) (has_changed (prefix_of key way) a way.node.0 b hide at.named w None at.locked at.alive at.written refl (alone a key way b w at))));
           does = (

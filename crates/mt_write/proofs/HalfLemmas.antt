@@ -173,7 +173,7 @@ module _ (C : ℕ) (a : ArenaView) (log : LogView) (key : List ℕ) (edit : Edit
         let (goes, content) = goes_linked now a w n half.0 b (upper_half b cut c.middle) (prefix_of key way) (link c.middle.slice) (half.0 ∷ n ∷ [])
         (λ next. StageIsTrue C key edit way (HalfLinked half cut place) begun (with_border_changed a n (link c.middle.slice)) next) at.named s.named
         (subst (λ (x : ArenaView). LinksHalfAt a x n half.0) is half_links) (record { low = b.low; posted = at.stands.stands.posted; place = at.stands.stands.place })
-        s.unknown (later first) first at.locked at.locked refl at.free (ages_half_linked b cut (record { low = c.middle.slice; node = half }) flagged) world (half_linked w b at c s, p) in
+        s.unknown (later first) first at.locked at.locked refl at.free (ages_half_linked b cut (record { low = c.middle.slice; node = half }) flagged at.written) world (half_linked w b at c s, p) in
         subst (λ (x : ArenaView). Stepped C now moves past a x log log w (edit_request key edit) (stage_held n (HalfFilled half cut place)) Moved (stage_held n (HalfLinked half cut place)) (λ m next. StageIsTrue C key edit way (HalfLinked half cut place) begun x next)) (sym is) (quiet_step key edit
         goes
         content refl refl (inl refl));

@@ -26,6 +26,7 @@ use Rattle.mt_tree.specs.Fields.{BorderAges}
 use Rattle.mt_tree.specs.Keeping.{IsIndexAt, KeepsTree}
 use Rattle.mt_tree.specs.BorderSteps.{AwaitsSome}
 use Rattle.mt_tree.proofs.AgeLemmas.{ages_filled, ages_keyed}
+use Rattle.mt_tree.proofs.OneFieldLemmas.{entry_with_key}
 use Rattle.mt_tree.proofs.DescentLemmas.{slice_of_place}
 use Rattle.mt_steps.specs.declared.way.Way.{Way}
 use Rattle.mt_steps.specs.declared.progress.Progress.TheVariants.{Moved}
@@ -86,7 +87,7 @@ module _ (C : ℕ) (a : ArenaView) (log : LogView) (key : List ℕ) (edit : Edit
     steps = λ now begun moves past w world before truth.
         let (b, at, p, f, k, has) = truth in
         let change : BorderView → BorderView = λ x. with_key x slot_key in
-        let (goes, content) = goes_marked a way.node.0 change after is keeps (owned way.node.0 new.split) (λ next. StageIsTrue C key edit way (KeyWritten new row) begun after next) now w b at.named world (ages_keyed b slot_key) refl at.locked at.alive at.free has.own (subst (λ (x : ArenaView). StageIsTrue C key edit way (KeyWritten new row) begun x w) (sym is) (
+        let (goes, content) = goes_marked a way.node.0 change after is keeps (owned way.node.0 new.split) (λ next. StageIsTrue C key edit way (KeyWritten new row) begun after next) now w b at.named world (ages_keyed b slot_key at.written) refl at.locked at.alive at.free has.own (subst (λ (x : ArenaView). StageIsTrue C key edit way (KeyWritten new row) begun x w) (sym is) (
           change b,
           owned_at-changed a key way b w change at.named at.layer at.stands at.last refl refl refl at.alive at.locked at.free,
           p,
@@ -142,7 +143,7 @@ module _ (C : ℕ) (a : ArenaView) (log : LogView) (key : List ℕ) (edit : Edit
         let low : b.low ≤ slice_number (rest_of key way) = subst (λ (s : ℕ). b.low ≤ s) slices at.stands.from_low in
         let right = left_of_right (slice_number (rest_of key way)) b.right (subst (λ (s : ℕ). Below s (option_map right_seen b.right)) slices at.stands.to_right) in
         let there = written_at _ key way (change b) w refl (owned_at-changed a key way b w change at.named at.layer at.stands at.last refl refl refl at.alive at.locked at.free) in
-        let (goes, content) = goes_marked a way.node.0 change after is keeps (owned way.node.0 new.split) (λ next. StageIsTrue C key edit way (Filled new.place new.key new.logged new.split) begun after next) now w b at.named world (ages_filled b f.sound slot_key k (new_entry key way new.logged)) refl at.locked at.alive at.free has.own (subst (λ (x : ArenaView). StageIsTrue C key edit way (Filled new.place new.key new.logged new.split) begun x w) (sym is) (
+        let (goes, content) = goes_marked a way.node.0 change after is keeps (owned way.node.0 new.split) (λ next. StageIsTrue C key edit way (Filled new.place new.key new.logged new.split) begun after next) now w b at.named world (ages_filled b f.sound slot_key k (new_entry key way new.logged) (entry_with_key slot_key (record { version = 0; columns = new.logged }))) refl at.locked at.alive at.free has.own (subst (λ (x : ArenaView). StageIsTrue C key edit way (Filled new.place new.key new.logged new.split) begun x w) (sym is) (
           change b,
           there,
           p,

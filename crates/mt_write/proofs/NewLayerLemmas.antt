@@ -167,7 +167,7 @@ module _ (C : ℕ) (a : ArenaView) (log : LogView) (key : List ℕ) (edit : Edit
         let new : ArenaView = with_border_changed a n change in
         let no_head : n ≢ layer.head.0 = apart_spare b w layer.head.0 at.stands.stands.place f.has.head_unknown in
         let no_root : n ≢ layer.root.0 = apart_spare b w layer.root.0 at.stands.stands.place f.has.root_unknown in
-        let (goes, content) = goes_marked a n change after is keeps (layer_owned n layer) (λ next. StageIsTrue C key edit way (LayerMarked layer) begun after next) now w b at.named world (ages_unstable b layer.place) refl at.locked at.alive at.free (later (later first))
+        let (goes, content) = goes_marked a n change after is keeps (layer_owned n layer) (λ next. StageIsTrue C key edit way (LayerMarked layer) begun after next) now w b at.named world (ages_unstable b layer.place at.written) refl at.locked at.alive at.free (later (later first))
         (subst (λ (x : ArenaView). StageIsTrue C key edit way (LayerMarked layer) begun x w) (sym is) (
           change b,
           owned_at-changed a key way b w change at.named at.layer at.stands at.last refl refl refl at.alive at.locked at.free,
@@ -200,7 +200,7 @@ module _ (C : ℕ) (a : ArenaView) (log : LogView) (key : List ℕ) (edit : Edit
         let no_head : n ≢ layer.head.0 = apart_spare b w layer.head.0 at.stands.stands.place f.has.head_unknown in
         let no_root : n ≢ layer.root.0 = apart_spare b w layer.root.0 at.stands.stands.place f.has.root_unknown in
         let may = locked_may a n b link at.named now w world at.locked at.free (inr at.alive) in
-        let aged = ages_link b f.at.sound layer.place (slice_get_within b.live layer.place entry f.at.other.stands) layer.head (suffix_there layer.place b.live entry f.at.other.stands refl) in
+        let aged = ages_link b f.at.sound layer.place (slice_get_within b.live layer.place entry f.at.other.stands) layer.head (suffix_there layer.place b.live entry f.at.other.stands refl) unstable in
         let placed = head_placed now a w n layer.head.0 layer.root b root (prefix_of key way) layer.place entry link at.named f.at.other.stands f.has.head f.has.is_root refl refl no_head no_root f.has.head_unknown f.has.root_unknown aged world may in
         let kept = others_placed now a w n layer.head.0 layer.root b root (prefix_of key way) layer.place entry link at.named f.at.other.stands f.has.head f.has.is_root refl refl no_head no_root f.has.head_unknown f.has.root_unknown aged world may n no_head no_root in
         let held : (slice : ℕ) → Holds next.chart begun layer.head.0 below slice = λ slice. record { role = top; low = 0; standing = on true; place = placed; at_most = omega arith; since = λ epoch gone_is. absurd (let clash : on true ≡ gone epoch = gone_is in cc) } in

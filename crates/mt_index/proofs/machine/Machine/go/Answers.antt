@@ -21,7 +21,7 @@ overflow_add-commits c =
 
 pub returns-then-steps-most-clause-goes : goal.returns-then-steps-most-clause-goes
 returns-then-steps-most-clause-goes c =
-    let makes : Makes c.loop-steps.self (Step c.args.call) c.event-last.result c.event-last.new.self = record { stands = c.event-last.ensures.stands; happens = record { does = c.event-last.ensures.does; caused = c.event-last.ensures.caused; one_step = c.event-last.ensures.one_step }; columns = c.event-last.ensures.columns; bounds = c.event-last.ensures.bounds } in
+    let makes : Makes c.loop-steps.self (Step c.args.call) c.event-last.result c.event-last.new.self = record { stands = c.event-last.ensures.stands; happens = record { does = c.event-last.ensures.does; caused = c.event-last.ensures.caused; one_step = c.event-last.ensures.one_step; one_field = c.event-last.ensures.one_field }; columns = c.event-last.ensures.columns; bounds = c.event-last.ensures.bounds } in
     ran c.args.self.now c.loop-steps.self c.event-last.new.self c.args.call c.loop-steps.steps c.loop-steps.commits c.commits_in-commits.result c.event-last.result c.loop-steps.invariant.going makes c.commits_in-commits.ensures
 
 pub returns-then-steps-most-clause-most : goal.returns-then-steps-most-clause-most
@@ -32,7 +32,7 @@ loop-steps-smaller c = let more = c.if-steps-most.false in omega (arith, more)
 
 pub loop-steps-preserved : goal.loop-steps-preserved
 loop-steps-preserved c =
-    let makes : Makes c.loop-steps.self (Step c.args.call) c.event-last.result c.event-last.new.self = record { stands = c.event-last.ensures.stands; happens = record { does = c.event-last.ensures.does; caused = c.event-last.ensures.caused; one_step = c.event-last.ensures.one_step }; columns = c.event-last.ensures.columns; bounds = c.event-last.ensures.bounds } in
+    let makes : Makes c.loop-steps.self (Step c.args.call) c.event-last.result c.event-last.new.self = record { stands = c.event-last.ensures.stands; happens = record { does = c.event-last.ensures.does; caused = c.event-last.ensures.caused; one_step = c.event-last.ensures.one_step; one_field = c.event-last.ensures.one_field }; columns = c.event-last.ensures.columns; bounds = c.event-last.ensures.bounds } in
     let more = c.if-steps-most.false in
     record {
       going = goes_further c.args.self.now c.loop-steps.self c.event-last.new.self c.args.call c.loop-steps.steps c.loop-steps.commits c.commits_in-commits.result c.event-last.result c.loop-steps.invariant.going makes c.commits_in-commits.ensures (c.goes_on.ensures.0 c.if-not-goes_on.false);
