@@ -7,7 +7,7 @@ use Rattle.mt_promise.specs.History.{moment}
 use Rattle.mt_arena.specs.Arena.{ArenaView}
 use Rattle.mt_steps.specs.World.{World, BordersAge}
 use Rattle.mt_steps.proofs.AgingLemmas.{age_same}
-use Rattle.mt_index.specs.Stands.{MachineView, CallStands, Stands, StepsOpen, Steps}
+use Rattle.mt_index.specs.Stands.{MachineView, CallStands, StepsOpen, Steps}
 use Rattle.mt_index.specs.OneField.{ChangesOneBorder, IsOneField}
 use Rattle.mt_index.proofs.PairedLemmas.{paired-some}
 
@@ -32,7 +32,7 @@ open_step s t call outcome o = λ h at.
 
 pub steps-one_field : (s t : MachineView) (call : CallNo) (outcome : Outcome) → Steps s call.0 outcome t → IsOneField s (Step call) t
 steps-one_field s t call outcome (inl (none, refused, same)) = unchanged s t call (ap (λ (m : MachineView). m.tree) same)
-steps-one_field s t call outcome (inr (inl open)) = open_step s t call outcome open
+steps-one_field s t call outcome (inr (inl went)) = open_step s t call outcome went
 steps-one_field s t call outcome (inr (inr ends)) = elim ends.comes [
   | inl opens ↦ unchanged s t call (ap (λ (m : MachineView). m.tree) opens.is_next)
   | inr opens_not ↦ unchanged s t call (ap (λ (m : MachineView). m.tree) opens_not.is_next)

@@ -50,8 +50,8 @@ pub fn rest_of(key: &Key, layer: usize) -> &[u8]
     &key_bytes(key)[SLICE_BYTES * layer..]
 }
 
-// Returns where a visit leads from a place on a way.
-pub(crate) fn led(way: Way, visit: Visit) -> Went
+/// Returns where a visit leads from a place on a way.
+pub fn led(way: Way, visit: Visit) -> Went
     requires { way.layer ≤ MAX_KEY_BYTES }
     ensures { result ≡ went_by way visit }
 {

@@ -1,16 +1,15 @@
 -- Each change of a border changes at most one field of it.
-use Rattle.std.proofs.Common.{ℕ, ◌≡◌, ◌≢◌, ◌<◌, inl, inr, List, [], length, Option, Some, None, IsSome, Bool, true, false, if◌then◌else◌, nat_eq, unwrap_or, refl, ap, sym, subst, ◌∙◌, arith}
+use Rattle.std.proofs.Common.{ℕ, ◌≡◌, ◌≢◌, ◌<◌, inl, inr, List, [], length, Option, IsSome, Bool, true, false, if◌then◌else◌, nat_eq, unwrap_or, refl, ap, sym, subst, ◌∙◌, arith}
 use Rattle.std.proofs.lemmas.Bool.Decides.{eqb_tells}
 use Rattle.mt_types.specs.declared.row.Row.{Row}
 use Rattle.mt_types.specs.declared.numbers.NodeNo.{NodeNo}
-use Rattle.mt_word.specs.Slots.{Slots}
 use Rattle.mt_word.specs.Version.{VersionView}
-use Rattle.mt_border.specs.Entry.{content_with, entry_with, content_with_row, content_at_version, entry_suffix, with_row, with_link, at_version}
+use Rattle.mt_border.specs.Entry.{content_with, entry_with, content_with_row, content_at_version, entry_suffix, with_row, with_link}
 use Rattle.mt_border.specs.Table.{number_at, next_number, with_entry, filled, shown}
 use Rattle.mt_border.specs.Border.{BorderView, first_held, suffix_at, with_key, with_filled, with_shown, with_hidden, with_value, with_unstable, with_link_at, with_half_linked, with_written, with_right}
 use Rattle.mt_border.specs.Keys.{KeyView, entry_key, key_seen, unstable, unstable_with}
 use Rattle.mt_border.specs.Order.{IsBorder}
-use Rattle.mt_border.specs.Slots.{slot_at, is_live, held_at, key_in, key_at, order_in, order_shown}
+use Rattle.mt_border.specs.Slots.{slot_at, is_live, key_in, key_at, order_in, order_shown}
 use Rattle.mt_border.proofs.TableLemmas.{next_below}
 use Rattle.mt_border.proofs.SlotLemmas.{unused_there}
 use Rattle.mt_border.proofs.ChangeLemmas.{changed_there, changed_elsewhere, first_held_is_next, number_within, not_equal}
@@ -25,10 +24,9 @@ use Rattle.mt_border.specs.declared.unwritten.KeyRest.TheVariants.{Ends, Continu
 use Rattle.mt_border.specs.declared.unwritten.SlotKey.{SlotKey}
 use Rattle.mt_border.specs.declared.unwritten.Unwritten.{Unwritten}
 use Rattle.mt_border.specs.declared.unwritten.Unwritten.TheVariants.{Nothing, Value, Order, LinkAt, MarkAt}
-use Rattle.mt_arena.specs.declared.part.Field.{Field}
 use Rattle.mt_arena.specs.declared.part.Field.TheVariants.{Version, Right, Order as OrderField, Key, Value as ValueField}
 use Rattle.mt_chart.proofs.Basics.{same_number}
-use Rattle.mt_tree.specs.OneField.{SameBut, SameButShown, ChangesOneField}
+use Rattle.mt_tree.specs.OneField.{ChangesOneField}
 
 -- ---- the key of a number, among others
 picks : {X : Type 0} (k n : ℕ) → k ≢ n → (one other : X) → (if nat_eq k n then one else other) ≡ other
@@ -71,23 +69,29 @@ one_same b = one_version b b.version
 
 -- THE RIGHT LINK of a border whose upper entries move to the right: others read the old order still
 pub one_half_linked : (b : BorderView) (keep : ℕ) (right : RightLink) → b.unwritten ≡ Nothing → ChangesOneField b (with_half_linked b keep right)
-one_half_linked b keep right written = inl (Right, record {
-  version = λ ne. refl;
-  right = λ ne. absurd (ne refl);
-  order = λ ne. sym (order_read b Nothing written);
-  keys = λ k ne. sym (key_read b Nothing written k);
-  values = λ k ne. refl;
-})
+one_half_linked b keep right written = inl (
+  Right,
+  record {
+    version = λ ne. refl;
+    right = λ ne. absurd (ne refl);
+    order = λ ne. sym (order_read b Nothing written);
+    keys = λ k ne. sym (key_read b Nothing written k);
+    values = λ k ne. refl;
+  },
+)
 
 -- ---- THE KEY of the first unused slot, or the mark of one
 one_key : (b new : BorderView) (n : ℕ) → new.version ≡ b.version → new.right ≡ b.right → order_shown new ≡ order_shown b → ((k : ℕ) → k ≢ n → key_at new k ≡ key_at b k) → ((k : ℕ) → slot_at new k ≡ slot_at b k) → ChangesOneField b new
-one_key b new n version right order keys slots = inl (Key n, record {
-  version = λ ne. version;
-  right = λ ne. right;
-  order = λ ne. order;
-  keys = λ k ne. keys k (apart n k ne);
-  values = λ k ne. ap (λ (s : Slot). s.entry.content) (slots k);
-})
+one_key b new n version right order keys slots = inl (
+  Key n,
+  record {
+    version = λ ne. version;
+    right = λ ne. right;
+    order = λ ne. order;
+    keys = λ k ne. keys k (apart n k ne);
+    values = λ k ne. ap (λ (s : Slot). s.entry.content) (slots k);
+  },
+)
 
 pub one_keyed : (b : BorderView) (key : SlotKey) → b.unwritten ≡ Nothing → ChangesOneField b (with_key b key)
 one_keyed b key written =
@@ -111,13 +115,16 @@ one_written b = left b.unwritten refl
         one_key b (with_written b) (next_number b.order) refl refl (sym (order_read b (Value key) is))
         (λ k differ. sym (key_read b (Value key) is k ∙ picks k (next_number b.order) differ (key_seen key) (own_at b k)))
         (λ k. refl)
-    left (Order shows) is = inl (OrderField, record {
-      version = λ ne. refl;
-      right = λ ne. refl;
-      order = λ ne. absurd (ne refl);
-      keys = λ k ne. sym (key_read b (Order shows) is k);
-      values = λ k ne. refl;
-    })
+    left (Order shows) is = inl (
+      OrderField,
+      record {
+        version = λ ne. refl;
+        right = λ ne. refl;
+        order = λ ne. absurd (ne refl);
+        keys = λ k ne. sym (key_read b (Order shows) is k);
+        values = λ k ne. refl;
+      },
+    )
     left (LinkAt n) is =
         one_key b (with_written b) n refl refl (sym (order_read b (LinkAt n) is))
         (λ k differ. sym (key_read b (LinkAt n) is k ∙ picks k n differ (unstable (own_at b k)) (own_at b k)))
@@ -129,13 +136,16 @@ one_written b = left b.unwritten refl
 
 -- ---- THE ORDER, when a slot is hidden
 pub one_hidden : (b : BorderView) (place : ℕ) → b.unwritten ≡ Nothing → ChangesOneField b (with_hidden b place)
-one_hidden b place written = inl (OrderField, record {
-  version = λ ne. refl;
-  right = λ ne. refl;
-  order = λ ne. absurd (ne refl);
-  keys = λ k ne. key_read (with_hidden b place) Nothing written k ∙ sym (key_read b Nothing written k);
-  values = λ k ne. refl;
-})
+one_hidden b place written = inl (
+  OrderField,
+  record {
+    version = λ ne. refl;
+    right = λ ne. refl;
+    order = λ ne. absurd (ne refl);
+    keys = λ k ne. key_read (with_hidden b place) Nothing written k ∙ sym (key_read b Nothing written k);
+    values = λ k ne. refl;
+  },
+)
 
 -- ---- the keys of entries that are changed
 rest_key : (slice : ℕ) (rest : KeyRest) (row : Row) → entry_key (record { slice = slice; content = content_with rest row }) ≡ key_seen (record { slice = slice; rest = rest })
@@ -171,17 +181,20 @@ module _ (b : BorderView) (h : IsBorder b) (room : length b.live < 15) where
   next_within = let below = next_below b.order h.seen.table.arranged (unused_there b.live b.unused b.slots b.order h.seen room) in omega (arith, below, h.seen.table.fifteen)
 
   pub one_filled : (key : SlotKey) → b.unwritten ≡ Value key → (entry : Entry) → entry_key entry ≡ key_seen key → ChangesOneField b (with_filled b entry)
-  one_filled key is entry same = inl (ValueField next, record {
-    version = λ ne. refl;
-    right = λ ne. refl;
-    order = λ ne. sym (order_read b (Value key) is);
-    keys = λ k ne. elim (same_number k next) [
-      | inl e ↦ subst (λ (m : ℕ). own_at (with_filled b entry) m ≡ key_at b m) (sym e)
-        (ap (λ (s : Slot). entry_key s.entry) (changed_there b.slots next (filled entry) next_within) ∙ (same ∙ sym (key_read b (Value key) is next ∙ here next (key_seen key) (own_at b next))))
-      | inr differ ↦ ap (λ (s : Slot). entry_key s.entry) (changed_elsewhere b.slots next k (filled entry) differ) ∙ sym (key_read b (Value key) is k ∙ picks k next differ (key_seen key) (own_at b k))
-    ];
-    values = λ k ne. ap (λ (s : Slot). s.entry.content) (changed_elsewhere b.slots next k (filled entry) (apart_value next k ne));
-  })
+  one_filled key is entry same = inl (
+    ValueField next,
+    record {
+      version = λ ne. refl;
+      right = λ ne. refl;
+      order = λ ne. sym (order_read b (Value key) is);
+      keys = λ k ne. elim (same_number k next) [
+        | inl e ↦ subst (λ (m : ℕ). own_at (with_filled b entry) m ≡ key_at b m) (sym e)
+            (ap (λ (s : Slot). entry_key s.entry) (changed_there b.slots next (filled entry) next_within) ∙ (same ∙ sym (key_read b (Value key) is next ∙ here next (key_seen key) (own_at b next))))
+        | inr differ ↦ ap (λ (s : Slot). entry_key s.entry) (changed_elsewhere b.slots next k (filled entry) differ) ∙ sym (key_read b (Value key) is k ∙ picks k next differ (key_seen key) (own_at b k))
+      ];
+      values = λ k ne. ap (λ (s : Slot). s.entry.content) (changed_elsewhere b.slots next k (filled entry) (apart_value next k ne));
+    },
+  )
 
   -- THE ORDER, when that slot is shown, whose row is stamped
   pub one_shown : b.unwritten ≡ Nothing → first_held b.unused ≡ false → (place version : ℕ) → ChangesOneField b (with_shown b place version)
@@ -215,29 +228,35 @@ module _ (b : BorderView) (h : IsBorder b) (place : ℕ) (within : place < lengt
   n = number_at place b.order
 
   pub one_value : (row : Row) → ChangesOneField b (with_value b place row)
-  one_value row = inl (ValueField n, record {
-    version = λ ne. refl;
-    right = λ ne. refl;
-    order = λ ne. refl;
-    keys = λ k ne. ap (λ (own : KeyView). key_in b.unwritten (next_number b.order) k own) (own_key k);
-    values = λ k ne. ap (λ (s : Slot). s.entry.content) (changed_elsewhere b.slots n k (with_entry (with_row row)) (apart_value n k ne));
-  })
+  one_value row = inl (
+    ValueField n,
+    record {
+      version = λ ne. refl;
+      right = λ ne. refl;
+      order = λ ne. refl;
+      keys = λ k ne. ap (λ (own : KeyView). key_in b.unwritten (next_number b.order) k own) (own_key k);
+      values = λ k ne. ap (λ (s : Slot). s.entry.content) (changed_elsewhere b.slots n k (with_entry (with_row row)) (apart_value n k ne));
+    },
+  )
     where
       own_key : (k : ℕ) → own_at (with_value b place row) k ≡ own_at b k
       own_key k = elim (same_number k n) [
         | inl e ↦ subst (λ (m : ℕ). own_at (with_value b place row) m ≡ own_at b m) (sym e)
-          (ap (λ (s : Slot). entry_key s.entry) (changed_there b.slots n (with_entry (with_row row)) (number_within b h place within)) ∙ key_with_row row (slot_at b n).entry.slice (slot_at b n).entry.content)
+            (ap (λ (s : Slot). entry_key s.entry) (changed_there b.slots n (with_entry (with_row row)) (number_within b h place within)) ∙ key_with_row row (slot_at b n).entry.slice (slot_at b n).entry.content)
         | inr differ ↦ ap (λ (s : Slot). entry_key s.entry) (changed_elsewhere b.slots n k (with_entry (with_row row)) differ)
       ]
 
   pub one_link : (head : NodeNo) → suffix_at place b.live ≡ entry_suffix (slot_at b n).entry → IsSome (suffix_at place b.live) → b.unwritten ≡ LinkAt n → ChangesOneField b (with_link_at b place head)
-  one_link head read some unstably = inl (ValueField n, record {
-    version = λ ne. refl;
-    right = λ ne. refl;
-    order = λ ne. sym (order_read b (LinkAt n) unstably);
-    keys = λ k ne. keys k ∙ sym (key_read b (LinkAt n) unstably k);
-    values = λ k ne. ap (λ (s : Slot). s.entry.content) (changed_elsewhere b.slots n k (with_entry (with_link head)) (apart_value n k ne));
-  })
+  one_link head read some unstably = inl (
+    ValueField n,
+    record {
+      version = λ ne. refl;
+      right = λ ne. refl;
+      order = λ ne. sym (order_read b (LinkAt n) unstably);
+      keys = λ k ne. keys k ∙ sym (key_read b (LinkAt n) unstably k);
+      values = λ k ne. ap (λ (s : Slot). s.entry.content) (changed_elsewhere b.slots n k (with_entry (with_link head)) (apart_value n k ne));
+    },
+  )
     where
       whole : unstable_with (own_at (with_link_at b place head) n).slice (unwrap_or (suffix_at place b.live) []) ≡ unstable (own_at b n)
       whole =
@@ -247,7 +266,7 @@ module _ (b : BorderView) (h : IsBorder b) (place : ℕ) (within : place < lengt
       keys : (k : ℕ) → key_at (with_link_at b place head) k ≡ key_in (LinkAt n) (next_number b.order) k (own_at b k)
       keys k = elim (same_number k n) [
         | inl e ↦ subst (λ (m : ℕ). key_at (with_link_at b place head) m ≡ key_in (LinkAt n) (next_number b.order) m (own_at b m)) (sym e)
-          (here n (unstable_with (own_at (with_link_at b place head) n).slice (unwrap_or (suffix_at place b.live) [])) (own_at (with_link_at b place head) n) ∙ (whole ∙ sym (here n (unstable (own_at b n)) (own_at b n))))
+            (here n (unstable_with (own_at (with_link_at b place head) n).slice (unwrap_or (suffix_at place b.live) [])) (own_at (with_link_at b place head) n) ∙ (whole ∙ sym (here n (unstable (own_at b n)) (own_at b n))))
         | inr differ ↦ picks k n differ (unstable_with (own_at (with_link_at b place head) k).slice (unwrap_or (suffix_at place b.live) [])) (own_at (with_link_at b place head) k)
-          ∙ (ap (λ (s : Slot). entry_key s.entry) (changed_elsewhere b.slots n k (with_entry (with_link head)) differ) ∙ sym (picks k n differ (unstable (own_at b k)) (own_at b k)))
+            ∙ (ap (λ (s : Slot). entry_key s.entry) (changed_elsewhere b.slots n k (with_entry (with_link head)) differ) ∙ sym (picks k n differ (unstable (own_at b k)) (own_at b k)))
       ]

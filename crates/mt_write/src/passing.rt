@@ -2,11 +2,10 @@
 //! it.
 
 ghost use Rattle.std.specs.Prelude.{◌≡◌, ◌≢◌, ◌<◌, ◌≤◌, ℕ, IsSomeAnd};
-ghost use Rattle.mt_types.specs.declared.limits.TheConstants.{MAX_KEY_BYTES};
 ghost use Rattle.mt_commit.specs.Log.{LogView, IsLog};
 ghost use Rattle.mt_arena.specs.Node.{border_at};
 ghost use Rattle.mt_tree.specs.Descent.{visit_border};
-ghost use Rattle.mt_steps.specs.Way.{rest_of, went_by};
+ghost use Rattle.mt_steps.specs.Way.{rest_of};
 ghost use Rattle.mt_write.specs.declared.writing.Stage.{Stage};
 ghost use Rattle.mt_write.specs.Follows.{MayLock};
 ghost use Rattle.mt_write.specs.Runs.{IsTrimmed, MayRun, PassesAt, passed_fields, state};
@@ -14,7 +13,7 @@ ghost use Rattle.mt_write.specs.Runs.{IsTrimmed, MayRun, PassesAt, passed_fields
 use crate::running::WriteRun;
 use crate::writing::Write;
 use mt_border::Border;
-use mt_steps::way::{Way, Went, rest_of};
+use mt_steps::way::{led, rest_of};
 use mt_tree::{Tree, Visit};
 
 // How many fields of a border a write reads that only passes it: the right link alone, if its way leads to the right;
@@ -27,23 +26,6 @@ fn fields_passed(border: &Border, visit: Visit) -> u64
     match visit {
         Visit::Below(_) => keys + 3,
         Visit::Again | Visit::To(_) | Visit::Here => 1,
-    }
-}
-
-// Returns where a visit leads from a place on a way.
-fn led(way: Way, visit: Visit) -> Went
-    requires { way.layer ≤ MAX_KEY_BYTES }
-    ensures { result ≡ went_by way visit }
-{
-    let layer = way.layer;
-    match visit {
-        Visit::Again => Went::Again,
-        Visit::To(node) => Went::To(Way { node, layer }),
-        Visit::Below(node) => Went::To(Way {
-            node,
-            layer: layer + 1,
-        }),
-        Visit::Here => Went::Here,
     }
 }
 
