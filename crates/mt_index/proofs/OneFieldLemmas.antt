@@ -15,7 +15,7 @@ use Rattle.mt_index.proofs.PairedLemmas.{paired-some}
 one_border : {a after : ArenaView} {w next : World} → BordersAge a after w next → ChangesOneBorder w a after
 one_border age = record {
   number = age.one.0;
-  here = λ b then known was is. (age.ages age.one.0 b then known was is).one;
+  here = λ b then known was is. let aged = age.ages age.one.0 b then known was is in (aged.low, aged.one);
   others = age.one.1;
 }
 

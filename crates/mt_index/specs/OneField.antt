@@ -10,12 +10,13 @@ use Rattle.mt_promise.specs.History.{History}
 use Rattle.mt_steps.specs.World.{World}
 use Rattle.mt_index.specs.Stands.{MachineView, Stands}
 
--- AT MOST ONE BORDER CHANGES of those that the chart knows, and of that one at most one field. The chart knows each
--- node that is linked, or was and is not freed yet: all that calls read. It doesn't know the spare nodes of a call.
+-- AT MOST ONE BORDER CHANGES of those that the chart knows, and of that one at most one field, and not its low. The
+-- chart knows each node that is linked, or was and is not freed yet: all that other calls read. It doesn't know the
+-- spare nodes of a call.
 pub record ChangesOneBorder (w : World) (a after : ArenaView) : Type 0 where
   pub number : ℕ
   pub here : (b then : BorderView) → IsSome (w.chart number) → border_at a.nodes number ≡ Some b
-      → border_at after.nodes number ≡ Some then → ChangesOneField b then
+      → border_at after.nodes number ≡ Some then → (then.low ≡ b.low) × ChangesOneField b then
   pub others : (other : ℕ) (b then : BorderView) → other ≢ number → IsSome (w.chart other)
       → border_at a.nodes other ≡ Some b → border_at after.nodes other ≡ Some then → then ≡ b
 

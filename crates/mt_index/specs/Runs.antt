@@ -53,7 +53,7 @@ CallGoes s pass request (Refused refusal) t = Makes s (Begin pass request) (Refu
 CallGoes s pass request (Ran call run) t = (begun : MachineView) × Makes s (Begin pass request) (Called call) begun
     × GoesThrough begun call run t
 
--- it makes one step at least, and at most so many; fewer only if the call has ended or waits
+-- it makes at least one step, and at most this many; fewer only if the call has ended or waits
 abbrev pub RunsAtMost : ℕ → CallRun → Type 0
 RunsAtMost most (Refused refusal) = Unit {0}
 RunsAtMost most (Ran call run) = (run.steps ≤ max 1 most) × (run.steps < most → GoesOnAtOnce run.last → ⊥)
