@@ -1,5 +1,5 @@
 -- The invariant of a border through each change.
-use Rattle.std.proofs.Common.{◌≡◌, ℕ, zero, suc, ◌-◌, ◌^◌, ◌<◌, ◌≤◌, List, [], ◌∷◌, ◌++◌, length, take, drop, map, get_or, refl, sym, ap, ◌∙◌, arith, length-append, subst, Option, Some, None, IsSome, Bool, true, false, slice_get, unwrap_or}
+use Rattle.std.proofs.Common.{◌≡◌, ℕ, zero, suc, ◌-◌, ◌<◌, ◌≤◌, List, [], ◌∷◌, ◌++◌, length, take, drop, map, get_or, refl, sym, ap, ◌∙◌, arith, length-append, subst, Option, Some, None, IsSome, Bool, true, false, slice_get, unwrap_or}
 use Rattle.std.specs.List.{All, AllPairs, remove}
 use Rattle.std.proofs.lemmas.Option.{get_or_from_slice_get}
 use Rattle.std.proofs.lemmas.List.{length-map, get_or-map, get_or-set_same, get_or-take, length-take-le, length-drop}
@@ -9,11 +9,10 @@ use Rattle.std.proofs.lemmas.List.Quantifiers.{all_pairs_remove}
 use Rattle.mt_types.specs.declared.row.Row.{Row}
 use Rattle.mt_types.specs.declared.numbers.NodeNo.{NodeNo}
 use Rattle.mt_word.specs.Slots.{with_first}
-use Rattle.mt_word.specs.Version.{VersionView, IsVersion, IsUnspent}
+use Rattle.mt_word.specs.Version.{VersionView}
 use Rattle.mt_border.specs.Entry.{entry_rank, IsEntry, IsContent, with_row, with_link, content_with_row, content_class, entry_suffix}
 use Rattle.mt_border.specs.Table.{first_changed, changed_at, left_slot, left_slots, number_at, slot_changed, with_entry, filled, blank_slot, picked, suffix_of_first}
-use Rattle.mt_border.specs.Border.{BorderView, entries_of, first_held, first_suffix, inserting_version, with_inserting, with_key, with_filled, with_hidden, with_value, with_unstable, with_link_at, with_written, with_splitting, with_half_linked, suffix_at}
-use Rattle.mt_border.specs.Keys.{key_seen, IsKey}
+use Rattle.mt_border.specs.Border.{BorderView, entries_of, first_suffix, inserting_version, with_filled, with_hidden, with_value, with_unstable, with_link_at, with_half_linked, suffix_at}
 use Rattle.mt_border.specs.Order.{IsBorder, IsUnwritten, AwaitsValue, AwaitsLink, IsOrdered, AreEntries, HoldEntries, AreBelow, IsLeftOf}
 use Rattle.mt_border.proofs.TableLemmas.{live_below, suffix_read}
 use Rattle.mt_border.proofs.SlotLemmas.{live_count, seen_changed, seen_hidden, seen_filled, seen_split}
@@ -219,41 +218,6 @@ pub inserting_deleted : (held : Bool) (v : VersionView) → (inserting_version h
 inserting_deleted true v = refl
 inserting_deleted false v = refl
 
-inserting_border : (held : Bool) (v : VersionView) → (inserting_version held v).border ≡ v.border
-inserting_border true v = refl
-inserting_border false v = refl
-
--- it is locked, so it may be marked
-inserting_locked : (held : Bool) (v : VersionView) → v.locked ≡ true → (inserting_version held v).locked ≡ true
-inserting_locked true v locked = locked
-inserting_locked false v locked = locked
-
-inserting_unspent : (held : Bool) (v : VersionView) → (held ≡ true → v.vinsert < 2 ^ 56 - 1) → IsUnspent v → IsUnspent (inserting_version held v)
-inserting_unspent true v room h = record { inserts = λ set. room refl; splits = h.splits }
-inserting_unspent false v room h = h
-
-inserting_counters : (held : Bool) (v : VersionView) → IsVersion v → IsVersion (inserting_version held v)
-inserting_counters true v h = record { vinsert_fits = h.vinsert_fits; vsplit_fits = h.vsplit_fits }
-inserting_counters false v h = h
-
-pub border_inserting : (b : BorderView) → b.version.locked ≡ true → b.unwritten ≡ Nothing → (first_held b.unused ≡ true → b.version.vinsert < 2 ^ 56 - 1) → IsBorder b → IsBorder (with_inserting b)
-border_inserting b locked written unspent h = record {
-  seen = h.seen;
-  slots = h.slots;
-  low_fits = h.low_fits;
-  ordered = h.ordered;
-  entries = h.entries;
-  held_back = h.held_back;
-  from_low = h.from_low;
-  left_of = h.left_of;
-  deleted_empty = λ deleted. h.deleted_empty (sym (inserting_deleted (first_held b.unused) b.version) ∙ deleted);
-  border = inserting_border (first_held b.unused) b.version ∙ h.border;
-  flags = λ set. inserting_locked (first_held b.unused) b.version locked;
-  unspent = inserting_unspent (first_held b.unused) b.version unspent h.unspent;
-  counters = inserting_counters (first_held b.unused) b.version h.counters;
-  pending = all_written (with_inserting b) written;
-}
-
 -- something else of it is unwritten
 pub border_left : (b : BorderView) (left : Unwritten) → IsUnwritten (record b { unwritten = left }) left → IsBorder b → IsBorder (record b { unwritten = left })
 border_left b left pending h = record {
@@ -272,9 +236,6 @@ border_left b left pending h = record {
   counters = h.counters;
   pending = pending;
 }
-
-pub border_keyed : (b : BorderView) (key : SlotKey) → length b.live < 15 → b.version.locked ≡ true → (first_held b.unused ≡ true → b.version.inserting ≡ true) → IsKey (key_seen key) → IsBorder b → IsBorder (with_key b key)
-border_keyed b key room locked marked whole h = border_left b (Value key) (record { locked = locked; room = room; flagged = marked; whole = whole }) h
 
 hold_filled : (entry : Entry) (slots : List Slot) → IsEntry entry → HoldEntries slots → HoldEntries (first_changed (filled entry) slots)
 hold_filled entry [] g h = h
@@ -309,28 +270,6 @@ border_filled b entry room g h = record {
 take_none : (k : ℕ) (xs : List Entry) → xs ≡ [] → take k xs ≡ []
 take_none zero xs e = refl
 take_none (suc k) xs e = ap (λ (t : List Entry). take (suc k) t) e
-
--- the border is marked as one that is being split
-pub border_splitting : (b : BorderView) → b.version.locked ≡ true → b.unwritten ≡ Nothing → b.version.vsplit < 2 ^ 64 - 1 → IsBorder b → IsBorder (with_splitting b)
-border_splitting b locked written unspent h = record {
-  seen = h.seen;
-  slots = h.slots;
-  low_fits = h.low_fits;
-  ordered = h.ordered;
-  entries = h.entries;
-  held_back = h.held_back;
-  from_low = h.from_low;
-  left_of = h.left_of;
-  deleted_empty = h.deleted_empty;
-  border = h.border;
-  flags = λ set. locked;
-  unspent = record { inserts = h.unspent.inserts; splits = λ set. unspent };
-  counters = record { vinsert_fits = h.counters.vinsert_fits; vsplit_fits = h.counters.vsplit_fits };
-  pending = all_written (with_splitting b) written;
-}
-
-pub border_written : (b : BorderView) → IsBorder b → IsBorder (with_written b)
-border_written b h = border_left b Nothing tt h
 
 -- the key of the entry at a place is unstable
 pub border_unstable : (b : BorderView) (i : ℕ) → i < length b.live → IsSome (first_suffix (drop i b.live)) → b.version.locked ≡ true → IsBorder b → IsBorder (with_unstable b i)

@@ -1,5 +1,5 @@
 -- What a border shows once its table has changed.
-use Rattle.std.proofs.Common.{◌≡◌, ℕ, zero, suc, ◌+◌, ◌-◌, ◌^◌, ◌<◌, ◌≤◌, List, [], ◌∷◌, ◌++◌, length, take, drop, get_or, set, refl, sym, ap, ◌∙◌, arith, subst, append_assoc, length-append, Option, Some, IsSome, Bool, true, slice_get, unwrap_or}
+use Rattle.std.proofs.Common.{◌≡◌, ℕ, zero, suc, ◌+◌, ◌-◌, ◌<◌, ◌≤◌, List, [], ◌∷◌, ◌++◌, length, take, drop, get_or, set, refl, sym, ap, ◌∙◌, arith, subst, append_assoc, length-append, Option, Some, IsSome, true, unwrap_or}
 use Rattle.std.proofs.lemmas.List.{take_all, drop_all, drop-drop, length-map, get_or-set_same, set-set, length-set, take_more, drop_more, length-take, length-drop}
 use Rattle.mt_types.specs.declared.row.Row.{Row}
 use Rattle.mt_types.specs.declared.numbers.NodeNo.{NodeNo}
@@ -7,11 +7,11 @@ use Rattle.mt_word.specs.Slots.{Slots, with_first_unused_at, without_place, with
 use Rattle.mt_word.specs.Version.{VersionView}
 use Rattle.mt_border.specs.Entry.{IsEntry, entry_with, at_version, with_row, with_link}
 use Rattle.mt_border.specs.Table.{TableView, IsSlotTable, blank_slot, live_slots, number_at, next_number, slot_changed, left_slot, with_entry, filled, marked, with_all_filled, with_more_live, row_of_first, suffix_of_first}
-use Rattle.mt_border.specs.Border.{BorderView, border_view, entries_of, first_held, first_row, first_suffix, inserting_version, with_inserting, with_filled, with_shown, with_hidden, with_value, with_link_at, with_entries, with_half_linked, suffix_at}
+use Rattle.mt_border.specs.Border.{BorderView, border_view, entries_of, first_row, first_suffix, with_filled, with_shown, with_hidden, with_value, with_link_at, with_entries, with_half_linked, suffix_at}
 use Rattle.mt_border.specs.Order.{IsBorder, AreBelow}
 use Rattle.mt_border.proofs.TableLemmas.{length-picked, next_below, room_left}
 use Rattle.mt_border.proofs.SlotLemmas.{view_of_seen, length-with_all_filled}
-use Rattle.mt_border.proofs.BorderLemmas.{suffix_seen, border_value, border_unstable, border_link, border_hidden, awaits, border_inserting, border_filled, border_half_linked}
+use Rattle.mt_border.proofs.BorderLemmas.{suffix_seen, border_value, border_unstable, border_link, border_hidden, awaits, border_filled, border_half_linked}
 use Rattle.mt_border.specs.declared.entry.Entry.{Entry}
 use Rattle.mt_border.specs.declared.entry.RightLink.{RightLink}
 use Rattle.mt_border.specs.declared.slot_table.Slot.{Slot}
@@ -80,10 +80,6 @@ row_seen zero (x ∷ xs) = refl
 row_seen (suc i) [] = refl
 row_seen (suc i) (x ∷ xs) = row_seen i xs
 
-first_held_is : (slots : List Slot) (slot : Slot) → slice_get slots 0 ≡ Some slot → first_held slots ≡ slot.held_key
-first_held_is [] slot e = cc
-first_held_is (x ∷ xs) slot e = ap (λ (s : Slot). s.held_key) (let same : x ≡ slot = cc in same)
-
 -- ---- the border over its new table
 -- a slot that is changed twice
 changed_twice : (n : ℕ) (f g : Slot → Slot) (xs : List Slot) → n < length xs → slot_changed n g (slot_changed n f xs) ≡ slot_changed n (λ x. g (f x)) xs
@@ -129,16 +125,6 @@ module _ (layer low : ℕ) (right : Option RightLink) (version : VersionView) (t
   -- its key is marked unstable before
   pub sound_unstable : (i number : ℕ) → i < length b.live → IsSome (first_suffix (drop i b.live)) → version.locked ≡ true → number ≡ number_at i t.order → IsBorder b → IsBorder (border_view layer low right version t (LinkAt number))
   sound_unstable i number within long locked same h = subst (λ (n : ℕ). IsBorder (border_view layer low right version t (LinkAt n))) (sym same) (border_unstable b i within long locked h)
-
-  -- the border is marked, and the key and the value of the first unused slot are written
-  pub sound_inserting : (slot : Slot) (flagged : VersionView) → version.locked ≡ true → left ≡ Nothing → slice_get b.unused 0 ≡ Some slot → flagged ≡ inserting_version slot.held_key version → (slot.held_key ≡ true → version.vinsert < 2 ^ 56 - 1) → IsBorder b →
-      let new : BorderView = border_view layer low right flagged t left in
-      (new ≡ with_inserting b) × IsBorder new
-  sound_inserting slot flagged locked written first e unspent h =
-      let held : first_held b.unused ≡ slot.held_key = first_held_is b.unused slot first in
-      let same : inserting_version (first_held b.unused) version ≡ flagged = ap (λ (held : Bool). inserting_version held version) held ∙ sym e in
-      let seen : border_view layer low right flagged t left ≡ with_inserting b = ap (λ (v : VersionView). border_view layer low right v t left) (sym same) in
-      (seen, subst IsBorder (sym seen) (border_inserting b locked written (λ was. unspent (sym held ∙ was)) h))
 
   pub sound_filled : (own : SlotKey) (row : Row) (entry : Entry) → left ≡ Value own → entry ≡ entry_with own row → IsEntry entry → IsBorder b →
       let new : BorderView = border_view layer low right version (record t { slots = slot_changed (next_number t.order) (filled entry) t.slots }) Nothing in

@@ -7,7 +7,6 @@ use Rattle.mt_types.specs.declared.row.Row.{Row}
 use Rattle.mt_chart.specs.Tree.{PlainContent, short, long, link, PlainEntry, Right, Arena, Among, first, later, Below, no_right, before_right, HoldsRow}
 use Rattle.mt_chart.specs.Chart.{top, Chart, Holds, class}
 use Rattle.mt_chart.specs.Walk.{Known}
-use Rattle.mt_chart.proofs.HeldNodes.{known_holds}
 use Rattle.mt_chart.specs.ScanRun.{Stood, AllHave, EntriesInOrder}
 use Rattle.mt_chart.specs.Noted.{plain, SlotSeen, FieldsSeen, IsSameKey, IsTrueEntry, IsNoted, AreRead, entries_in}
 use Rattle.mt_chart.specs.NotedList.{IsNotedList}
@@ -116,10 +115,6 @@ module _ (show : Row → Row) (chart : Chart) (begun : ℕ) (past : List Arena) 
   pub link_known : (number slice : ℕ) → HasLinkKey show chart begun past prefix f number slice → (head : ℕ) → (f.slot number).entry.content ≡ link head → Known chart begun head top (slice ∷ prefix) 0
   link_known number slice found head is =
       subst (λ (s : ℕ). Known chart begun head top (s ∷ prefix) 0) (found.noted.same.slice ∙ found.at_slice) (found.noted.true.link head is)
-
-  pub link_held : (number slice : ℕ) → HasLinkKey show chart begun past prefix f number slice → (head : ℕ) → (f.slot number).entry.content ≡ link head → (sought : ℕ) → Holds chart begun head (slice ∷ prefix) sought
-  link_held number slice found head is sought =
-      known_holds chart begun head (slice ∷ prefix) (link_known number slice found head is) sought
 
   -- ---- a range reads a slot, key and value
   -- one more was read

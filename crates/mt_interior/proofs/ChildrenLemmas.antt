@@ -1,5 +1,5 @@
 -- Lists of children: the one for a slice, and each change of one.
-use Rattle.std.proofs.Common.{◌≡◌, ℕ, zero, suc, ◌+◌, ◌-◌, ◌<◌, ◌≤◌, List, [], ◌∷◌, ◌++◌, length, take, drop, set, get_or, refl, sym, ap, arith, inl, inr, true, false, Some, slice_get, nat_le, IsSomeAnd}
+use Rattle.std.proofs.Common.{◌≡◌, ℕ, zero, suc, ◌+◌, ◌-◌, ◌<◌, ◌≤◌, List, [], ◌∷◌, length, take, drop, set, get_or, refl, sym, ap, arith, inl, inr, true, false, slice_get, nat_le, IsSomeAnd}
 use Rattle.std.specs.List.{All, insert, remove}
 use Rattle.std.specs.List.Sorted.{IsPartitionPoint, IsPartitionedBy}
 use Rattle.std.proofs.lemmas.Bool.{cases_lt, cases_eq, leb-true, leb-false}
@@ -170,10 +170,3 @@ lower-renamed zero level above node (child ∷ children) lower each (suc k) d wi
 lower-renamed (suc place) level above node (child ∷ children) lower each zero d within = each zero d (omega arith)
 lower-renamed (suc place) level above node (child ∷ children) lower each (suc k) d within =
     lower-renamed place level above node children lower (λ m e inside. each (suc m) e (omega arith)) k d (omega (arith, within))
-
--- For callers of `bypass`: what stands before the place and after it stays.
-pub renamed-between : (place level : ℕ) (node : NodeNo) (children : List Child) (child : Child) → slice_get children place ≡ Some child →
-    renamed place node level children ≡ take place children ++ (record child { node = node; level = level } ∷ drop (suc place) children)
-renamed-between place level node [] child read = absurd (cc)
-renamed-between zero level node (first ∷ children) child read = let same : first ≡ child = cc in ap (λ (c : Child). record c { node = node; level = level } ∷ children) same
-renamed-between (suc place) level node (first ∷ children) child read = ap (λ (rest : List Child). first ∷ rest) (renamed-between place level node children child read)

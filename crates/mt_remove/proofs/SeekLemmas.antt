@@ -1,5 +1,5 @@
 -- The steps of a tidy on its way.
-use Rattle.std.proofs.Common.{ℕ, ◌≡◌, ◌≢◌, ◌≤◌, ◌+◌, ◌*◌, ◌-◌, ◌==◌, not, inl, inr, List, [], ◌∷◌, length, Option, Some, None, Bool, true, false, refl, sym, ap, subst, ◌∙◌, arith, add-one}
+use Rattle.std.proofs.Common.{ℕ, ◌≡◌, ◌≢◌, ◌≤◌, ◌+◌, ◌-◌, ◌==◌, not, inl, inr, List, [], ◌∷◌, length, Option, Some, None, Bool, true, false, refl, sym, ap, subst, ◌∙◌, arith, add-one}
 use Rattle.std.specs.Prelude.{IsSome, IsSomeAnd, if◌then◌else◌}
 use Rattle.std.proofs.lemmas.Bool.{eq-eqb}
 use Rattle.mt_types.specs.declared.numbers.NodeNo.{NodeNo}
@@ -108,9 +108,6 @@ module _ (epoch : ℕ) (a : ArenaView) (tidy : Tidy) (noted : Noted) (is : tidy.
 
   go_there : MayGo a tidy.key tidy.way
   go_there = may_go a tidy.key tidy.way epoch may.begun may.w may.world truth.0
-
-  pub may_within : 8 * tidy.way.layer ≤ length tidy.key - 1
-  may_within = go_there.within
 
   pub may_named : IsSome (node_at a.nodes at_node)
   may_named = go_there.may.named

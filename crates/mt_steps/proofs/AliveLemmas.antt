@@ -48,13 +48,6 @@ WasOn chart next number = (prefix : List ℕ) → IsInLayer next number prefix �
 pub same_on : (chart next : Chart) (number : ℕ) → next number ≡ chart number → WasOn chart next number
 same_on chart next number same prefix stands = record { level = stands.level; low = stands.low; posted = stands.posted; place = sym same ∙ stands.place }
 
--- if the place of one number changes, and it is on only if it was, so is every number
-pub changed_on : (chart next : Chart) (at : ℕ) (place : Option Spot) → Changes chart next at place → WasOn chart next at → (number : ℕ) → WasOn chart next number
-changed_on chart next at place changes was number = elim (same_number number at) [
-  | inl e ↦ subst (λ (m : ℕ). WasOn chart next m) (sym e) was
-  | inr differ ↦ same_on chart next number (changes.rest number differ)
-]
-
 -- what is named and stands as it was
 pub alive_same : (a after : ArenaView) (chart next : Chart) (number : ℕ) → node_at after.nodes number ≡ node_at a.nodes number → WasOn chart next number → IsAliveIfFree a chart number → IsAliveIfFree after next number
 alive_same a after chart next number same was alive prefix stands node is free = alive prefix (was prefix stands) node (sym same ∙ is) free

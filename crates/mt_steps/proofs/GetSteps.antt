@@ -1,6 +1,6 @@
 -- The step of a get that reads one field: its law, by what it is lent.
 use Rattle.std.proofs.Common.{ℕ, suc, ◌≡◌, ◌<◌, ◌≤◌, ◌+◌, ◌*◌, inl, inr, List, [], ◌∷◌, length, Option, Some, None, refl, sym, ap, subst, ◌∙◌, arith}
-use Rattle.std.specs.Prelude.{◌-◌, slice_index, Result, Ok, Err, IsSome, IsErr, IfOk}
+use Rattle.std.specs.Prelude.{◌-◌, slice_index, Result, Ok, IsSome, IfOk}
 use Rattle.mt_types.specs.declared.refusal.NoMemory.{NoMemory as NoMemoryError}
 use Rattle.std.specs.Option.{option_and_then}
 use Rattle.mt_slice.specs.Place.{AreBytes, slice_number}
@@ -224,10 +224,6 @@ module _ (a : ArenaView) (get : Get) (rest : List ℕ) (rest_is : rest ≡ rest_
   own_reads =
       subst (λ (r : List ℕ). FindReads a get.way.node.0 r get.columns get.finding result) rest_is
       (subst (λ (x : Finding). FindReads a get.way.node.0 rest get.columns x result) finding_is reads)
-
-  -- out of memory
-  pub follows_refused : (error : NoMemoryError) → result ≡ Err error → (new : Get) → GetFollows a get (Refused NoMemory) new
-  follows_refused error is new = record { part = own_reads.part; lent = own_reads.lent; does = inl (refl, own_reads.takes (subst IsErr (sym is) refl)) }
 
   module _ (reading : FindReading) (is : result ≡ Ok reading) (dest : Finding) (p : Progress) (progress : p ≡ progress_of reading) (new : Get) (after : new ≡ get_after (record get { finding = dest }) reading) where
     abbrev part : Part

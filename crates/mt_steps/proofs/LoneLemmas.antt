@@ -54,7 +54,3 @@ module _ (a : ArenaView) (now : ℕ) (w : World) (world : IsWorld a now w) (numb
   untaken_alive stands (Head h) named = head_alive h stands (ap (option_and_then head_of) named)
   untaken_alive stands (Interior i) named = inner_alive stands (Interior i) (interior (interior_seen i)) named (seen-interior a number i (ap (option_and_then interior_of) named)) (λ h e. (let clash : interior (interior_seen i) ≡ head h = e in cc))
   untaken_alive stands (Border b) named = inner_alive stands (Border b) (border (border_seen b)) named (seen-border a number b (ap (option_and_then border_of) named)) (λ h e. (let clash : border (border_seen b) ≡ head h = e in cc))
-
--- WHERE NOTHING IS TAKEN, no node of the tree that is on is marked deleted
-pub lone_alive : (a : ArenaView) (now : ℕ) (w : World) → IsWorld a now w → ((number : ℕ) → IsTaken a w number → ⊥) → (number : ℕ) → IsOn w.chart number → (node : Node) → node_at a.nodes number ≡ Some node → is_marked node ≡ false
-lone_alive a now w world free number stands node named = untaken_alive a now w world number (free number) stands node named

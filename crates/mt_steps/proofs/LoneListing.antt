@@ -1,6 +1,6 @@
 -- A range or build alone: what it has noted of a border is what the border has, and each field that it reads brings it
 -- nearer to the end of the border.
-use Rattle.std.proofs.Common.{ℕ, ◌≡◌, ◌<◌, ◌≤◌, ◌+◌, ◌-◌, ◌*◌, ◌⊎◌, inl, inr, List, [], ◌∷◌, ◌++◌, length, Option, Some, Bool, true, false, if◌then◌else◌, refl, sym, ap, subst, ◌∙◌, arith}
+use Rattle.std.proofs.Common.{ℕ, ◌≡◌, ◌<◌, ◌+◌, ◌-◌, ◌*◌, ◌⊎◌, inl, inr, List, [], ◌∷◌, ◌++◌, length, Option, Some, Bool, true, false, if◌then◌else◌, refl, sym, ap, subst, ◌∙◌, arith}
 use Rattle.std.specs.Prelude.{nat_lt, slice_index, IsSome}
 use Rattle.std.specs.Option.{option_copied, option_map, option_and_then}
 use Rattle.mt_types.specs.declared.row.Row.{Row}
@@ -95,14 +95,6 @@ list_left (Bounded counters right) = 38
 list_left (Reads notes) = 37 - 2 * notes.place
 list_left (AtValue notes key) = 36 - 2 * notes.place
 list_left (Settles counters listed) = 1
-
-pub list_left_most : (listing : Listing) → list_left listing ≤ 40
-list_left_most Begins = omega arith
-list_left_most (Looked counters) = omega arith
-list_left_most (Bounded counters right) = omega arith
-list_left_most (Reads notes) = omega arith
-list_left_most (AtValue notes key) = omega arith
-list_left_most (Settles counters listed) = omega arith
 
 -- WHERE A READING LEADS IT: nearer to the end of the border, or by a move to another node; it doesn't wait
 abbrev pub ListGoes : ArenaView → ℕ → Listing → ListReading → Type 0

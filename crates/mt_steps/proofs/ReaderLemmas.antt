@@ -23,7 +23,7 @@ use Rattle.mt_chart.specs.Tree.{Below, no_right, before_right}
 use Rattle.mt_tree.specs.Descent.{visit_head, visit_interior, to_child, is_marked}
 use Rattle.mt_tree.specs.Seen.{right_seen}
 use Rattle.mt_tree.specs.declared.visit.Visit.TheVariants.{Again as VisitAgain, To as VisitTo}
-use Rattle.mt_steps.specs.Reader.{by_visit, IsOn, ReadWaits, MayRead, counters_of, same_counters, by_mark, looked, bounded, settled}
+use Rattle.mt_steps.specs.Reader.{by_visit, ReadWaits, MayRead, counters_of, same_counters, by_mark, looked, bounded, settled}
 use Rattle.mt_steps.specs.Standing.{Lends}
 use Rattle.mt_steps.specs.declared.reader.Reader.{Reader}
 use Rattle.mt_steps.specs.declared.reader.Reader.TheVariants.{Begins, Looked, Bounded}
@@ -86,14 +86,6 @@ lent_of a number field part is sound arena = go (node_at a.nodes number) refl is
     go : (node : Option Node) → node_at a.nodes number ≡ node → IsSomeAnd node (λ x. IsPart x field part) → IsSomeAnd node IsNode → Lends a number field part
     go (Some node) named is sound = record { node = node; named = named; sound = sound; is = is; arena = arena }
     go None named is sound = absurd is
-
--- a call that reads on does not wait
-pub on_waits : {N K F : Type 0} (Waits : Node → Type 0) (a : ArenaView) (number : ℕ) (reading : Reading N K F) → IsOn reading → ReadWaits Waits a number reading
-on_waits Waits a number (GoesOn reader) on = tt
-on_waits Waits a number Restarts on = absurd on
-on_waits Waits a number Repeats on = absurd on
-on_waits Waits a number (To node) on = absurd on
-on_waits Waits a number (Finds found) on = absurd on
 
 -- ---- where a reading leads, by what is so of each that it may be
 module _ {N K F : Type 0} (P : Reading N K F → Type 0) where

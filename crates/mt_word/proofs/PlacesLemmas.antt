@@ -3,10 +3,10 @@ use Rattle.std.proofs.Common.{◌≡◌, ℕ, zero, suc, ◌+◌, ◌-◌, ◌<�
 use borrow.Author.Tests.{ltb-true}
 use Rattle.std.specs.List.{list_all, insert, remove, All}
 use Rattle.std.specs.List.Sorted.{IsPermutation}
-use Rattle.std.proofs.lemmas.List.{take_at, drop_at, get_or-append_right, get_or_append_left, drop_more, take-append-drop, take-append-le, drop-append-le, get_or_default}
+use Rattle.std.proofs.lemmas.List.{take_at, drop_at, get_or-append_right, get_or_append_left, drop_more, take-append-drop, get_or_default}
 use Rattle.std.proofs.lemmas.List.Edits.{remove-append_left, remove-append_right, insert-append_left, length-insert, length-remove}
 use Rattle.std.proofs.lemmas.List.Sorted.{All-permutation, length_permutation, IsPermutation-trans, IsPermutation-remove, IsPermutation-insert}
-use Rattle.mt_word.specs.Slots.{all_slots, places, IsArranged, Slots, slots_at, with_first_unused_at, without_place, with_first}
+use Rattle.mt_word.specs.Slots.{all_slots, places, IsArranged, Slots, slots_at, with_first_unused_at, without_place}
 
 -- moving one element to another place keeps the elements
 moved_permutation : (all ps : List ℕ) (n i x : ℕ) → n < length ps → x ≡ get_or ps n x → IsPermutation all ps → IsPermutation all (insert (remove ps n) i x)
@@ -92,9 +92,6 @@ pub hidden_slots : (s : Slots) (ps qs rs : List ℕ) (n i x : ℕ) → n ≡ len
 hidden_slots s ps qs rs n i x count within named read taken put =
     let inside : i < length (places s) = omega (arith, length-append s.live s.unused) in
     rw (put, taken, named) (slots_at-hidden s.live s.unused n i x (sym count) (omega arith) (read_there ps (places s) i x named inside read))
-
-pub kept_slots : (s : Slots) (ps : List ℕ) (k : ℕ) → k ≤ length s.live → ps ≡ places s → slots_at k ps ≡ with_first s k
-kept_slots s ps k within named = rw (named, take-append-le k s.live s.unused within, drop-append-le k s.live s.unused within)
 
 -- the first place that is not live
 pub at_first_unused : (s : Slots) (n d : ℕ) → n ≡ length s.live → get_or (places s) n d ≡ get_or s.unused 0 d

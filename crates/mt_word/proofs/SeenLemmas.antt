@@ -9,7 +9,7 @@ use Rattle.std.proofs.lemmas.Bool.Decides.{eqb_tells}
 use Rattle.std.proofs.lemmas.List.{take_more, get_or-take, length-take-le, take_all, nil_from_length}
 use Rattle.std.proofs.lemmas.List.Elements.{Contains-append_cases, Contains-append_left, Contains-append_right}
 use Rattle.std.proofs.lemmas.List.Sorted.{IsPermutation-more, IsPermutation-refl, IsPermutation-sym, Contains-permutation, length_permutation}
-use Rattle.std.proofs.lemmas.Nat.Bits.{bit_at_set_same, bit_at_set_other, bit_at-zero, bit_at-lt, bit_at_ones, bit_at_ones_above, same_from_bits_below}
+use Rattle.std.proofs.lemmas.Nat.Bits.{bit_at_set_same, bit_at_set_other, bit_at-lt, bit_at_ones, bit_at_ones_above, same_from_bits_below}
 use Rattle.mt_word.proofs.PlacesLemmas.{left_true, right_true, slots_below}
 use Rattle.mt_word.specs.Fields.{fields}
 use Rattle.mt_word.specs.Round.{length-fields}
@@ -32,12 +32,6 @@ all_slots_at k d h = omega (arith, at_count 0 all_slots refl k d h)
 pub record IsSeen (seen : ℕ) (slots : List ℕ) : Type 0 where
   pub seen_there : (slot : ℕ) → bit_at seen slot ≡ 1 → Contains slots slot
   pub there_seen : (slot : ℕ) → Contains slots slot → bit_at seen slot ≡ 1
-
-pub seen_none : IsSeen 0 []
-seen_none = record {
-  seen_there = λ slot h. absurd (omega (arith, bit_at-zero slot));
-  there_seen = λ slot h. absurd (omega (arith, h.1));
-}
 
 -- a list of one has that one
 only_one : (x y : ℕ) → Contains (x ∷ []) y → y ≡ x

@@ -1,5 +1,5 @@
 -- The steps of a build as a call: each is a quiet one of the law.
-use Rattle.std.proofs.Common.{ℕ, ◌≡◌, ◌≤◌, ◌<◌, ◌+◌, inl, List, [], ◌∷◌, Option, Some, None, IsSome, true, false, refl, sym, subst}
+use Rattle.std.proofs.Common.{ℕ, ◌≡◌, ◌+◌, inl, List, [], ◌∷◌, Option, Some, None, IsSome, true, false, refl, sym, subst}
 use Rattle.mt_types.specs.declared.refusal.Refusal.TheVariants.{NoMemory}
 use Rattle.mt_commit.specs.Log.{LogView, newest}
 use Rattle.mt_arena.specs.Arena.{ArenaView}
@@ -8,15 +8,13 @@ use Rattle.mt_chart.proofs.HeldNodes.{evolves_same}
 use Rattle.mt_tree.specs.Seen.{arena_seen}
 use Rattle.mt_build.specs.Build.{BuildView, IsScanning}
 use Rattle.mt_build.proofs.ReadLemmas.{others_keep}
-use Rattle.mt_steps.specs.declared.progress.Progress.{Progress}
 use Rattle.mt_steps.specs.declared.progress.Progress.TheVariants.{Moved, Waits, Refused}
 use Rattle.mt_steps.specs.declared.reader.Reader.TheVariants.{Begins}
 use Rattle.mt_steps.specs.World.{World, IsWorld, AreOfKeys}
 use Rattle.mt_steps.proofs.FrameLemmas.{goes_same, quiet_same}
 use Rattle.mt_steps.proofs.RangeLemmas.{keys_again}
 use Rattle.mt_works.specs.declared.building.Building.{Building}
-use Rattle.mt_steps.specs.Causes.{ReadFails}
-use Rattle.mt_works.specs.Building.{BuildingIsTrue, BuildingLaw, ScanIsTrue, ScansOn, ScansAll, KeepsView, TakesNext, GoesOn, FailsAt, OnlyForMemory, IsInLog}
+use Rattle.mt_works.specs.Building.{BuildingIsTrue, BuildingLaw, ScanIsTrue, ScansOn, ScansAll, KeepsView, TakesNext, GoesOn}
 
 -- one moment more, in which nothing changes
 pub later : (w : World) (begun number : ℕ) (arena : Arena) (past : List Arena) (build : BuildView) → IsScanning w.chart begun (arena ∷ past) number build
@@ -73,9 +71,6 @@ pub as_truth : (a : ArenaView) (old : Building) → old.upto ≡ None → (begun
 as_truth a old scanning begun moves past w truth = subst (λ (u : Option ℕ). ScansOn u old.build old.node.0 old.listing begun past a w) scanning truth
 
 module _ (a : ArenaView) (log : LogView) (old : Building) (scanning : old.upto ≡ None) where
-  pub scan_fails : (p : Progress) → ReadFails a old.node.0 p → FailsAt a old.node.0 old.upto p
-  scan_fails p fails = subst (λ (u : Option ℕ). FailsAt a old.node.0 u p) (sym scanning) fails
-
   -- it scans on, and its view keeps what it is
   pub scans_on : (new : BuildView) → KeepsView old.build.state new.state → GoesOn a log old.upto old.build old.node.0 old.listing old.upto new
   scans_on new keeps = subst (λ (u : Option ℕ). GoesOn a log u old.build old.node.0 old.listing u new) (sym scanning) keeps
@@ -92,15 +87,7 @@ module _ (a : ArenaView) (log : LogView) (old : Building) (upto : ℕ) (scanned 
   pub takes : (new : BuildView) → TakesNext log old.build.state new.state → GoesOn a log old.upto old.build old.node.0 old.listing old.upto new
   takes new next = subst (λ (u : Option ℕ). GoesOn a log u old.build old.node.0 old.listing u new) (sym scanned) (refl, next)
 
-  pub take_fails : (p : Progress) → OnlyForMemory p → FailsAt a old.node.0 old.upto p
-  take_fails p fails = subst (λ (u : Option ℕ). FailsAt a old.node.0 u p) (sym scanned) fails
-
 -- a number that is known is one
 pub is_scanned : (upto : Option ℕ) → IsSome upto → (number : ℕ) × (upto ≡ Some number)
 is_scanned (Some number) some = (number, refl)
 is_scanned None some = absurd (let clash : false ≡ true = some in cc)
-
--- what it takes next is in the log
-pub in_log : (log : LogView) (at : ℕ) (upto : Option ℕ) → IsSome upto → IsInLog log at upto → (log.held_after ≤ at) × (at < newest log)
-in_log log at (Some number) some is = is
-in_log log at None some is = absurd (let clash : false ≡ true = some in cc)

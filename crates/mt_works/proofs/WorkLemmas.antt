@@ -85,9 +85,6 @@ may_tidy now C a log work tidy is m = record {
   true = subst (λ (x : Work). IsTrue C x m.begun m.moves m.past a m.w) is m.true;
 }
 
-pub may_build : (now C : ℕ) (a : ArenaView) (log : LogView) (work : Work) (building : Building) → work ≡ BuildWork building → MayWork now C a log work → MayStep a log nothing (BuildingIsTrue building)
-may_build now C a log work building is m = subst (λ (x : Work). MayStep a log (held x) (IsTrue C x)) is (may_step now C a log work m)
-
 -- ---- what others' steps leave
 -- the law of others' steps: if they don't change what a call owns, and each border ages, what is true of it stays true
 module _ (a after : ArenaView) (w next : World) (C begun moves : ℕ) (past : List Arena) (evolves : Evolves begun w.chart next.chart) where

@@ -19,7 +19,6 @@ use Rattle.mt_steps.specs.Way.{rest_of}
 use Rattle.mt_steps.proofs.FoundLemmas.{some_and}
 use Rattle.mt_write.specs.Follows.{EndsRefused}
 use Rattle.mt_write.specs.Causes.{ReadyFor, FailsBy, IsNotFailed, StageFails, put_fault, split_fault, fill_fault}
-use Rattle.std.proofs.lemmas.Bool.{eq-eqb}
 use Rattle.mt_word.specs.declared.permutation_word.TheConstants.{SLOTS}
 use Rattle.mt_border.specs.declared.found.Found.TheVariants.{Absent}
 use Rattle.mt_steps.proofs.SplitLemmas.{eqb-ne}
@@ -47,10 +46,6 @@ prepares_ok a log key way found made stage value is ready =
     let (b, named, found_is) = some_and _ (border_at a.nodes way.node.0) value in
     subst (λ (o : Option BorderView). IsSomeAnd o (λ x. FailsBy (put_fault a log x (found_for (rest_of key way) x.live)) None stage)) (sym named)
     (subst (λ (f : Found). FailsBy (put_fault a log b f) None stage) found_is (ready_ok (put_fault a log b found) made stage None (ready b named) is))
-
--- by whether the border is full
-pub full_ready : (a : ArenaView) (log : LogView) (b : BorderView) (place : ℕ) (made : Result Stage Refusal) → length b.live ≡ SLOTS → ReadyFor (split_fault a b) made → ReadyFor (put_fault a log b (Absent place)) made
-full_ready a log b place made full ready = subst (λ (t : Bool). ReadyFor (if t then split_fault a b else fill_fault log b) made) (sym (eq-eqb (length b.live) SLOTS full)) ready
 
 pub room_ready : (a : ArenaView) (log : LogView) (b : BorderView) (place : ℕ) (made : Result Stage Refusal) → length b.live < SLOTS → ReadyFor (fill_fault log b) made → ReadyFor (put_fault a log b (Absent place)) made
 room_ready a log b place made room ready = subst (λ (t : Bool). ReadyFor (if t then split_fault a b else fill_fault log b) made) (sym (eqb-ne (length b.live) SLOTS (λ e. omega (arith, room, e)))) ready

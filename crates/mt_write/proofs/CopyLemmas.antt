@@ -1,7 +1,6 @@
 -- The copies of a split: an entry of the upper half by its key and its value, and the half that is given back.
 use Rattle.std.proofs.Common.{ℕ, ◌≡◌, ◌≢◌, ◌<◌, ◌+◌, ◌-◌, ◌==◌, inl, inr, Bool, true, false, List, [], ◌∷◌, ◌++◌, length, map, take, drop, get_or, slice_get, Option, Some, None, IsSome, refl, sym, ap, subst, ◌∙◌, arith}
 use Rattle.std.specs.Prelude.{if◌then◌else◌, slice_index, IsSomeAnd}
-use Rattle.std.specs.List.{All}
 use Rattle.std.specs.Option.{option_and_then}
 use Rattle.std.proofs.lemmas.Bool.{eq-eqb, eqb-true}
 use Rattle.std.proofs.lemmas.List.{get_or-drop, get_or-map, length-drop, length-map, length-append, take_more, take_all}
@@ -29,7 +28,6 @@ use Rattle.mt_arena.specs.Node.{border_at, border_of, node_at, Updates}
 use Rattle.mt_arena.specs.declared.node.Node.{Node}
 use Rattle.mt_arena.specs.declared.part.Field.TheVariants.{Value as ValueField}
 use Rattle.mt_arena.specs.declared.part.Part.TheVariants.{Value as ValuePartOf}
-use Rattle.mt_arena.specs.declared.retired.Retired.{Retired}
 use Rattle.mt_arena.proofs.NodeLemmas.{node-from_border, updates-without}
 use Rattle.mt_chart.specs.Chart.{Chart, Spot}
 use Rattle.mt_chart.specs.Tree.{Among, first, later}
@@ -229,14 +227,6 @@ copied_fails half cut place outline copies = go (cut + length copies == SLOTS)
     go false = tt
 
 module _ (a : ArenaView) (write : Write) (half : NodeNo) (cut place : ℕ) (outline : Outline) (entries : List Entry) where
-  -- what its call asks for
-  pub may_copy : MayBeAt a write (Copies half cut place outline entries) → IsSomeAnd (border_at a.nodes write.way.node.0) (λ b. IsRead b outline × (cut + length entries < length b.live))
-  may_copy (C, log, may) =
-      let (b, at, flagged, c, s, read, are, p) = may.true.0 in
-      let full = c.full in
-      let some = are.some in
-      subst (λ (o : Option BorderView). IsSomeAnd o (λ x. IsRead x outline × (cut + length entries < length x.live))) (sym at.named) (read, omega (arith, full, some))
-
   pub some_left : MayBeAt a write (Copies half cut place outline entries) → cut + length entries < SLOTS
   some_left (C, log, may) = let (b, at, flagged, c, s, read, are, p) = may.true.0 in are.some
 
@@ -285,9 +275,6 @@ module _ (a : ArenaView) (write : Write) (half : NodeNo) (may : MayBeAt a write 
   -- what its calls ask for
   pub half_named : IsSome (node_at a.nodes half.0)
   half_named = let (C, log, m) = may in subst (λ (o : Option Node). IsSome o) (sym (node-from_border a.nodes half.0 _ m.true.0.2.named)) refl
-
-  pub half_kept : All (λ (retired : Retired). retired.node.0 ≢ half.0) a.retired
-  half_kept = let (C, log, m) = may in unknown_kept a m.now m.w.chart half.0 m.true.0.2.unknown m.world.retired
 
   differ : write.way.node.0 ≢ half.0
   differ = let (C, log, m) = may in λ e. unknown_known m.w half.0 write.way.node.0 m.true.0.2.unknown m.true.0.0.known e

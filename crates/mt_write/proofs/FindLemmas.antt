@@ -1,5 +1,5 @@
 -- What was found at the border of a key, said of the border that is there.
-use Rattle.std.proofs.Common.{ℕ, ◌≡◌, ◌∙◌, List, Option, Some, IsSome, refl, sym, subst}
+use Rattle.std.proofs.Common.{ℕ, ◌≡◌, ◌∙◌, List, Option, Some, sym, subst}
 use Rattle.std.specs.Prelude.{IsSomeAnd}
 use Rattle.mt_types.specs.declared.refusal.Refusal.{Refusal}
 use Rattle.mt_border.specs.Border.{BorderView}
@@ -18,9 +18,6 @@ one_border : (o : Option BorderView) (x b : BorderView) → o ≡ Some x → o �
 one_border o x b one other = (let both : ◌≡◌ {A = Option BorderView} (Some x) (Some b) = sym one ∙ other in cc)
 
 module _ (a : ArenaView) (key : List ℕ) (way : Way) (found : Found) (f : Finds a key way found) where
-  pub finds_some : IsSome (border_at a.nodes way.node.0)
-  finds_some = subst (λ (o : Option BorderView). IsSome o) (sym f.named) refl
-
   module _ (b : BorderView) (named : border_at a.nodes way.node.0 ≡ Some b) where
     pub found_is : found ≡ found_for (rest_of key way) b.live
     found_is = subst (λ (x : BorderView). found ≡ found_for (rest_of key way) x.live) (one_border (border_at a.nodes way.node.0) f.border b f.named named) f.is

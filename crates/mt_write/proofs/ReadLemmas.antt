@@ -37,7 +37,7 @@ use Rattle.mt_arena.specs.declared.part.Field.TheVariants.{Key as KeyField, Valu
 use Rattle.mt_arena.specs.declared.part.Part.{Part}
 use Rattle.mt_arena.specs.declared.part.Part.TheVariants.{Right as RightPart, Order as OrderPart, Key as KeyPartOf, Value as ValuePartOf}
 use Rattle.mt_arena.proofs.NodeLemmas.{node-from_border}
-use Rattle.mt_tree.specs.Descent.{found_for, IsLast}
+use Rattle.mt_tree.specs.Descent.{found_for}
 use Rattle.mt_tree.proofs.AgeLemmas.{entry_read}
 use Rattle.mt_steps.specs.Standing.{Lends}
 use Rattle.mt_steps.specs.Entering.{part_key, sought_then, sought_for, bounded_by, keys_read, next_key, value_there, wants, entered, EnteredIsTrue, EnteringIsTrue, absent_there, keys_with}
@@ -50,8 +50,6 @@ use Rattle.mt_steps.specs.declared.entering.Sought.{Sought}
 use Rattle.mt_steps.specs.declared.entering.Sought.TheVariants.{Before, At, After}
 use Rattle.mt_steps.specs.declared.entering.Entering.{Entering}
 use Rattle.mt_steps.specs.declared.entering.Entering.TheVariants.{Locked, Bounded, Reads as ReadsKey, AtValue}
-use Rattle.mt_steps.specs.declared.entering.There.{There}
-use Rattle.mt_steps.specs.declared.entering.There.TheVariants.{Absent, Full, Row as RowThere, Other}
 use Rattle.mt_steps.specs.declared.entering.Entered.{Entered}
 use Rattle.mt_steps.specs.declared.entering.Entered.TheVariants.{Enters, Right, Here}
 use Rattle.mt_steps.proofs.EnterLemmas.{entered_is}
@@ -256,10 +254,3 @@ module _ (a : ArenaView) (number : ℕ) (rest : List ℕ) (b : BorderView) (name
         let right : Goes (bounded_by b.right (right_for b.right (slice_number rest))) (suc n) = subst (λ (o : Option NodeNo). Goes (bounded_by b.right o) (suc n)) (sym none) order in
         let some : suc (suc n) ≡ 2 + length b.live + values = omega arith in
         subst (λ (k : ℕ). Goes (Enters Locked) k) some (one_more Locked (RightPart b.right) (suc n) refl right)
-
-  -- if it finds something at the border, a search finds no link
-  pub here_is_last : (there : There) → EnteredIsTrue rest (Here there) b → IsLast (found_for rest b.live)
-  here_is_last (Absent place) (below, (found, room)) = subst IsLast (sym found) tt
-  here_is_last (Full place keys) (below, (found, outlined, full, noted)) = subst IsLast (sym found) tt
-  here_is_last (RowThere place row) (below, (found, holds)) = subst IsLast (sym found) tt
-  here_is_last (Other place suffix row) (below, (found, stands)) = subst IsLast (sym found) tt

@@ -43,7 +43,7 @@ use Rattle.mt_write.specs.declared.writing.Ending.{Ending}
 use Rattle.mt_write.specs.declared.writing.Stage.{Stage}
 use Rattle.mt_write.specs.declared.writing.Stage.TheVariants.{Seeks, Searched, Copies, Spared, HalfFilled, HalfLinked, Posts, LayerSpared, LayerFilled, LayerReady, LayerMarked, LayerLinked, Layered, Reserved, KeyWritten, Filled, Made, Taken, Stored, Failed}
 use Rattle.mt_write.specs.Held.{edit_request, write_held, stage_held, ending_stage}
-use Rattle.mt_write.specs.Writing.{HasLocked, StageIsTrue, WriteIsTrue, MayStage}
+use Rattle.mt_write.specs.Writing.{StageIsTrue, WriteIsTrue, MayStage}
 use Rattle.mt_write.specs.Ready.{Prepares, PreparesRemove, put_delta, remove_delta}
 use Rattle.mt_write.specs.Causes.{StageWaits, StageFails, FailsBy, RemoveFailsBy, edit_fault, version_fault, put_fault, remove_fault}
 use Rattle.mt_write.specs.Follows.{WriteStep, TreeStep, MayBeAt, FindsNone, Follows, HeadGoes, PostsGo, IsMadeReady}
@@ -51,7 +51,6 @@ use Rattle.mt_write.proofs.WriteLemmas.{seek_waits, may_at}
 use Rattle.mt_write.proofs.ReadyLemmas.{readies}
 use Rattle.mt_write.proofs.CommitLemmas.{differs, takes, lacks, shows, writes, hides}
 use Rattle.mt_write.proofs.HalfLemmas.{spared_fill, filled_link, linked_cut}
-use Rattle.mt_chart.specs.Tree.{first}
 use Rattle.mt_border.specs.Entry.{key_of_rest}
 use Rattle.mt_border.specs.declared.unwritten.SlotKey.{SlotKey}
 use Rattle.mt_steps.specs.World.{World, IsLockedBorder}
@@ -145,11 +144,6 @@ module _ (a : ArenaView) (write : Write) where
 
   pub left_owned : (split : Halves) (ending : Ending) → MayBeAt a write (ending_stage ending (Some split)) → (w : World) × IsLockedBorder a w split.left.0
   left_owned split ending (C, log, may) = (may.w, (halves_locked C may.begun a may.w write.key write.edit write.way split ending may.true.0).0)
-
-  pub stage_owned : (split : Option Halves) (stage : Option Halves → Stage) → split ≡ None → ((C begun : ℕ) (w : World) → StageIsTrue C write.key write.edit write.way (stage None) begun a w → HasLocked (prefix_of write.key write.way) a w write.way.node.0 None) → MayBeAt a write (stage split) → (w : World) × IsLockedBorder a w write.way.node.0
-  stage_owned split stage none holds may =
-      let (C, log, m) = subst (λ (s : Option Halves). MayBeAt a write (stage s)) none may in
-      (m.w, (holds C m.begun m.w m.true.0).locked write.way.node.0 first)
 
   -- what its first unused slot asks for
   pub may_write_key : (new : Insertion) (slot_key : SlotKey) (row : Row) → MayBeAt a write (Reserved new slot_key row) → IsSomeAnd (border_at a.nodes write.way.node.0) (λ b. MayWriteKey b slot_key)
@@ -301,11 +295,6 @@ module _ (C : ℕ) (a after : ArenaView) (log left : LogView) (write : Write) wh
 module _ (C : ℕ) (a after : ArenaView) (log left : LogView) (write : Write) (stage : Stage) where
   at_stage : (at : Stage) → stage ≡ at → ((D : ℕ) × MayStage D a log write stage) → (D : ℕ) × MayStage D a log write at
   at_stage at is (D, may) = (D, subst (λ (st : Stage). MayStage D a log write st) is may)
-
-  pub commits_shown : (place : ℕ) (stored : List ℕ) (logged : List (List ℕ)) (number : ℕ) → stage ≡ Filled place stored logged None → number ≡ newest log + 1 → after ≡ with_border_changed a write.way.node.0 (λ b. with_shown b place (newest log + 1)) → ShowsNext a after write.way.node.0 (newest log + 1)
-      → left ≡ with_delta log (put_delta (newest log + 1) stored None logged) → ((D : ℕ) × MayStage D a log write stage) → WriteStep C a after log left write stage (Committed number) (record write { stage = Stored number None })
-  commits_shown place stored logged number is next shown keeps appended may = subst (λ (st : Stage). WriteStep C a after log left write st (Committed number) (record write { stage = Stored number None })) (sym is)
-      (shows_row C a after log left write place stored logged None number next shown keeps appended (at_stage (Filled place stored logged None) is may).1.room)
 
   pub commits_written : (place : ℕ) (stored : List ℕ) (columns logged : List (List ℕ)) (number : ℕ) → stage ≡ Made place stored columns logged → number ≡ newest log + 1 → after ≡ with_border_changed a write.way.node.0 (λ b. with_value b place (record { version = newest log + 1; columns = columns }))
       → SetsRowAt a after write.way.node.0 place (record { version = newest log + 1; columns = columns }) → IsSomeAnd (border_at a.nodes write.way.node.0) (λ b. left ≡ with_delta log (put_delta (newest log + 1) stored (row_at place b.live) logged)) → ((D : ℕ) × MayStage D a log write stage)

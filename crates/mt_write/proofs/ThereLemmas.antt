@@ -1,5 +1,5 @@
 -- What a put or remove has read of the border of its key, said of the border that is there.
-use Rattle.std.proofs.Common.{ℕ, ◌≡◌, ◌≤◌, ◌-◌, ◌*◌, ◌∙◌, List, length, Option, Some, None, IsSome, true, refl, sym, ap, subst}
+use Rattle.std.proofs.Common.{ℕ, ◌≡◌, ◌∙◌, List, length, Option, Some, None, IsSome, true, refl, sym, ap, subst}
 use Rattle.std.specs.Prelude.{IfSome, IsSomeAnd}
 use Rattle.mt_types.specs.Rows.{version_of}
 use Rattle.mt_types.specs.declared.row.Row.{Row}
@@ -10,10 +10,9 @@ use Rattle.mt_border.specs.Border.{BorderView, row_at}
 use Rattle.mt_border.specs.Order.{IsBorder}
 use Rattle.mt_border.specs.declared.found.Found.{Found}
 use Rattle.mt_border.specs.declared.found.Found.TheVariants.{Absent as AbsentFound, Row as RowFound, OtherSuffix}
-use Rattle.mt_border.specs.declared.unwritten.Unwritten.TheVariants.{Nothing}
 use Rattle.mt_arena.specs.Node.{border_at}
 use Rattle.mt_arena.specs.Arena.{ArenaView}
-use Rattle.mt_tree.specs.Descent.{IsFoundAt, IsLast, found_for, row_found}
+use Rattle.mt_tree.specs.Descent.{IsFoundAt, found_for, row_found}
 use Rattle.mt_tree.proofs.RowLemmas.{stands_at}
 use Rattle.mt_steps.specs.Entering.{ThereIsTrue}
 use Rattle.mt_steps.specs.declared.entering.There.{There}
@@ -57,25 +56,13 @@ no_row log (Full place outline) none = refl
 no_row log (RowThere place row) none = absurd (let clash : ◌≡◌ {A = Option Row} (Some row) None = none in cc)
 no_row log (Other place suffix row) none = refl
 
-pub last_told : (there : There) → IsLast (found_of there)
-last_told (Absent place) = tt
-last_told (Full place outline) = tt
-last_told (RowThere place row) = tt
-last_told (Other place suffix row) = tt
-
 -- ---- what its calls ask for, before the border is known to be sound
 module _ (C : ℕ) (a : ArenaView) (log : LogView) (write : Write) (there : There) (may : MayStage C a log write (Searched there)) where
   pub border_there : IsSome (border_at a.nodes write.way.node.0)
   border_there = let (b, at, told) = may.true.0 in subst (λ (o : Option BorderView). IsSome o) (sym at.named) refl
 
-  pub within_there : 8 * write.way.layer ≤ length write.key - 1
-  within_there = let (b, at, told) = may.true.0 in at.layer.within
-
   pub locked_there : IsSomeAnd (border_at a.nodes write.way.node.0) (λ b. b.version.locked ≡ true)
   locked_there = let (b, at, told) = may.true.0 in subst (λ (o : Option BorderView). IsSomeAnd o (λ b. b.version.locked ≡ true)) (sym at.named) at.locked
-
-  pub written_there : IsSomeAnd (border_at a.nodes write.way.node.0) (λ b. b.unwritten ≡ Nothing)
-  written_there = let (b, at, told) = may.true.0 in subst (λ (o : Option BorderView). IsSomeAnd o (λ b. b.unwritten ≡ Nothing)) (sym at.named) at.written
 
   -- ---- and once it is
   module _ (b : BorderView) (named : border_at a.nodes write.way.node.0 ≡ Some b) (sound : IsBorder b) where

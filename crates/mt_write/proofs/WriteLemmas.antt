@@ -12,8 +12,6 @@ use Rattle.mt_commit.specs.Log.{LogView, slowest}
 use Rattle.mt_border.specs.Border.{BorderView}
 use Rattle.mt_border.specs.declared.entry.Entry.{Entry}
 use Rattle.mt_border.specs.declared.entry.RightLink.{RightLink}
-use Rattle.mt_border.specs.declared.found.Found.{Found}
-use Rattle.mt_border.specs.declared.found.Found.TheVariants.{Absent, Row as RowFound, OtherSuffix, Link as LinkFound}
 use Rattle.std.specs.Option.{option_and_then}
 use Rattle.mt_arena.specs.Node.{border_at, border_of}
 use Rattle.mt_chart.proofs.Basics.{same_number}
@@ -24,7 +22,7 @@ use Rattle.mt_chart.specs.Chart.{Chart, OnBorder, spot, Spot, at_level, on}
 use Rattle.mt_chart.specs.Steps.{SameContent}
 use Rattle.mt_chart.specs.TreeLaws.{IsWhere}
 use Rattle.mt_tree.specs.Seen.{arena_seen, border_seen, right_seen}
-use Rattle.mt_tree.specs.Descent.{IsLast, found_for, row_found}
+use Rattle.mt_tree.specs.Descent.{IsLast, found_for}
 use Rattle.mt_tree.proofs.SeenLemmas.{seen-border}
 use Rattle.mt_steps.specs.declared.way.Way.{Way}
 use Rattle.mt_write.specs.declared.writing.Edit.{Edit}
@@ -38,7 +36,7 @@ use Rattle.mt_steps.specs.Way.{rest_of, prefix_of, IsLayerOf}
 use Rattle.mt_steps.specs.Step.{Held, Stepped, StepLaw, MayStep, put_row, Blocks, Commits, Changes, blocked_by, IsOfLog, MayRefuse, IsRight}
 use Rattle.mt_write.specs.Causes.{version_fault}
 use Rattle.mt_write.specs.Held.{put_request, edit_request, written_answer, stage_held}
-use Rattle.mt_write.specs.Writing.{IsAbsent, PutsNew, IsOtherwise, Tells, IsLockedAt, IsOwnedAt, HasOthers, HasLocked, AreHalves, StageIsTrue, HeadedStage}
+use Rattle.mt_write.specs.Writing.{PutsNew, IsOtherwise, Tells, IsLockedAt, IsOwnedAt, HasOthers, HasLocked, AreHalves, StageIsTrue, HeadedStage}
 use Rattle.mt_steps.specs.World.{IsLockedBorder}
 use Rattle.mt_steps.proofs.FrameLemmas.{goes_same, quiet_same}
 use Rattle.std.specs.Prelude.{IsTrue}
@@ -98,10 +96,6 @@ module _ (C : ℕ) (a : ArenaView) (key : List ℕ) (edit : Edit) (way : Way) (l
       may = tt;
     };
   }
-
--- ---- what is unwritten of the border of the key
-pub owned_at : (a : ArenaView) (key : List ℕ) (way : Way) (b : BorderView) (w : World) → IsLockedAt a key way b w → IsOwnedAt a key way b w
-owned_at a key way b w at = record { layer = at.layer; named = at.named; stands = at.stands; alive = at.alive; last = at.last; locked = at.locked; free = at.free }
 
 pub written_at : (a : ArenaView) (key : List ℕ) (way : Way) (b : BorderView) (w : World) → b.unwritten ≡ Nothing → IsOwnedAt a key way b w → IsLockedAt a key way b w
 written_at a key way b w written at = record { layer = at.layer; named = at.named; stands = at.stands; alive = at.alive; last = at.last; locked = at.locked; written = written; free = at.free }
@@ -219,12 +213,6 @@ otherwise_tells a w key way _ split otherwise = otherwise
 pub split_otherwise : (a : ArenaView) (w : World) (key : List ℕ) (way : Way) (refusal : Refusal) (split : Halves) → Tells a w key way refusal (Some split) → IsOtherwise refusal
 split_otherwise a w key way (OtherVersion other) split tells = tells
 split_otherwise a w key way _ split tells = tells
-
-pub none_agrees : (only : Option ℕ) (live : List Entry) (found : Found) → IsAbsent found → version_fault only (row_found live found) ≡ None → version_fault only None ≡ None
-none_agrees only live (Absent place) absent agrees = agrees
-none_agrees only live (RowFound place) absent agrees = absurd absent
-none_agrees only live (OtherSuffix place) absent agrees = absurd absent
-none_agrees only live (LinkFound place top) absent agrees = absurd absent
 
 pub own_agrees : (sets : List (ℕ × List ℕ)) (only : Option ℕ) → (p : PutsNew (PutEdit sets only)) → version_fault only None ≡ None
 own_agrees sets only p = let same : only ≡ p.only = (let both : PutEdit sets only ≡ PutEdit p.sets p.only = p.is_put in cc) in subst (λ (o : Option ℕ). version_fault o None ≡ None) (sym same) p.agrees

@@ -1,5 +1,5 @@
 -- What comes of calls on what a handle holds, case by case.
-use Rattle.std.proofs.Common.{◌≡◌, ◌<◌, ◌≤◌, ℕ, suc, List, [], ◌∷◌, Bool, true, refl, sym, ap, subst, inl, inr, arith}
+use Rattle.std.proofs.Common.{◌≡◌, ◌<◌, ◌≤◌, ℕ, suc, List, Bool, true, refl, sym, ap, subst, inl, inr, arith}
 use Rattle.std.specs.Prelude.{Option, Some, None, Result, Ok, Err, MatchOption}
 use Rattle.std.specs.Option.{option_or}
 use Rattle.std.proofs.lemmas.Bool.Decides.{leb_tells}
@@ -24,14 +24,6 @@ use Rattle.rowanspan_c.specs.Told.{TellsEnd, TellsOutcome}
 use Rattle.rowanspan_c.specs.Calls.{Changes, EndsAlone, Meets, Opens, StandsNext}
 
 -- ---- quiet
-
-nil : {X : Type 0} (xs : List X) → is_nil xs ≡ true → xs ≡ []
-nil [] e = refl
-nil (x ∷ xs) e = cc
-
--- no call is open on what a quiet handle holds
-pub quiet-idle : (held : Option MachineView) (s : MachineView) → held ≡ Some s → is_quiet held ≡ true → IsIdle s
-quiet-idle held s is quiet = nil s.calls.calls (subst (λ (h : Option MachineView). is_quiet h ≡ true) is quiet)
 
 pub idle-quiet : (s : MachineView) → IsIdle s → is_quiet (Some s) ≡ true
 idle-quiet s idle = ap is_nil idle

@@ -1,5 +1,5 @@
 -- Bytes written into a buffer, one write after another.
-use Rattle.std.proofs.Common.{◌≡◌, ◌≤◌, ◌<◌, ◌+◌, ℕ, List, [], ◌∷◌, ◌++◌, length, take, drop, get_or, inl, refl, sym, ap, subst, ◌∙◌, append_assoc, arith, length-append, length-take-le, length-drop, drop-drop}
+use Rattle.std.proofs.Common.{◌≡◌, ◌≤◌, ◌<◌, ◌+◌, ℕ, List, [], ◌++◌, length, take, drop, get_or, inl, refl, sym, ap, subst, ◌∙◌, append_assoc, arith, length-append, length-take-le, length-drop, drop-drop}
 use Rattle.std.specs.List.{flat_map}
 use Rattle.std.proofs.lemmas.List.{take_more, flat_map_more, take-append-drop}
 use Rattle.std.proofs.lemmas.List.Folds.{length-flat_map-take}
@@ -37,14 +37,6 @@ then_writes a b old mid new at p q first second =
       second.3 ∙ first.3,
     )
 
--- nothing is written
-pub writes_none : (old : List ℕ) (at : ℕ) → Writes [] at old old at
-writes_none old at = (omega arith, sym (append_nil_is (take at old)), refl, refl)
-  where
-    append_nil_is : (xs : List ℕ) → xs ++ [] ≡ xs
-    append_nil_is [] = refl
-    append_nil_is (x ∷ xs) = ap (λ (ys : List ℕ). x ∷ ys) (append_nil_is xs)
-
 -- the next item of a list is written after those before it
 pub writes_more : {X : Type 0} (f : X → List ℕ) (xs : List X) (i : ℕ) (d : X) (old mid new : List ℕ) (at p q : ℕ)
     → i < length xs → Writes (flat_map f (take i xs)) at old mid p → Writes (f (get_or xs i d)) p mid new q
@@ -60,13 +52,6 @@ pub has_room : {X : Type 0} (f : X → List ℕ) (xs : List X) (i : ℕ) (d : X)
     → p + length (f (get_or xs i d)) ≤ length mid
 has_room f xs i d old mid at p inside fits so_far =
     omega (arith, fits, so_far.0, so_far.3, length-flat_map-take f xs i d inside)
-
--- the length so far, with the next item
-pub length_more : {X : Type 0} (f : X → List ℕ) (xs : List X) (i : ℕ) (d : X) → i < length xs
-    → length (flat_map f (take (i + 1) xs)) ≡ length (flat_map f (take i xs)) + length (f (get_or xs i d))
-length_more {X} f xs i d inside =
-    ap length (ap (flat_map f) (take_more xs i d inside) ∙ sym (flat_map_more f [] (take i xs) (get_or xs i d)))
-    ∙ length-append (flat_map f (take i xs)) (f (get_or xs i d))
 
 -- an answer that was written at the start of the buffer is handed out
 pub handed_out : (bytes old new : List ℕ) (count after : ℕ) → count ≡ length bytes → count ≤ length old
