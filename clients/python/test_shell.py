@@ -152,6 +152,18 @@ class ShellTest(unittest.TestCase):
         self.assertEqual((done.returncode, done.stdout), (3, b""))
         self.assertEqual(done.stderr, b"rowan: there is no library at /nowhere/librowanspan.so\n")
 
+    def test_licences(self) -> None:
+        done = subprocess.run([sys.executable, str(SHELL), "--licenses"], input=b"", capture_output=True,
+                              timeout=SECONDS, check=False)
+        made = SHELL.parents[2] / "dist" / "THIRD-PARTY"
+        notices = b"\n" + made.read_bytes() if made.exists() else b"THIRD-PARTY isn't here: scripts/release makes it\n"
+        self.assertEqual((done.returncode, done.stdout, done.stderr),
+                         (0, b"Rowanspan: MIT OR Apache-2.0\n" + notices, b""))
+        with open("/dev/full", "wb") as full:
+            done = subprocess.run([sys.executable, str(SHELL), "--licenses"], stdout=full, stderr=subprocess.PIPE,
+                                  timeout=SECONDS, check=False)
+        self.assertEqual((done.returncode, done.stderr.count(b"\n")), (3, 1))
+
     def test_an_interrupt(self) -> None:
         with StandIn() as server:
             # (these tests may run in the background of a shell, which ignores interrupts there)

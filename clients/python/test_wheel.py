@@ -3,10 +3,12 @@ from __future__ import annotations
 
 import base64
 import csv
+import email
 import hashlib
 import importlib.util
 import os
 import re
+import shutil
 import signal
 import subprocess
 import sys
@@ -43,6 +45,10 @@ WITHOUT_CHMOD = ("import os, pathlib, sys\n"
                  "from rowanspan.shell import main\n"
                  "sys.exit(main(sys.argv[1:]))\n")
 
+# notices that stand for those of scripts/release
+NOTICES = "Parts that others wrote.\n\n== größe\n\nMIT\n"
+LICENCE = "Rowanspan: MIT OR Apache-2.0\n"
+
 Ended = Tuple[int, str, str]
 
 
@@ -65,10 +71,12 @@ class Folder(unittest.TestCase):
         self.library.write_bytes(b"\x7fELF")
         self.server = self.room / "mtserve"
         self.server.write_text(STAND_IN)
+        self.third_party = self.room / "THIRD-PARTY"
+        self.third_party.write_text(NOTICES, encoding="utf-8")
 
     def wheel(self, *words: str) -> Ended:
         return run([sys.executable, str(TOP / "scripts" / "wheel"), "--library", str(self.library), "--mtserve",
-                    str(self.server), *words])
+                    str(self.server), "--third-party", str(self.third_party), *words])
 
     def made(self, folder: str = "out") -> Path:
         """A wheel."""
@@ -93,7 +101,8 @@ class WheelTest(Folder):
         info = f"rowanspan-{VERSION}.dist-info"
         self.assertEqual(set(names), sources | {
             "rowanspan/py.typed", "rowanspan/librowanspan.so", "rowanspan/bin/mtserve", f"{info}/METADATA",
-            f"{info}/WHEEL", f"{info}/RECORD", f"{info}/entry_points.txt"})
+            f"{info}/WHEEL", f"{info}/RECORD", f"{info}/entry_points.txt", "rowanspan/THIRD-PARTY",
+            f"{info}/licenses/LICENSE-MIT", f"{info}/licenses/LICENSE-APACHE"})
         self.assertEqual(packed["rowanspan/core.py"], (HERE / "rowanspan" / "core.py").read_bytes())
         self.assertEqual(packed["rowanspan/librowanspan.so"], b"\x7fELF")
         self.assertEqual({modes["rowanspan/bin/mtserve"], modes["rowanspan/core.py"]}, {0o100755, 0o100644})
@@ -101,7 +110,20 @@ class WheelTest(Folder):
         self.assertIn(b"\nRequires-Python: >=3.9\n", packed[f"{info}/METADATA"])
         self.assertIn(f"\nTag: {path.stem.split('-', 2)[2]}\n".encode(), packed[f"{info}/WHEEL"])
         self.assertEqual(packed[f"{info}/entry_points.txt"], b"[console_scripts]\nrowan = rowanspan.shell:main\n")
+        self.check_licences(packed, info)
         self.check_record(packed, f"{info}/RECORD")
+
+    def check_licences(self, packed: Dict[str, bytes], info: str) -> None:
+        """The metadata name each licence file by its path below licenses/, which is as in the repository."""
+        metadata = email.message_from_bytes(packed[f"{info}/METADATA"])
+        self.assertEqual((metadata["Metadata-Version"], metadata["Author"], metadata["License-Expression"]),
+                         ("2.4", "the Rowanspan authors", "MIT OR Apache-2.0"))
+        for name in ("LICENSE-APACHE", "LICENSE-MIT"):
+            self.assertIn(name, metadata.get_all("License-File", []))
+            self.assertEqual(packed[f"{info}/licenses/{name}"], (TOP / name).read_bytes())
+        # (with an expression the standard, PEP 639, allows no such classifier)
+        self.assertFalse([it for it in metadata.get_all("Classifier", []) if it.startswith("License")])
+        self.assertEqual(packed["rowanspan/THIRD-PARTY"].decode(), NOTICES)
 
     def check_record(self, packed: Dict[str, bytes], record: str) -> None:
         """The record has each file once, with its hash and its size, and itself without."""
@@ -119,11 +141,12 @@ class WheelTest(Folder):
         self.assertEqual(self.made("two").read_bytes(), first)
 
     def test_what_is_missing(self) -> None:
-        for file in (self.library, self.server):
+        for file, maker in ((self.library, "./build"), (self.server, "./build"),
+                            (self.third_party, "scripts/release")):
             before = file.read_bytes()
             file.unlink()
             status, output, errors = self.wheel("--out", str(self.room))
-            self.assertEqual((status, output, errors), (1, "", f"wheel: {file} is missing: ./build makes it\n"))
+            self.assertEqual((status, output, errors), (1, "", f"wheel: {file} is missing: {maker} makes it\n"))
             file.write_bytes(before)
         self.assertEqual(list(self.room.glob("*.whl")), [])
 
@@ -156,6 +179,7 @@ class InstalledTest(Folder):
         package = self.install()
         self.assertTrue((package / "py.typed").exists())
         self.assertEqual(run([self.rowan, "--version"]), (0, f"rowan {VERSION}\n", ""))
+        self.assertEqual(run([self.rowan, "--licenses"]), (0, f"{LICENCE}\n{NOTICES}", ""))
         status, output, errors = run([self.rowan, "--help"])
         self.assertEqual((status, errors), (0, ""))
         self.assertIn("rowan serve", output)
@@ -216,6 +240,13 @@ class VersionTest(unittest.TestCase):
         self.assertEqual(run([sys.executable, str(HERE / "rowan"), "--version"]), (0, f"rowan {VERSION}\n", ""))
         with self.assertRaises(AttributeError):
             rowanspan.no_such_name  # type: ignore[attr-defined]
+
+    def test_a_copy_without_notices(self) -> None:
+        with tempfile.TemporaryDirectory() as room:
+            shutil.copytree(HERE / "rowanspan", Path(room) / "rowanspan", ignore=shutil.ignore_patterns("__pycache__"))
+            code = "import sys; sys.path.insert(0, sys.argv[1]); from rowanspan.shell import main; main(['--licenses'])"
+            wanted = f"{LICENCE}THIRD-PARTY isn't here: scripts/release makes it\n"
+            self.assertEqual(run([sys.executable, "-c", code, room]), (0, wanted, ""))
 
     def test_a_copy(self) -> None:
         with tempfile.TemporaryDirectory() as room:

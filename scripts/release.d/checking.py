@@ -9,16 +9,19 @@ import sys
 import tarfile
 import tempfile
 import threading
+import zipfile
 from dataclasses import dataclass
 from pathlib import Path
-from typing import Dict, List, Optional, Sequence, Tuple
+from typing import Callable, List, Optional, Sequence, Tuple
 
 import making
+import notices
 
 SECONDS = 600
 # the Debian packages of the commands that a check needs
 PACKAGES = {"cc": "gcc", "c++": "g++", "cargo": "cargo", "pkg-config": "pkg-config", "sha256sum": "coreutils",
             "ldd": "libc-bin"}
+LICENCE = b"MIT OR Apache-2.0"
 # where what a program may need is, but for the release
 OF_SYSTEM = ("linux-vdso", "/lib/", "/lib64/", "/usr/lib/", "/usr/lib64/")
 # a put and a get of the server at the port that is named, by the client of the wheel
@@ -121,6 +124,49 @@ def check_sums(checks: Checks) -> None:
     checks.case("each file has a sum", summed == there - {making.SUMS}, str(summed ^ there))
 
 
+def check_notices(checks: Checks, where: str, text: str) -> None:
+    """A THIRD-PARTY names each crate of the kit that is linked, and has the licences of each port."""
+    try:
+        folder = notices.kit()
+    except notices.NoNotice as fault:
+        print(f"skipped: what is linked isn't known: {fault}", flush=True)
+        return
+    try:
+        missing = notices.without_notice(text, notices.linked(folder, making.LINKED), folder)
+    except notices.NoNotice as fault:
+        missing = [str(fault)]
+    checks.case(f"notices of {where}", not missing, f"{notices.NAME} has no notice of {', '.join(missing)}")
+
+
+def check_licences(checks: Checks, where: str, found: Callable[[str], bytes]) -> None:
+    """An artefact has the licences of the repository, as they are there, and a THIRD-PARTY with all notices."""
+    for name in making.LICENCES:
+        checks.case(f"{name} of {where}", found(name) == (making.TOP / name).read_bytes(), "it isn't there, or differs")
+    text = found(notices.NAME).decode()
+    if checks.case(f"{notices.NAME} of {where}", text != "", "it isn't there"):
+        check_notices(checks, where, text)
+
+
+def check_licences_of_tarball(checks: Checks) -> None:
+    def found(name: str) -> bytes:
+        path = checks.unpacked / name
+        return path.read_bytes() if path.is_file() else b""
+
+    check_licences(checks, "the tarball", found)
+    for name in ("lib/pkgconfig/rowanspan.pc", "rust/Cargo.toml"):
+        checks.case(f"licence in {name}", LICENCE in found(name), f"it doesn't say {LICENCE.decode()}")
+
+
+def check_licences_of_wheel(checks: Checks, path: Path) -> None:
+    info = f"{making.NAME}.dist-info"
+    with zipfile.ZipFile(path) as wheel:
+        packed = {name: wheel.read(name) for name in wheel.namelist()}
+    check_licences(checks, "the wheel", lambda name: packed.get(
+        f"rowanspan/{name}" if name == notices.NAME else f"{info}/licenses/{name}", b""))
+    checks.case("licence in METADATA", b"\nLicense-Expression: " + LICENCE in packed[f"{info}/METADATA"],
+                f"it doesn't say {LICENCE.decode()}")
+
+
 def check_programs(checks: Checks) -> None:
     """Each program says how it is used, and it and the library need nothing but what the system has."""
     for name in making.PROGRAMS:
@@ -142,6 +188,7 @@ def install_wheel(checks: Checks) -> None:
     wheels = making.wheels()
     if not checks.case("there is a wheel", len(wheels) == 1, "dist/ has none of this version, or more than one"):
         return
+    check_licences_of_wheel(checks, wheels[0])
     folder = checks.room / "environment"
     if checks.run([sys.executable, "-m", "venv", str(folder)]).status != 0:
         print("skipped: Debian package python3-venv is missing", flush=True)
@@ -175,6 +222,14 @@ def check_board(checks: Checks) -> None:
     """The command of the wheel says how the board is used."""
     outcome = checks.run([str(checks.python.parent / "rowan"), "board", "--help"])
     checks.case("rowan board --help", outcome.status == 0 and "--http PORT" in outcome.output, outcome.why())
+
+
+def check_printed_licences(checks: Checks) -> None:
+    """The command of the wheel prints the notices."""
+    outcome = checks.run([str(checks.python.parent / "rowan"), "--licenses"])
+    begins, slab = f"Rowanspan: {LICENCE.decode()}\n\n", "\n" + notices.HEADING.format("slab")
+    is_whole = outcome.output.startswith(begins) and slab in outcome.output
+    checks.case("rowan --licenses", outcome.status == 0 and is_whole, outcome.why())
 
 
 def check_python(checks: Checks) -> None:
@@ -246,6 +301,7 @@ def check() -> int:
         checks.case("no kit on the path", not checks.has("rt"), checks.environment["PATH"])
         if unpack(checks):
             check_sums(checks)
+            check_licences_of_tarball(checks)
             check_programs(checks)
             check_c(checks)
             check_rust(checks)
@@ -253,6 +309,7 @@ def check() -> int:
             if checks.python is not None:
                 check_server(checks)
                 check_board(checks)
+                check_printed_licences(checks)
                 check_python(checks)
     print(f"{checks.passed} passed, {checks.failed} failed")
     return 1 if checks.failed else 0

@@ -1,4 +1,4 @@
-"""Makes the release: the tarball, which is the same for the same files, and the wheel, by scripts/wheel."""
+"""Makes the release: THIRD-PARTY, the tarball, which is the same for the same files, and by scripts/wheel the wheel."""
 from __future__ import annotations
 
 import gzip
@@ -12,6 +12,8 @@ from dataclasses import dataclass
 from pathlib import Path
 from typing import Dict, List
 
+import notices
+
 TOP = Path(__file__).resolve().parent.parent.parent
 HERE = Path(__file__).resolve().parent
 DIST = TOP / "dist"
@@ -20,6 +22,10 @@ NAME = f"rowanspan-{VERSION}"
 TARBALL = DIST / f"{NAME}-x86_64-linux.tar.gz"
 WHEEL = TOP / "scripts" / "wheel"
 PROGRAMS = ("mtserve", "mtdrive", "mtcheck")
+# what others' code is linked into
+LINKED = (*PROGRAMS, notices.LIBRARY)
+LICENCES = ("LICENSE-MIT", "LICENSE-APACHE")
+THIRD_PARTY = DIST / notices.NAME
 SUMS = "SHA256SUMS"
 # the time that each file of the tarball has, in seconds since 1970: the beginning of 1980
 TIME = 315532800
@@ -42,6 +48,8 @@ def sources() -> Dict[str, Path]:
     crate, examples = TOP / "bindings" / "rust", TOP / "examples" / "embedding"
     rust = [crate / "Cargo.toml", crate / "build.rs", *crate.glob("src/*.rs"), *crate.glob("tests/*.rs")]
     return {
+        **{name: TOP / name for name in LICENCES},
+        notices.NAME: THIRD_PARTY,
         **{f"bin/{name}": TOP / "crates" / name / "out" / name for name in PROGRAMS},
         **{f"lib/{name}": DIST / name for name in ("librowanspan.a", "librowanspan.so")},
         "include/rowanspan.h": DIST / "rowanspan.h",
@@ -61,8 +69,9 @@ def replaced(path: Path, old: str, new: str) -> Packed:
 
 def packed_files() -> Dict[str, Packed]:
     """The files of the tarball by their paths in it, but for the sums."""
-    missing = [f"there is no {path.relative_to(TOP)}; ./build makes it" for path in sources().values()
-               if not path.is_file()]
+    absent = [path.relative_to(TOP) for path in sources().values() if not path.is_file()]
+    missing = [f"there is no {path}" + ("; ./build makes it" if {"out", "dist"} & {*path.parts} else "")
+               for path in absent]
     if missing:
         raise Missing("\n".join(missing))
     if f'#define ROWANSPAN_VERSION "{VERSION}"' not in (DIST / "rowanspan.h").read_text(encoding="utf-8"):
@@ -74,6 +83,16 @@ def packed_files() -> Dict[str, Packed]:
         "lib/pkgconfig/rowanspan.pc": replaced(HERE / "rowanspan.pc", "@VERSION@", VERSION),
         "README.md": replaced(HERE / "README.md", "@VERSION@", VERSION),
     }
+
+
+def make_third_party() -> None:
+    """Makes THIRD-PARTY, which the tarball and the wheel have."""
+    try:
+        text = notices.third_party(notices.kit(), LINKED)
+    except notices.NoNotice as fault:
+        raise Missing(f"no {notices.NAME} was made: {fault}") from fault
+    DIST.mkdir(exist_ok=True)
+    THIRD_PARTY.write_text(text, encoding="utf-8")
 
 
 def sums_of(files: Dict[str, Packed]) -> Packed:
@@ -122,6 +141,7 @@ def make_wheel() -> bool:
 def make() -> int:
     """Makes the tarball and the wheel, and returns the status."""
     try:
+        make_third_party()
         files = packed_files()
     except Missing as missing:
         for line in str(missing).splitlines():

@@ -22,6 +22,7 @@ from __future__ import annotations
 from typing import TYPE_CHECKING
 
 from . import client, core, mapping, pipeline, wire
+# (the names that each of them lists in its `__all__` are names of the package)
 from .client import *  # noqa: F401,F403
 from .core import *  # noqa: F401,F403
 from .mapping import *  # noqa: F401,F403

@@ -28,6 +28,7 @@ from types import TracebackType
 from typing import Any, List, Optional, Sequence, Tuple, Type, Union
 
 from . import core, mapping
+# (the names that both list in their `__all__` are names of this module too)
 from .core import *  # noqa: F401,F403
 from .core import (MAX_LIMIT, REFUSALS, Closed, Delta, NoLibrary, Page, Pairs, Prefix, Refused, Row, Sets, Tidied,
                    ViewNo, ViewSpec, checked_limit, checked_number, checked_spec, checked_view)

@@ -22,6 +22,14 @@ def none_at(what: str, tried: List[Path]) -> str:
     return f"there is no {what} at {' or '.join(map(str, tried))}{': ./build makes it' if is_built else ''}"
 
 
+def third_party() -> Optional[Path]:
+    """The notices of what is linked into the library and the server: in the package, or in the folder dist of the
+    checkout; None if they aren't there."""
+    top = checkout()
+    tried = [PACKAGE / "THIRD-PARTY"] if top is None else [PACKAGE / "THIRD-PARTY", top / "dist" / "THIRD-PARTY"]
+    return next((path for path in tried if path.is_file()), None)
+
+
 def version() -> str:
     """The version of the package: that of the checkout, or of the installed distribution; 'unknown' for a copy."""
     from importlib import metadata

@@ -8,7 +8,7 @@ from typing import TYPE_CHECKING, Any, Callable, Iterable, List, Optional, Seque
 
 from .client import Client
 from .core import BadReply, ConnectionLost, NoLibrary, Refused, TooLong
-from .places import version
+from .places import third_party, version
 from .serving import NoServer, become_server
 from .text import HEX, TEXT, BadLine, Notation, outcome_line, read_query
 from .wire import (Build, Get, GetRange, Outcome, Put, PutIf, Query, Remove, Reply, Tidy, ViewDrop, ViewRead,
@@ -21,7 +21,7 @@ USES = """\
 rowan [-p PORT [--host HOST] [--timeout SECONDS] | --embedded [--columns N]] [--text] [WORD ..]
        rowan serve [OPTION ..]
        rowan board -p PORT [OPTION ..]
-       rowan --version"""
+       rowan --version | --licenses"""
 
 LINES = """\
 `rowan serve` runs the server mtserve, with the options of mtserve (`rowan serve --help`). `rowan board` shows the views of
@@ -72,6 +72,17 @@ def seconds(word: str) -> float:
     return value
 
 
+class Licences(argparse.Action):
+    """The option that prints the licences, and ends the program."""
+
+    def __call__(self, parser: argparse.ArgumentParser, *_: object) -> None:
+        write_line("Rowanspan: MIT OR Apache-2.0")
+        path = third_party()
+        write_line("THIRD-PARTY isn't here: scripts/release makes it" if path is None
+                   else "\n" + path.read_text(encoding="utf-8").rstrip("\n"))
+        parser.exit()
+
+
 def parser() -> argparse.ArgumentParser:
     made = argparse.ArgumentParser(
         prog="rowan", usage=USES, description="Asks an index of Rowanspan, line by line.", epilog=LINES,
@@ -85,6 +96,8 @@ def parser() -> argparse.ArgumentParser:
     made.add_argument("--columns", type=int, metavar="N", help="how many columns the index of this process has (1)")
     made.add_argument("--text", action="store_true", help="keys and columns are text, not hex")
     made.add_argument("--version", action="version", version=f"rowan {version()}")
+    made.add_argument("--licenses", action=Licences, nargs=0,
+                      help="show the licences of Rowanspan, and the notices of what is linked into it, and exit")
     made.add_argument("words", nargs=argparse.REMAINDER, metavar="WORD",
                       help="one line, after all options; without it the lines of standard input are answered")
     return made
