@@ -89,20 +89,22 @@ extern "C" {
 
 typedef enum rowanspan_status {
     ROWANSPAN_OK = 0,
-    ROWANSPAN_NO_MEMORY = 1,        /* an allocation was refused */
-    ROWANSPAN_KEY_TOO_LONG = 2,     /* a key has more than ROWANSPAN_MAX_KEY_BYTES bytes */
-    ROWANSPAN_BAD_COLUMN = 3,       /* a column doesn't exist, or is named twice; or an index of not 1 to 16 columns */
+    ROWANSPAN_NO_MEMORY = 1,        /* out of memory */
+    ROWANSPAN_KEY_TOO_LONG = 2,     /* a key has more than 1,024 bytes */
+    ROWANSPAN_BAD_COLUMN = 3,       /* a column doesn't exist or is named twice; an index has 1 to 16 columns */
     ROWANSPAN_COLUMN_TOO_LONG = 4,  /* a column has more than 64 bytes */
-    ROWANSPAN_BAD_LIMIT = 5,        /* a limit is not from 1 to 1000, or feed not from 1 to 65536, or keep over 65536 */
-    ROWANSPAN_ARENA_FULL = 6,       /* no number of a node is free */
-    ROWANSPAN_FEED_FULL = 7,        /* the log is full: views hold it from commit *told on; apply or drop them */
-    ROWANSPAN_TOO_MANY_VIEWS = 10,  /* there are 64 views */
+    ROWANSPAN_BAD_LIMIT = 5,        /* a limit is not from 1 to 1000, or an option is out of its bounds: feed is not
+                                       from 1 to 65536, or keep is over 65536 */
+    ROWANSPAN_ARENA_FULL = 6,       /* too few of the 1,048,576 nodes are free */
+    ROWANSPAN_FEED_FULL = 7,        /* the log is full: views or open calls hold it from commit *told on; apply or drop
+                                       the views */
+    ROWANSPAN_TOO_MANY_VIEWS = 10,  /* there are already 64 views */
     ROWANSPAN_NO_SUCH_VIEW = 11,    /* no view has this number */
-    ROWANSPAN_BEHIND = 12,          /* the view is at commit *told, before the floor; or the log has only the commits
-                                       after *told */
-    ROWANSPAN_BAD_RANGE = 13,       /* the range of a view ends before it begins */
-    ROWANSPAN_SPENT = 14,           /* a number is at its greatest value, 2^64 - 1 */
-    ROWANSPAN_OTHER_VERSION = 16,   /* the key's row is of version *told, not of the one asked; 0: there is no row */
+    ROWANSPAN_BEHIND = 12,          /* the view is at commit *told, or the log begins after it: the view is before the
+                                       floor, or the log has only the commits after *told */
+    ROWANSPAN_BAD_RANGE = 13,       /* the end of a range is not after its start */
+    ROWANSPAN_SPENT = 14,           /* a counter is at its greatest value */
+    ROWANSPAN_OTHER_VERSION = 16,   /* the row has version *told, not the one asked for; 0 means no row */
     ROWANSPAN_ABSENT = 102,         /* the key has no row, or the cursor has no more rows */
     ROWANSPAN_NO_ROOM = 103,        /* the answer has *told bytes, and the buffer is smaller */
     ROWANSPAN_CURRENT = 104,        /* there was nothing to apply: no view is behind */
@@ -118,7 +120,8 @@ enum {
     ROWANSPAN_TIDIED_EMPTY_LAYER = 4
 };
 
-/* rowanspan_status_text: one sentence about a status, also about a number that is none. It is never freed. */
+/* rowanspan_status_text: what a status means, in one line without a full stop; also for a number that is no status. If
+ * the call sets *told to the number of a commit, the text has N for this number. The text is never freed. */
 const char *rowanspan_status_text(rowanspan_status status);
 
 /* rowanspan_version: the version of the library that is loaded, as ROWANSPAN_VERSION is that of the header. */
@@ -208,8 +211,8 @@ rowanspan_status rowanspan_tidy(rowanspan *index, const void *key, size_t key_le
  * Cost: a visit of each node on the way to the key, and one copy of the columns, from the index into the buffer. It
  * takes no memory. A row with all its columns fits in 16 bytes, and 72 for each column.
  *
- * Returns OK. Returns ABSENT if the key has no row, and NO_ROOM if the answer doesn't fit. Fails with KEY_TOO_LONG,
- * BAD_COLUMN or NO_MEMORY. Unless it returns OK the buffer is as it was. */
+ * Returns OK. Returns ABSENT if the key has no row, and NO_ROOM if the answer doesn't fit. Fails with KEY_TOO_LONG or
+ * BAD_COLUMN, and never with NO_MEMORY. Unless it returns OK the buffer is as it was. */
 rowanspan_status rowanspan_get(const rowanspan *index, const void *key, size_t key_length, const uint8_t *columns,
                                size_t column_count, void *into, size_t room, uint64_t *told);
 

@@ -167,26 +167,26 @@ rowanspan_status rowanspan_columns(const rowanspan *index, uint64_t *told) {
 /* (without a default, so that the compiler names a status that has no text) */
 const char *rowanspan_status_text(rowanspan_status status) {
     switch (status) {
-    case ROWANSPAN_OK: return "The call was done.";
-    case ROWANSPAN_NO_MEMORY: return "An allocation was refused.";
-    case ROWANSPAN_KEY_TOO_LONG: return "A key has more than 1,024 bytes.";
-    case ROWANSPAN_BAD_COLUMN: return "A column doesn't exist, or is named twice; an index has 1 to 16 columns.";
-    case ROWANSPAN_COLUMN_TOO_LONG: return "A column has more than 64 bytes.";
-    case ROWANSPAN_BAD_LIMIT: return "A limit is not from 1 to 1000, or the option feed or keep is out of its bounds.";
-    case ROWANSPAN_ARENA_FULL: return "No number of a node is free.";
-    case ROWANSPAN_FEED_FULL: return "The log is full: views that are behind hold it.";
-    case ROWANSPAN_TOO_MANY_VIEWS: return "There are 64 views, and no more are possible.";
-    case ROWANSPAN_NO_SUCH_VIEW: return "No view has this number.";
-    case ROWANSPAN_BEHIND: return "The view is not yet at this commit, or the log no longer has some of the commits.";
-    case ROWANSPAN_BAD_RANGE: return "The range of a view ends before it begins.";
-    case ROWANSPAN_SPENT: return "A number is at its greatest value.";
-    case ROWANSPAN_OTHER_VERSION: return "The key's row is of another version.";
-    case ROWANSPAN_ABSENT: return "The key has no row, or the cursor has no more rows.";
-    case ROWANSPAN_NO_ROOM: return "The buffer is smaller than the answer.";
-    case ROWANSPAN_CURRENT: return "There was nothing to apply: no view is behind.";
-    case ROWANSPAN_NO_SUCH_TEST: return "No test of rows is of this kind.";
+    case ROWANSPAN_OK: return "the call was done";
+    case ROWANSPAN_NO_MEMORY: return "out of memory";
+    case ROWANSPAN_KEY_TOO_LONG: return "a key has more than 1,024 bytes";
+    case ROWANSPAN_BAD_COLUMN: return "a column doesn't exist or is named twice; an index has 1 to 16 columns";
+    case ROWANSPAN_COLUMN_TOO_LONG: return "a column has more than 64 bytes";
+    case ROWANSPAN_BAD_LIMIT: return "a limit is not from 1 to 1000, or an option is out of its bounds";
+    case ROWANSPAN_ARENA_FULL: return "too few of the 1,048,576 nodes are free";
+    case ROWANSPAN_FEED_FULL: return "the log is full: views or open calls hold it from commit N on";
+    case ROWANSPAN_TOO_MANY_VIEWS: return "there are already 64 views";
+    case ROWANSPAN_NO_SUCH_VIEW: return "no view has this number";
+    case ROWANSPAN_BEHIND: return "the view is at commit N, or the log begins after it";
+    case ROWANSPAN_BAD_RANGE: return "the end of a range is not after its start";
+    case ROWANSPAN_SPENT: return "a counter is at its greatest value";
+    case ROWANSPAN_OTHER_VERSION: return "the row has version N, not the one asked for; 0 means no row";
+    case ROWANSPAN_ABSENT: return "the key has no row, or the cursor has no more rows";
+    case ROWANSPAN_NO_ROOM: return "the buffer is smaller than the answer";
+    case ROWANSPAN_CURRENT: return "there was nothing to apply: no view is behind";
+    case ROWANSPAN_NO_SUCH_TEST: return "no test of rows is of this kind";
     }
-    return "No status has this number.";
+    return "no status has this number";
 }
 
 const char *rowanspan_version(void) {

@@ -14,8 +14,8 @@ FAULTS = {
     2: "a reply could not be written",
     3: "the input ended inside a frame",
     4: "the length of a frame is out of its bounds",
-    5: "a frame has another version",
-    6: "a frame spells no queries",
+    5: "a frame has an unknown version",
+    6: "the body of a frame is not a list of queries",
     7: "out of memory",
 }
 

@@ -135,9 +135,12 @@ class SpellingTest(unittest.TestCase):
             (refused,) = read_replies(body_of(f"00 {number:02x} {detail or 0:016x}"), [Get(b"a")])
             assert isinstance(refused, Refused)
             self.assertEqual((type(refused), refused.number, refused.detail), (kind, number, detail))
+            self.assertEqual(str(refused), kind.cause.replace("{0}", "258"))
         self.assertEqual(sorted(rowanspan.REFUSALS), list(range(1, 17)))
         with_detail = [kind for kind in rowanspan.REFUSALS.values() if kind.has_detail]
         self.assertEqual(with_detail, [FeedFull, Behind, OtherVersion])
+        self.assertEqual(str(FeedFull(3)), "the log is full: views or open calls hold it from commit 3 on")
+        self.assertEqual(str(Behind()), "the view is at commit N, or the log begins after it")
 
     def test_versions(self) -> None:
         put, put_if = Put(b"a", b"v"), PutIf(b"a", b"v", 0)

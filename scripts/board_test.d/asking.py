@@ -316,14 +316,14 @@ def run(*words: str) -> Tuple[int, str, str]:
 def command_lines(serve: Sequence[str]) -> None:
     """What is wrong with a command line, a port or a view is one line and a status. At its end the board drops the
     views that it built."""
-    with Server(serve) as server, server.index() as index:
+    with Server(serve) as server:
         given = ["-p", str(server.port), "--http", "0"]
         with socket.create_server(("127.0.0.1", 0)) as taken:
             port = taken.getsockname()[1]
             want_said(run("-p", str(server.port), "--http", str(port)), 3, f"port {port} of 127.0.0.1 is taken")
         want_said(run("-p", str(port), "--http", "0"), 3, f"no connection to 127.0.0.1, port {port}")
-        want_said(run(*given, "--view", "77"), 1, "--view 77: there is no such view")
-        want_said(run(*given, "--build", "range 62 61 any"), 1, "--build 'range 62 61 any': a range ends before")
+        want_said(run(*given, "--view", "77"), 1, "--view 77: no view has this number")
+        want_said(run(*given, "--build", "range 62 61 any"), 1, "--build 'range 62 61 any': the end of a range is not")
         for words, part in ((["--view", "x"], "expected a number"), (["--view", "0"], "from 1 to"),
                             (["--build", "nonsense"], "expected range or prefix"), (["--rows", "101"], "from 0 to 100"),
                             (["--http", "65536"], "invalid port value")):

@@ -201,10 +201,11 @@ def want_refused_forms(page: Page) -> None:
     """What can't be built is said."""
     for fields, part in (({"kind": "prefix", "key": "6g", "notation": "hex"}, "Prefix: expected bytes in hex"),
                          ({"kind": "prefix", "key": "\\n"}, "Prefix: expected text"),
-                         ({"kind": "range", "lo": "b", "hi": "a"}, "a range ends before it begins"),
+                         ({"kind": "range", "lo": "b", "hi": "a"}, "the end of a range is not after its start"),
                          ({"kind": "prefix", "key": "a" * 1025}, "more than 1,024 bytes"),
                          ({"kind": "prefix", "key": "a", "test": "equals", "column": "9", "value": ""}, "a column"),
-                         ({"kind": "number", "number": "77"}, "no such view"), ({"kind": "number"}, "Number: expected"),
+                         ({"kind": "number", "number": "77"}, "no view has this number"),
+                         ({"kind": "number"}, "Number: expected"),
                          ({"kind": "prefix", "test": "atleast", "column": "0", "value": "x"}, "Value: expected")):
         said = build(page, fields)
         want(said.startswith("Not done: ") and part in said, f"{fields}: {said}")

@@ -66,14 +66,14 @@ static const rowanspan_status statuses[] = {
 
 enum { STATUSES = sizeof statuses / sizeof statuses[0], NUMBERS = 300 };
 
-/* Each status has a text of its own, which is a sentence, and all numbers that are no status have one. */
+/* Each status has a text of its own, in small letters and without a full stop; all other numbers have one text. */
 static void status_texts(void) {
     const char *other = rowanspan_status_text((rowanspan_status)NUMBERS);
     int number, i, j, others = 0;
     begins();
     for (i = 0; i < STATUSES; i++) {
         const char *text = rowanspan_status_text(statuses[i]);
-        WANT(text[0] >= 'A' && text[0] <= 'Z' && text[strlen(text) - 1] == '.');
+        WANT(text[0] >= 'a' && text[0] <= 'z' && text[strlen(text) - 1] != '.');
         WANT(strcmp(text, other) != 0);
         for (j = 0; j < i; j++) {
             WANT(strcmp(text, rowanspan_status_text(statuses[j])) != 0);

@@ -2,8 +2,8 @@
 
 The answers are read twice. `Gathering` goes over them once, and finds each call's begin and end, each commit's number
 and the lines among which it was made. Then `Held` folds the commits, and asks of each answer whether a plain map gives
-it: of a get or range at some number of commits from its begin to its end, of a page of a view at the number where it
-stands.
+it: of a get or range at some number of commits from its begin to its end, of a page of a view at the number of its
+own commits.
 """
 from __future__ import annotations
 
@@ -245,11 +245,11 @@ class Views:
         self.may: Dict[int, Set[int]] = {}
 
     def pin(self, view: int, at: int) -> None:
-        want(at in self.may[view], f"view {view} stands at none but {sorted(self.may[view])[:5]}")
+        want(at in self.may[view], f"view {view} is at none but {sorted(self.may[view])[:5]}")
         self.may[view] = {at}
 
     def newest(self, view: int, counts: Tuple[int, int]) -> None:
-        """It stands at the newest commit."""
+        """It is at the newest commit."""
         self.may[view] = {at for at in self.may[view] if counts[0] <= at <= counts[1]}
         want(bool(self.may[view]), f"view {view} doesn't stand at the newest commit")
 
@@ -274,7 +274,7 @@ class Views:
         want(at <= counts[1], "there aren't so many commits")
         may_be = [view for view in self.may if at - 1 in self.may[view]
                   and all(max(self.may[other]) >= at - (other > view) for other in self.may if other != view)]
-        want(bool(may_be), f"no view stands at {at - 1} and is the furthest behind")
+        want(bool(may_be), f"no view is at {at - 1} and the furthest behind")
         for view, stands in self.may.items():
             least = at - 1 if len(may_be) > 1 or view >= may_be[0] else at
             self.may[view] = {number for number in stands if number >= least} | ({at} if view in may_be else set())
@@ -388,28 +388,28 @@ class Held:
         elif command.word == "apply" and view == 0:
             self.views.apply_any(answer, self.counts[at])
         elif view not in self.views.may:
-            want(answer == "refused 11", "no such view stands")
+            want(answer == "refused 11", "no view has this number")
         elif command.word == "apply":
             self.views.apply(view, answer, self.counts[at])
         else:
-            want(answer == "dropped", "the view stands")
+            want(answer == "dropped", "the view exists")
             del self.views.may[view]
 
     def read(self, answer: str, command: Command) -> None:
-        """A page: exactly that of the number of commits at which its view stands."""
+        """A page: exactly that of the number of commits at which its view is."""
         view, floor, limit = command.numbers
         if len(command.start) > MAX_KEY_BYTES or not 1 <= limit <= 1000:
             want(answer == ("refused 2" if len(command.start) > MAX_KEY_BYTES else "refused 5"), "it breaks a limit")
         elif view not in self.views.may:
-            want(answer == "refused 11", "no such view stands")
+            want(answer == "refused 11", "no view has this number")
         elif answer.startswith("refused 12 "):
-            want(number_of(answer[11:]) < floor, "it stands at the floor")
+            want(number_of(answer[11:]) < floor, "it is at the floor")
             self.views.pin(view, number_of(answer[11:]))
         else:
             want(answer.startswith("view "), "it is no page")
             stands = number_of(answer.split(" ")[1])
             self.views.pin(view, stands)
-            want(stands >= floor, "it doesn't stand at the floor")
+            want(stands >= floor, "it isn't at the floor")
             want(answer == self.page(view, stands, command.start, limit), "its page is another")
 
     def page(self, view: int, at: int, start: bytes, limit: int) -> str:

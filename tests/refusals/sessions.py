@@ -102,7 +102,7 @@ class Asker:
             self.built += words[3] == "built"
 
     def find_out(self, index: Index, frame: Sequence[str]) -> None:
-        """Of a lost frame, puts and removes are done as far as there are commits, and a build where its view stands."""
+        """Of a lost frame, puts and removes are done as far as there are commits, and a build if its view exists."""
         query = read_query("get - all", HEX)
         now = index.call_all([query])[0].to
         for line in frame:

@@ -6,31 +6,31 @@ use std::fmt;
 #[derive(Clone, Copy, Debug, PartialEq, Eq)]
 #[non_exhaustive]
 pub enum Error {
-    /// An allocation was refused.
+    /// Out of memory: an allocation was refused.
     NoMemory,
     /// A key has more than [`MAX_KEY_BYTES`](crate::MAX_KEY_BYTES) bytes.
     KeyTooLong,
-    /// A column doesn't exist, or is named twice; or an index was to have none, or more than 16.
+    /// A column doesn't exist or is named twice; or an index was to be opened, and not with 1 to 16 columns.
     BadColumn,
     /// A column has more than 64 bytes.
     ColumnTooLong,
     /// A limit isn't from 1 to 1000; or `feed` isn't from 1 to 65536, or `keep` is over 65536.
     BadLimit,
-    /// No number of a node is free.
+    /// Too few nodes are free: an index has 1,048,576 nodes at most.
     ArenaFull,
     /// The log is full: views hold it from this commit on.
     FeedFull(u64),
-    /// There are 64 views.
+    /// There are already 64 views.
     TooManyViews,
     /// No view has this number.
     NoSuchView,
-    /// The view is at this commit, before the floor; or the log has only the commits after it.
+    /// The view is at this commit, before the floor; or the log begins after this commit.
     Behind(u64),
-    /// The range of a view ends before it begins.
+    /// The end of a view's range is not after its start.
     BadRange,
-    /// A number is at its greatest value.
+    /// A counter is at its greatest value.
     Spent,
-    /// The key's row is of this version, not of the one asked; 0: there is no row.
+    /// The row has this version, not the one asked for; 0 means that the key has no row.
     OtherVersion(u64),
     /// The library returned a status that no call returns: it is another library.
     Unknown(u32),
@@ -62,24 +62,32 @@ impl fmt::Display for Error {
     fn fmt(&self, f: &mut fmt::Formatter<'_>) -> fmt::Result {
         match self {
             Error::NoMemory => write!(f, "out of memory"),
-            Error::KeyTooLong => write!(f, "a key has more than 1024 bytes"),
-            Error::BadColumn => write!(f, "a column doesn't exist, or is named twice"),
-            Error::ColumnTooLong => write!(f, "a column has more than 64 bytes"),
-            Error::BadLimit => write!(f, "a limit or an option is out of its bounds"),
-            Error::ArenaFull => write!(f, "no number of a node is free"),
-            Error::FeedFull(from) => {
-                write!(f, "the log is full: views hold it from commit {from} on")
-            }
-            Error::TooManyViews => write!(f, "there are 64 views, and no more are possible"),
-            Error::NoSuchView => write!(f, "no view has this number"),
-            Error::Behind(at) => write!(
+            Error::KeyTooLong => write!(f, "a key has more than 1,024 bytes"),
+            Error::BadColumn => write!(
                 f,
-                "the view is at commit {at}, or the log has only those after it"
+                "a column doesn't exist or is named twice; an index has 1 to 16 columns"
             ),
-            Error::BadRange => write!(f, "the range of a view ends before it begins"),
-            Error::Spent => write!(f, "a number is at its greatest value"),
-            Error::OtherVersion(0) => write!(f, "the key has no row"),
-            Error::OtherVersion(found) => write!(f, "the key's row is of version {found}"),
+            Error::ColumnTooLong => write!(f, "a column has more than 64 bytes"),
+            Error::BadLimit => write!(
+                f,
+                "a limit is not from 1 to 1000, or an option is out of its bounds"
+            ),
+            Error::ArenaFull => write!(f, "too few of the 1,048,576 nodes are free"),
+            Error::FeedFull(from) => write!(
+                f,
+                "the log is full: views or open calls hold it from commit {from} on"
+            ),
+            Error::TooManyViews => write!(f, "there are already 64 views"),
+            Error::NoSuchView => write!(f, "no view has this number"),
+            Error::Behind(at) => {
+                write!(f, "the view is at commit {at}, or the log begins after it")
+            }
+            Error::BadRange => write!(f, "the end of a range is not after its start"),
+            Error::Spent => write!(f, "a counter is at its greatest value"),
+            Error::OtherVersion(found) => write!(
+                f,
+                "the row has version {found}, not the one asked for; 0 means no row"
+            ),
             Error::Unknown(status) => write!(f, "the library returned the status {status}"),
         }
     }

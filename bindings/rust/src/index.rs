@@ -177,8 +177,8 @@ impl Index {
         }
     }
 
-    /// The row of a key. The library copies it into memory on the stack and allocates nothing; each column that is
-    /// returned is allocated.
+    /// The row of a key. The library copies it into memory on the stack and allocates nothing, so a get never fails
+    /// because it is out of memory. Each column that is returned is allocated.
     pub fn get(&self, key: impl AsRef<[u8]>) -> Result<Option<Row>, Error> {
         self.get_columns(key, &[])
     }

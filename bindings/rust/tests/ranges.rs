@@ -178,9 +178,12 @@ fn keys_that_are_too_long() -> Result<(), Error> {
 fn errors_say_what_was_wrong() -> Result<(), Error> {
     let mut index = Index::open(Options::default())?;
     let error: Box<dyn std::error::Error> = Box::new(index.put_if("k", &[], 7).unwrap_err());
-    assert_eq!(error.to_string(), "the key has no row");
+    assert_eq!(
+        error.to_string(),
+        "the row has version 0, not the one asked for; 0 means no row"
+    );
     let error = index.put([0; MAX_KEY_BYTES + 1], &[]).unwrap_err();
-    assert_eq!(error.to_string(), "a key has more than 1024 bytes");
+    assert_eq!(error.to_string(), "a key has more than 1,024 bytes");
     let error = Index::open(Options {
         columns: 0,
         ..Options::default()
@@ -188,7 +191,7 @@ fn errors_say_what_was_wrong() -> Result<(), Error> {
     .unwrap_err();
     assert_eq!(
         error.to_string(),
-        "a column doesn't exist, or is named twice"
+        "a column doesn't exist or is named twice; an index has 1 to 16 columns"
     );
     Ok(())
 }

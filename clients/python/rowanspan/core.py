@@ -66,11 +66,12 @@ class Refused(RowanspanError):
 
     number: ClassVar[int] = 0
     has_detail: ClassVar[bool] = False
+    # the text of the message, with {0} for the detail
     cause: ClassVar[str] = ""
 
     def __init__(self, detail: Optional[int] = None) -> None:
         self.detail = detail
-        super().__init__(self.cause if detail is None else f"{self.cause} ({detail})")
+        super().__init__(self.cause.replace("{0}", "N" if detail is None else str(detail)))
 
     def __reduce__(self) -> Tuple[Any, ...]:
         # without it a copy, or one from another process, would have its own text as its detail
@@ -82,11 +83,11 @@ class NoMemory(Refused):
 
 
 class KeyTooLong(Refused, TooLong):
-    number, cause = 2, f"a key has more than {MAX_KEY_BYTES:,} bytes"
+    number, cause = 2, "a key has more than 1,024 bytes"
 
 
 class BadColumn(Refused, TooLong):
-    number, cause = 3, "a column is not there, or is named twice; or an index is to have none, or more than 16"
+    number, cause = 3, "a column doesn't exist or is named twice; an index has 1 to 16 columns"
 
 
 class ColumnTooLong(Refused, TooLong):
@@ -94,15 +95,18 @@ class ColumnTooLong(Refused, TooLong):
 
 
 class BadLimit(Refused, TooLong):
-    number, cause = 5, "a limit is not from 1 to 1000; or feed is not from 1 to 65536, or keep is over 65536"
+    """A limit is not from 1 to 1000; or an embedded index was to be opened, and `feed` is not from 1 to 65536, or
+    `keep` is over 65536."""
+
+    number, cause = 5, "a limit is not from 1 to 1000, or an option is out of its bounds"
 
 
 class ArenaFull(Refused):
-    number, cause = 6, "no number of a node is free"
+    number, cause = 6, "too few of the 1,048,576 nodes are free"
 
 
 class FeedFull(Refused):
-    number, has_detail, cause = 7, True, "the log is full, and is held from this commit on"
+    number, has_detail, cause = 7, True, "the log is full: views or open calls hold it from commit {0} on"
 
 
 class TooManyCalls(Refused):
@@ -110,35 +114,35 @@ class TooManyCalls(Refused):
 
 
 class NoSuchCall(Refused):
-    number, cause = 9, "no such call is open"
+    number, cause = 9, "no open call has this number"
 
 
 class TooManyViews(Refused):
-    number, cause = 10, "there are too many views"
+    number, cause = 10, "there are already 64 views"
 
 
 class NoSuchView(Refused):
-    number, cause = 11, "there is no such view"
+    number, cause = 11, "no view has this number"
 
 
 class Behind(Refused):
-    number, has_detail, cause = 12, True, "what was asked for isn't there, but at this commit"
+    number, has_detail, cause = 12, True, "the view is at commit {0}, or the log begins after it"
 
 
 class BadRange(Refused):
-    number, cause = 13, "a range ends before it begins"
+    number, cause = 13, "the end of a range is not after its start"
 
 
 class Spent(Refused):
-    number, cause = 14, "a number is at its greatest value"
+    number, cause = 14, "a counter is at its greatest value"
 
 
 class WrongPass(Refused):
-    number, cause = 15, "this is another pass"
+    number, cause = 15, "the pass is not of this index, or the call is of another pass"
 
 
 class OtherVersion(Refused):
-    number, has_detail, cause = 16, True, "the row isn't of the version that was asked, but of this one"
+    number, has_detail, cause = 16, True, "the row has version {0}, not the one asked for; 0 means no row"
 
 
 REFUSALS: Dict[int, Type[Refused]] = {kind.number: kind for kind in Refused.__subclasses__()}

@@ -18,51 +18,51 @@ pub enum Refusal {
     #[error("out of memory")]
     NoMemory,
     /// A key has more than `MAX_KEY_BYTES` bytes.
-    #[error("a key is too long")]
+    #[error("a key has more than 1,024 bytes")]
     KeyTooLong,
     /// A number of a column is not less than the number of columns, or is named twice; or an index was to be opened
     /// with no columns, or with more than `MAX_COLUMNS`.
-    #[error("a column is not there, or is named twice")]
+    #[error("a column doesn't exist or is named twice; an index has 1 to 16 columns")]
     BadColumn,
     /// A column was to get, or to be compared with, more than `MAX_COLUMN_BYTES` bytes.
-    #[error("a column is too long")]
+    #[error("a column has more than 64 bytes")]
     ColumnTooLong,
     /// A limit is out of its bounds.
-    #[error("a limit is out of its bounds")]
+    #[error("a limit is not from 1 to 1000, or an option is out of its bounds")]
     BadLimit,
     /// Each number of a node is occupied.
-    #[error("no number of a node is free")]
+    #[error("too few of the 1,048,576 nodes are free")]
     ArenaFull,
     /// The log of commits is full. It is held from this number of commits on.
-    #[error("the feed is full from commit {0} on")]
+    #[error("the log is full: views or open calls hold it from commit {0} on")]
     FeedFull(u64),
     /// `MAX_OPEN_CALLS` calls are open.
     #[error("too many calls are open")]
     TooManyCalls,
     /// No open call has this number.
-    #[error("no such call is open")]
+    #[error("no open call has this number")]
     NoSuchCall,
     /// `MAX_VIEWS` views exist, those that are being built included.
-    #[error("too many views stand")]
+    #[error("there are already 64 views")]
     TooManyViews,
     /// No view has this number.
-    #[error("no such view stands")]
+    #[error("no view has this number")]
     NoSuchView,
     /// The view is at this number of commits, which is less than what was asked for; or the log has only the deltas
     /// after this number, and an earlier one was asked for.
-    #[error("the view stands only at commit {0}")]
+    #[error("the view is at commit {0}, or the log begins after it")]
     Behind(u64),
     /// The end of a range is not after its start.
-    #[error("a range ends before it begins")]
+    #[error("the end of a range is not after its start")]
     BadRange,
     /// A number that has to rise is at its greatest value.
-    #[error("a number is at its greatest value")]
+    #[error("a counter is at its greatest value")]
     Spent,
     /// The pass is not one of this index, or not that of the call.
-    #[error("this is another pass")]
+    #[error("the pass is not of this index, or the call is of another pass")]
     WrongPass,
     /// The row has this version, and not the one that was asked for. 0 means that the key has no row.
-    #[error("the row's version is {0}")]
+    #[error("the row has version {0}, not the one asked for; 0 means no row")]
     OtherVersion(u64),
 }
 

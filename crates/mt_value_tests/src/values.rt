@@ -200,6 +200,9 @@ fn no_columns_asked_means_all(rt: HostRuntime) -> Result<(), Fail> {
 #[test]
 fn refusals_read_well(rt: HostRuntime) -> Result<(), Fail> {
     let text = Refusal::FeedFull(3).to_string(rt.alloc())?;
-    assert_eq!(rt; text.as_str(), "the feed is full from commit 3 on");
+    assert_eq!(rt;
+        text.as_str(),
+        "the log is full: views or open calls hold it from commit 3 on"
+    );
     Ok(())
 }
