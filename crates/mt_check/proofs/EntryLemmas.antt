@@ -12,7 +12,7 @@ use Rattle.std.specs.declared.cmp.Ordering.TheVariants.{Less, Equal, Greater}
 use Rattle.std.proofs.lemmas.Bool.{false≢true, cases_Bool}
 use Rattle.std.proofs.lemmas.Cmp.{tied_itself}
 use Rattle.mt_types.specs.Keys.{key_cmp}
-use Rattle.mt_rows.proofs.MapLemmas.{key_order, key_apart}
+use Rattle.mt_types.proofs.MapLemmas.{key_order, key_apart}
 use Rattle.mt_check.specs.declared.versions.Version.{Version}
 use Rattle.mt_check.specs.declared.versions.Versions.{Versions}
 use Rattle.mt_check.specs.Versions.{Rising, versions_in}

@@ -8,7 +8,7 @@ use Rattle.std.specs.Cmp.{eq_by_cmp_equiv}
 use Rattle.std.specs.declared.cmp.Ordering.{Ordering}
 use Rattle.std.specs.declared.cmp.Ordering.TheVariants.{Less, Equal, Greater}
 use Rattle.mt_types.specs.Keys.{key_cmp}
-use Rattle.mt_rows.proofs.MapLemmas.{key_order, key_apart}
+use Rattle.mt_types.proofs.MapLemmas.{key_order, key_apart}
 use Rattle.mt_check.specs.declared.versions.Version.{Version}
 
 abbrev pub Tree : Type 0

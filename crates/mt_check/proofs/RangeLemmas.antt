@@ -23,7 +23,7 @@ use Rattle.mt_types.specs.declared.row.Delta.{Delta}
 use Rattle.mt_types.proofs.RangeLemmas.{given_once}
 use Rattle.mt_promise.specs.ExactValues.{same_rows}
 use Rattle.mt_commit.specs.Log.{Numbered}
-use Rattle.mt_rows.proofs.MapLemmas.{key_apart}
+use Rattle.mt_types.proofs.MapLemmas.{key_apart}
 use Rattle.mt_check.specs.declared.versions.Version.{Version}
 use Rattle.mt_check.specs.declared.versions.Versions.{Versions}
 use Rattle.mt_check.specs.Receipts.{rows_at, Sometime, Throughout, Shows, Lacks, Stands}

@@ -8,7 +8,7 @@ use Rattle.std.proofs.lemmas.Cmp.{tied_itself}
 use Rattle.std.proofs.lemmas.Bool.{false≢true, cases_Bool}
 use Rattle.mt_types.specs.Keys.{key_cmp}
 use Rattle.mt_types.specs.declared.row.Row.{Row}
-use Rattle.mt_rows.proofs.MapLemmas.{key_order, key_apart}
+use Rattle.mt_types.proofs.MapLemmas.{key_order, key_apart}
 use Rattle.mt_check.specs.Ranges.{walks}
 
 -- the key stands there with this

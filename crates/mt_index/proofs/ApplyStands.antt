@@ -24,9 +24,9 @@ use Rattle.mt_commit.specs.Holders.{with_holder}
 use Rattle.mt_commit.proofs.CountLemmas.{pinning_counts, unpinning_counts, counted_is_held}
 use Rattle.mt_chart.specs.Tree.{Among, first, later}
 use Rattle.mt_view.specs.State.{StateView, applied, page_of_state}
-use Rattle.mt_views.specs.Views.{ViewsView, Rises, all_standing, standing, state_at, with_state, without}
-use Rattle.mt_views.proofs.ViewLemmas.{rises-state, rises-without, as-many-with-state, fewer-without}
-use Rattle.mt_views.proofs.StandingLemmas.{view-of-state, view-of-none, moved-on, dropped-there}
+use Rattle.mt_view.specs.Views.{ViewsView, Rises, all_standing, standing, state_at, with_state, without}
+use Rattle.mt_view.proofs.ViewLemmas.{rises-state, rises-without, as-many-with-state, fewer-without}
+use Rattle.mt_view.proofs.StandingLemmas.{view-of-state, view-of-none, moved-on, dropped-there}
 use Rattle.mt_index.specs.Viewing.{IsExact, ViewsStand}
 use Rattle.mt_index.specs.Stands.{MachineView, Stands, Applies, TakesOn, ReadsPage, ReadsState, ReadsView, Drops, DropsView, meant_number, none_meant}
 use Rattle.mt_index.proofs.ViewStands.{all_exact_still, exact_at, exact_with, exact_without, exact_next, view_holds, moved_holds, dropped_holds, least_held}

@@ -28,7 +28,7 @@ use Rattle.mt_works.specs.declared.work.Work.{Work}
 use Rattle.mt_works.specs.declared.work.Work.TheVariants.{Get as GetWork, Build as BuildWork}
 use Rattle.mt_steps.specs.Step.{Held}
 use Rattle.mt_works.specs.Works.{request_of, held, IsNew, OpensAt}
-use Rattle.mt_views.specs.Views.{ViewsView, places, standing}
+use Rattle.mt_view.specs.Views.{ViewsView, places, standing}
 use Rattle.mt_index.specs.Viewing.{ViewsStand, ReadsFrom, ReadsOf}
 use Rattle.mt_index.proofs.ViewStands.{all_exact_still, builds_of, paired-builds}
 use Rattle.mt_index.specs.Paired.{Paired}

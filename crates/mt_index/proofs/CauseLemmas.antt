@@ -15,7 +15,7 @@ use Rattle.mt_works.specs.declared.work.Work.{Work}
 use Rattle.mt_works.specs.Causes.{WorkWaits, WorkFails, WorkRefuses}
 use Rattle.mt_works.specs.Works.{IsBuiltWork}
 use Rattle.mt_works.specs.Building.{IsUpTo, FailsAt}
-use Rattle.mt_views.specs.Views.{ViewsView}
+use Rattle.mt_view.specs.Views.{ViewsView}
 use Rattle.mt_works.proofs.WorkLemmas.{refused_for}
 use Rattle.mt_index.specs.declared.calls.Call.{Call}
 use Rattle.mt_index.specs.Calls.{CallsView, call_at, with_changed, with_work}

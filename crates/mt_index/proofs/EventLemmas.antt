@@ -28,8 +28,8 @@ use Rattle.mt_index.proofs.CauseLemmas.{steps-caused}
 use Rattle.mt_index.proofs.OneStepLemmas.{steps-once}
 use Rattle.mt_index.proofs.OneFieldLemmas.{steps-one_field}
 
-pub all-more : (s m t : MachineView) (events : List Event) (outcomes : List Outcome) (event : Event) (outcome : Outcome) → AllHappen s events outcomes m → Happens m event outcome t → AllHappen s (events ++ event ∷ []) (outcomes ++ outcome ∷ []) t
-all-more s m t [] [] event outcome same more = (t, subst (λ (x : MachineView). Happens x event outcome t) same more, refl)
+pub all-more : (s m t : MachineView) (events : List Event) (outcomes : List Outcome) (event : Event) (outcome : Outcome) → AllHappen s events outcomes m → Makes m event outcome t → AllHappen s (events ++ event ∷ []) (outcomes ++ outcome ∷ []) t
+all-more s m t [] [] event outcome same more = (t, subst (λ (x : MachineView). Makes x event outcome t) same more, refl)
 all-more s m t (e ∷ es) (o ∷ os) event outcome (next, one, rest) more = (next, one, all-more next m t es os event outcome rest more)
 all-more s m t [] (o ∷ os) event outcome all more = absurd all
 all-more s m t (e ∷ es) [] event outcome all more = absurd all

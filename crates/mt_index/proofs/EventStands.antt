@@ -31,7 +31,7 @@ use Rattle.mt_works.specs.declared.work.Work.{Work}
 use Rattle.mt_works.specs.declared.work.Work.TheVariants.{Get as GetWork, Write as WriteWork, Range as RangeWork, Tidy as TidyWork, Build as BuildWork}
 use Rattle.mt_steps.specs.declared.progress.Progress.{Progress}
 use Rattle.mt_steps.specs.declared.progress.Progress.TheVariants.{Moved, Waits, Committed, Answered, Refused}
-use Rattle.mt_steps.specs.World.{World, Goes}
+use Rattle.mt_steps.specs.World.{World, GoesBy}
 use Rattle.mt_steps.specs.Step.{IsQuiet, IsRight, Stepped, Commits, bounds, put_row}
 use Rattle.mt_chart.specs.Tree.{Arena}
 use Rattle.mt_types.specs.declared.row.Change.TheVariants.{Put as PutChange, Drop}
@@ -40,7 +40,7 @@ use Rattle.mt_write.specs.declared.writing.Edit.{Edit}
 use Rattle.mt_write.specs.declared.writing.Edit.TheVariants.{Put as PutEdit, Remove as RemoveEdit}
 use Rattle.mt_write.specs.Held.{edit_request}
 use Rattle.mt_works.specs.Works.{request_of, held, IsTrue, IsBuiltWork, WorkBuilds}
-use Rattle.mt_views.specs.Views.{ViewsView, places, standing}
+use Rattle.mt_view.specs.Views.{ViewsView, places, standing}
 use Rattle.mt_index.specs.Viewing.{ReadsOf}
 use Rattle.mt_index.proofs.Reading.{reads_on, has_next}
 use Rattle.mt_index.proofs.ViewStands.{builds_of, least_held}
@@ -118,7 +118,7 @@ module _ (s : MachineView) (h : History) (n : ℕ) (st : Stands s h) (kept : Cal
   fewer = elim builds as (λ (b : Bool). cond b (s.views.building - 1) s.views.building ≤ s.views.building) [ true ↦ omega arith | false ↦ omega arith ]
 
   -- a step that commits nothing leaves the rows of the history
-  alike : {owns : List ℕ} {Then : World → Type 0} (goes : Goes s.epoch s.tree then_tree st.w (held kept.work).owns owns Then) → bounds left ≡ bounds s.log → IsQuiet s.tree then_tree s.log left
+  alike : {commit : Option ℕ} {owns : List ℕ} {Then : World → Type 0} (goes : GoesBy commit s.epoch s.tree then_tree st.w (held kept.work).owns owns Then) → bounds left ≡ bounds s.log → IsQuiet s.tree then_tree s.log left
       → (o : Outcome) → (after_step (moment h) f.call o 0).commits ≡ (moment h).commits → HasRowsOf s.columns then_tree (happening (step_event n) o 0 ∷ h)
   alike goes kept_bounds quiet o commits = content_still s h n kept st at f then_tree left work _ _ goes request kept_bounds quiet o commits
 

@@ -17,7 +17,7 @@ use Rattle.mt_chart.specs.Steps.{SameContent}
 use Rattle.mt_tree.specs.Seen.{arena_seen}
 use Rattle.mt_steps.specs.World.{World, IsWorld}
 use Rattle.mt_works.specs.Works.{held}
-use Rattle.mt_views.specs.Views.{ViewsView}
+use Rattle.mt_view.specs.Views.{ViewsView}
 use Rattle.mt_index.specs.declared.calls.Call.{Call}
 use Rattle.mt_index.specs.Calls.{CallsView}
 use Rattle.mt_index.specs.Paired.{Paired}

@@ -2,24 +2,28 @@
 use Rattle.std.proofs.Common.{ℕ, ◌≡◌, ◌≤◌, ◌<◌, ◌+◌, ◌⊎◌, inl, inr, length, true, cond, Option, Some, None, refl, sym, ap, subst, ◌∙◌, arith}
 use Rattle.std.specs.Option.{option_map}
 use Rattle.mt_types.specs.Numbers.{greatest_number}
+use Rattle.mt_types.specs.Limits.{key_fault, request_fault}
+use Rattle.mt_types.specs.declared.event.Request.{Request}
+use Rattle.mt_types.specs.declared.event.Request.TheVariants.{Get as GetRequest, Put as PutRequest, PutIf as PutIfRequest, Remove as RemoveRequest, Range as RangeRequest, Tidy as TidyRequest, Build as BuildRequest}
 use Rattle.mt_types.specs.declared.event.Outcome.{Outcome}
 use Rattle.mt_types.specs.declared.event.Outcome.TheVariants.{Applied, Current, Dropped, Refused}
 use Rattle.mt_types.specs.declared.refusal.Refusal.{Refusal}
 use Rattle.mt_types.specs.declared.refusal.Refusal.TheVariants.{NoMemory, Spent}
 use Rattle.mt_promise.specs.History.{History, moment, view_of}
+use Rattle.mt_promise.proofs.RowLimits.{neither_of, key_fits}
 use Rattle.mt_commit.specs.Log.{LogView, IsLog, newest, delta_of, trimmed}
 use Rattle.mt_commit.specs.Laws.{times_held}
 use Rattle.mt_commit.specs.Holders.{with_holder, without_holder}
 use Rattle.mt_view.specs.State.{StateView}
-use Rattle.mt_views.specs.Views.{ViewsView, standing, state_at, without}
-use Rattle.mt_views.proofs.StandingLemmas.{view-of-state}
+use Rattle.mt_view.specs.Views.{ViewsView, standing, state_at, without}
+use Rattle.mt_view.proofs.StandingLemmas.{view-of-state}
 use Rattle.std.specs.Prelude.{Result, Ok, Err, IfOk, IfErr, OnOk, OnErr}
 use Rattle.mt_promise.specs.Legal.{is_build as is_build_request, reads_log}
 use Rattle.mt_works.specs.declared.work.Work.{Work}
 use Rattle.mt_works.specs.declared.work.Work.TheVariants.{Build as BuildWork}
 use Rattle.mt_works.specs.declared.building.Building.{Building}
 use Rattle.mt_works.specs.Building.{IsUpTo}
-use Rattle.mt_works.specs.Works.{request_of, IsBuiltWork}
+use Rattle.mt_works.specs.Works.{request_of, KeyFits, IsBuiltWork}
 use Rattle.mt_index.specs.declared.calls.Call.{Call}
 use Rattle.mt_index.specs.Calls.{CallsView, IsBuiltCall, call_at, without as without_call}
 use Rattle.mt_index.specs.Viewing.{TakesView, CopiesView}
@@ -34,6 +38,16 @@ use Rattle.mt_index.proofs.EventStands.{few_hold, held_reaches}
 use Rattle.mt_index.proofs.LaterStands.{seen}
 use Rattle.mt_index.proofs.ViewEvents.{exact_now}
 use Rattle.mt_index.proofs.ApplyStands.{meant_state}
+
+-- a request that breaks no limit has a key that is not too long
+pub key_fits_in : (C : ℕ) (request : Request) → request_fault C request ≡ None → KeyFits request
+key_fits_in C (GetRequest key columns) none = key_fits key (neither_of (key_fault key) _ none).0
+key_fits_in C (PutRequest key sets) none = key_fits key (neither_of (key_fault key) _ none).0
+key_fits_in C (PutIfRequest key sets version) none = key_fits key (neither_of (key_fault key) _ none).0
+key_fits_in C (RemoveRequest key) none = key_fits key none
+key_fits_in C (RangeRequest start limit columns) none = key_fits start (neither_of (key_fault start) _ none).0
+key_fits_in C (TidyRequest key) none = key_fits key none
+key_fits_in C (BuildRequest spec) none = tt
 
 -- if a view exists, it has a state
 pub state_there : (o : Option StateView) (at : ℕ) → option_map (λ (s : StateView). s.at) o ≡ Some at → (state : StateView) × (o ≡ Some state) × (state.at ≡ at)

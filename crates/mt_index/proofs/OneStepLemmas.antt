@@ -11,7 +11,7 @@ use Rattle.mt_steps.specs.declared.progress.Progress.TheVariants.{Moved, Waits, 
 use Rattle.mt_works.specs.declared.work.Work.{Work}
 use Rattle.mt_works.specs.Works.{IsBuiltWork}
 use Rattle.mt_works.specs.Follows.{WorkFollows}
-use Rattle.mt_views.specs.Views.{ViewsView}
+use Rattle.mt_view.specs.Views.{ViewsView}
 use Rattle.mt_index.specs.declared.calls.Call.{Call}
 use Rattle.mt_index.specs.Calls.{CallsView, call_at, with_changed, with_work}
 use Rattle.mt_index.specs.OneStep.{EndsSo, IsOneStep}

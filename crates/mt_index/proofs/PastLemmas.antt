@@ -7,8 +7,8 @@ use Rattle.mt_types.specs.declared.row.Delta.{Delta}
 use Rattle.mt_commit.specs.Deltas.{redo}
 use Rattle.mt_commit.specs.Logged.{deltas_of}
 use Rattle.mt_commit.proofs.DeltaLemmas.{deltas_of-length}
-use Rattle.mt_build.specs.History.{GoesBy}
-use Rattle.mt_build.specs.Build.{HasRows, HadRows}
+use Rattle.mt_works.specs.History.{GoesBy}
+use Rattle.mt_works.specs.Build.{HasRows, HadRows}
 use Rattle.std.specs.Prelude.{All}
 use Rattle.std.specs.FinMap.{get}
 use Rattle.std.proofs.lemmas.List.Elements.{All-nil, All-cons, All-head, All-tail}

@@ -15,10 +15,10 @@ use Rattle.mt_commit.proofs.DeltaLemmas.{deltas_of-length}
 use Rattle.mt_view.specs.State.{StateView}
 use Rattle.mt_chart.specs.Tree.{Arena}
 use Rattle.mt_tree.specs.Seen.{arena_seen}
-use Rattle.mt_build.specs.Build.{BuildView}
-use Rattle.mt_build.specs.History.{LeadsTo}
-use Rattle.mt_build.proofs.HistoryLemmas.{deltas_lead}
-use Rattle.mt_build.proofs.ReadLemmas.{builds_exact}
+use Rattle.mt_works.specs.Build.{BuildView}
+use Rattle.mt_works.specs.History.{LeadsTo}
+use Rattle.mt_works.proofs.HistoryLemmas.{deltas_lead}
+use Rattle.mt_works.proofs.ReadLemmas.{builds_exact}
 use Rattle.mt_steps.specs.declared.progress.Progress.{Progress}
 use Rattle.mt_steps.specs.declared.progress.Progress.TheVariants.{Moved, Waits, Committed, Answered, Refused}
 use Rattle.mt_write.specs.declared.writing.Edit.{Edit}

@@ -27,7 +27,7 @@ use Rattle.mt_write.specs.Held.{edit_request, write_request}
 use Rattle.mt_write.specs.Runs.{Advances, HasRun, IsTrimmed, MayRun, RunStep, RunSteps, WriteState, commits_in}
 use Rattle.mt_works.specs.declared.work.Work.TheVariants.{Write as WriteWork}
 use Rattle.mt_works.specs.Works.{IsNew}
-use Rattle.mt_views.specs.Views.{ViewsView}
+use Rattle.mt_view.specs.Views.{ViewsView}
 use Rattle.mt_index.specs.declared.calls.Call.{Call}
 use Rattle.mt_index.specs.declared.running.Run.{Run}
 use Rattle.mt_index.specs.declared.calling.CallRun.{CallRun}

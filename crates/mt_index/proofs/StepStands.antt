@@ -24,7 +24,7 @@ use Rattle.mt_chart.proofs.Basics.{same_number}
 use Rattle.mt_tree.specs.Seen.{arena_seen, HasRow}
 use Rattle.mt_index.specs.declared.calls.Call.{Call}
 use Rattle.mt_works.specs.declared.work.Work.{Work}
-use Rattle.mt_steps.specs.World.{IsTaken, World, IsSame, Goes, NotAmong}
+use Rattle.mt_steps.specs.World.{IsTaken, World, IsSame, GoesBy, NotAmong}
 use Rattle.mt_steps.specs.Step.{IsQuiet, Changes, bounds}
 use Rattle.mt_works.specs.Works.{request_of, held, IsTrue}
 use Rattle.mt_commit.specs.Logged.{key_of, delta_made, deltas_of}
@@ -33,7 +33,7 @@ use Rattle.mt_index.specs.Calls.{call_at, with_changed, with_work, without, AreA
 use Rattle.mt_index.specs.Stands.{AllOwned, MachineView, CallStands, WasBlocked, HasRowsOf, IsPast, Stands, holding}
 use Rattle.mt_commit.proofs.DeltaLemmas.{delta_is, deltas_of-append, deltas_of-length}
 use Rattle.mt_index.proofs.LogStands.{holds_from, all-held, slowest_is, trims, was_later, blocked_now}
-use Rattle.mt_views.specs.Views.{ViewsView}
+use Rattle.mt_view.specs.Views.{ViewsView}
 use Rattle.mt_index.specs.Viewing.{ViewsStand, ReadsOf}
 use Rattle.mt_index.proofs.PastLemmas.{Grows, past_more}
 use Rattle.mt_index.proofs.Reading.{reads_still}
@@ -49,8 +49,8 @@ step_event n = Step (record { 0 = n })
 
 -- two options that hold the same rows are one
 -- ---- the list of calls: one step of one call leaves what is true of the others, and keeps what they own apart
-module _ (s : MachineView) (h : History) (n : ℕ) (kept : Call) (st : Stands s h) (at : call_at n s.calls.calls ≡ Some kept) (f : Found (CallStands s.columns s.epoch s.tree st.w h) n kept (moment h).calls)
-    (after_tree : ArenaView) (work : Work) (owns : List ℕ) (Then : World → Type 0) (goes : Goes s.epoch s.tree after_tree st.w (held kept.work).owns owns Then) where
+module _ {commit : Option ℕ} (s : MachineView) (h : History) (n : ℕ) (kept : Call) (st : Stands s h) (at : call_at n s.calls.calls ≡ Some kept) (f : Found (CallStands s.columns s.epoch s.tree st.w h) n kept (moment h).calls)
+    (after_tree : ArenaView) (work : Work) (owns : List ℕ) (Then : World → Type 0) (goes : GoesBy commit s.epoch s.tree after_tree st.w (held kept.work).owns owns Then) where
   abbrev before : ℕ × Call → OpenCall → Type 0
   before = CallStands s.columns s.epoch s.tree st.w h
 
@@ -70,7 +70,7 @@ module _ (s : MachineView) (h : History) (n : ℕ) (kept : Call) (st : Stands s 
     blocked = was_later c.began x h (held k.1.work).blocked r.blocked;
     past = arena_seen s.tree ∷ r.past;
     passed = let b = r.began in past_more s.columns c.began c.from x h after_tree (arena_seen s.tree ∷ r.past) (omega arith) content keys grows r.passed;
-    true = stays s.tree after_tree st.w goes.next s.columns k.1.epoch c.moves r.past (goes.evolves k.1.epoch r.epoch) s.epoch goes.world goes.age k.1.work (λ number owned. (others_left k i ne c r number owned).0) r.true;
+    true = stays s.tree after_tree st.w goes.next s.columns k.1.epoch c.moves r.past (goes.evolves k.1.epoch r.epoch) s.epoch goes.world goes.age.borders k.1.work (λ number owned. (others_left k i ne c r number owned).0) r.true;
     reads = reads_still s.columns (moment h) (moment (x ∷ h)) grows c.from k.1.work r.reads;
   }
 
@@ -166,8 +166,8 @@ now_views s h x building entries next after_tree calls views built grows counted
 pub builds_before : (s : MachineView) (h : History) (st : Stands s h) → s.views.building ≡ total builds_of s.calls.calls
 builds_before s h st = st.views.building ∙ paired-builds (CallStands s.columns s.epoch s.tree st.w h) (λ k c r. r.request) 0 s.calls.begun s.calls.calls (moment h).calls st.calls
 
-module _ (s : MachineView) (h : History) (n : ℕ) (kept : Call) (st : Stands s h) (at : call_at n s.calls.calls ≡ Some kept) (f : Found (CallStands s.columns s.epoch s.tree st.w h) n kept (moment h).calls)
-    (after_tree : ArenaView) (left : LogView) (work : Work) (owns : List ℕ) (Then : World → Type 0) (goes : Goes s.epoch s.tree after_tree st.w (held kept.work).owns owns Then)
+module _ {commit : Option ℕ} (s : MachineView) (h : History) (n : ℕ) (kept : Call) (st : Stands s h) (at : call_at n s.calls.calls ≡ Some kept) (f : Found (CallStands s.columns s.epoch s.tree st.w h) n kept (moment h).calls)
+    (after_tree : ArenaView) (left : LogView) (work : Work) (owns : List ℕ) (Then : World → Type 0) (goes : GoesBy commit s.epoch s.tree after_tree st.w (held kept.work).owns owns Then)
     (request : request_of work ≡ request_of kept.work) (kept_bounds : bounds left ≡ bounds s.log) where
   abbrev ks : Entries
   ks = with_changed (with_work work) n s.calls.calls

@@ -26,11 +26,11 @@ use Rattle.mt_commit.specs.Logged.{deltas_of}
 use Rattle.mt_commit.proofs.CountLemmas.{pinning_counts, unpinning_counts}
 use Rattle.mt_chart.specs.Tree.{Among}
 use Rattle.mt_view.specs.State.{StateView, IsAfresh}
-use Rattle.mt_build.specs.History.{LeadsTo}
-use Rattle.mt_build.proofs.HistoryLemmas.{led_is_afresh}
-use Rattle.mt_views.specs.Views.{ViewsView, all_standing, standing}
-use Rattle.mt_views.proofs.ViewLemmas.{rises-append}
-use Rattle.mt_views.proofs.StandingLemmas.{opened-there}
+use Rattle.mt_works.specs.History.{LeadsTo}
+use Rattle.mt_works.proofs.HistoryLemmas.{led_is_afresh}
+use Rattle.mt_view.specs.Views.{ViewsView, all_standing, standing}
+use Rattle.mt_view.proofs.ViewLemmas.{rises-append}
+use Rattle.mt_view.proofs.StandingLemmas.{opened-there}
 use Rattle.mt_works.specs.declared.work.Work.{Work}
 use Rattle.mt_works.specs.declared.work.Work.TheVariants.{Build as BuildWork}
 use Rattle.mt_works.specs.declared.building.Building.{Building}

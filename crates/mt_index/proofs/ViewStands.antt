@@ -17,8 +17,8 @@ use Rattle.mt_commit.specs.Deltas.{redo}
 use Rattle.mt_commit.proofs.LogLemmas.{least_within}
 use Rattle.mt_view.specs.State.{StateView, IsAfresh, applied}
 use Rattle.mt_view.proofs.AfreshLemmas.{applied_is_afresh}
-use Rattle.mt_views.proofs.ViewLemmas.{state-above, without-above}
-use Rattle.mt_views.specs.Views.{Rises, all_standing, state_at, with_state, without}
+use Rattle.mt_view.proofs.ViewLemmas.{state-above, without-above}
+use Rattle.mt_view.specs.Views.{Rises, all_standing, state_at, with_state, without}
 use Rattle.mt_works.specs.Works.{request_of}
 use Rattle.mt_index.specs.declared.calls.Call.{Call}
 use Rattle.mt_index.specs.Paired.{Paired}

@@ -30,20 +30,12 @@ EventDoes s Advance outcome t = Advances s outcome t
 EventDoes s Collect outcome t = Collects s outcome t
 
 -- AN EVENT HAPPENS SO: what it does, for what cause, and that a step of a call is one step of its kind and changes at
--- most one field of one border
+-- most one node, and of a border one field
 pub record Happens (s : MachineView) (event : Event) (outcome : Outcome) (t : MachineView) : Type 0 where
   pub does : EventDoes s event outcome t
   pub caused : IsCaused s event outcome t
   pub one_step : IsOneStep s event outcome t
-  pub one_field : IsOneField s event t
-
--- these events happen one after the other, with these outcomes, one for each
-abbrev pub AllHappen : MachineView → List Event → List Outcome → MachineView → Type 0
-AllHappen s [] [] t = t ≡ s
-AllHappen s (event ∷ events) (outcome ∷ outcomes) t =
-    (next : MachineView) × Happens s event outcome next × AllHappen next events outcomes t
-AllHappen s [] (outcome ∷ outcomes) t = ⊥
-AllHappen s (event ∷ events) [] t = ⊥
+  pub one_field : IsOneField s event outcome t
 
 -- steps of one call, with these outcomes
 abbrev pub StepsHappen : MachineView → CallNo → List Outcome → MachineView → Type 0
@@ -58,6 +50,14 @@ pub record Makes (s : MachineView) (event : Event) (outcome : Outcome) (t : Mach
   pub happens : Happens s event outcome t
   pub columns : t.columns ≡ s.columns
   pub bounds : HasBounds s.log.feed s.log.keep t.log
+
+-- THESE EVENTS HAPPEN one after the other, with these outcomes, one for each: the machine makes each of them
+abbrev pub AllHappen : MachineView → List Event → List Outcome → MachineView → Type 0
+AllHappen s [] [] t = t ≡ s
+AllHappen s (event ∷ events) (outcome ∷ outcomes) t =
+    (next : MachineView) × Makes s event outcome next × AllHappen next events outcomes t
+AllHappen s [] (outcome ∷ outcomes) t = ⊥
+AllHappen s (event ∷ events) [] t = ⊥
 
 -- it makes steps of one call, with these outcomes
 abbrev pub MakesSteps : MachineView → CallNo → List Outcome → MachineView → Type 0

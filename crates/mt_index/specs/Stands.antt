@@ -36,10 +36,10 @@ use Rattle.mt_steps.specs.declared.progress.Progress.TheVariants.{Moved as WentO
 use Rattle.mt_steps.specs.World.{World, IsWorld, IsTaken}
 use Rattle.mt_steps.specs.Collecting.{IsCollected, CollectLaw}
 use Rattle.mt_works.specs.Works.{request_of, held, IsTrue, IsNew}
-use Rattle.mt_build.specs.History.{GoesBy}
-use Rattle.mt_build.specs.Build.{HadRows}
+use Rattle.mt_works.specs.History.{GoesBy}
+use Rattle.mt_works.specs.Build.{HadRows}
 use Rattle.mt_view.specs.State.{StateView, applied, page_of_state}
-use Rattle.mt_views.specs.Views.{ViewsView, all_standing, places, state_at, with_state, without as without_view}
+use Rattle.mt_view.specs.Views.{ViewsView, all_standing, places, state_at, with_state, without as without_view}
 use Rattle.mt_index.specs.Viewing.{ViewsStand, ReadsOf}
 use Rattle.mt_index.specs.Paired.{Paired}
 use Rattle.mt_commit.specs.Logged.{deltas_of}

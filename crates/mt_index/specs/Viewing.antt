@@ -14,8 +14,8 @@ use Rattle.mt_commit.specs.Logged.{deltas_of}
 use Rattle.mt_commit.specs.Log.{LogView, delta_of}
 use Rattle.mt_view.specs.State.{StateView, applied}
 use Rattle.mt_view.specs.Laws.{IsStateOf}
-use Rattle.mt_build.specs.History.{LeadsTo}
-use Rattle.mt_views.specs.Views.{ViewsView, Rises, all_standing, places, standing, with_state}
+use Rattle.mt_works.specs.History.{LeadsTo}
+use Rattle.mt_view.specs.Views.{ViewsView, Rises, all_standing, places, standing, with_state}
 use Rattle.mt_works.specs.declared.work.Work.{Work}
 use Rattle.mt_works.specs.declared.work.Work.TheVariants.{Build}
 

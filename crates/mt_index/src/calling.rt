@@ -92,9 +92,7 @@ impl Machine {
         ensures most { RunsAtMost most result }
     {
         let from = self.log.number();
-        let Ok(mut write) = write_of(request) else {
-            return CallRun::Refused(Refusal::NoMemory);
-        };
+        let mut write = write_of(request);
         let run = write.run(alloc, self.columns, &mut self.tree, &mut self.log, most);
         let to = self.log.number();
         if has_ended(&run.last) {

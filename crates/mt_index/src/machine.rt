@@ -27,7 +27,7 @@ use mt_types::limits::{MAX_NODES, open_fault};
 use mt_types::numbers::{CallNo, PassNo};
 use mt_types::refusal::Refusal;
 use mt_types::row::Delta;
-use mt_views::views::Views;
+use mt_view::views::Views;
 use std::alloc::Global;
 use std::marker::Model;
 
@@ -204,8 +204,9 @@ impl Machine {
     /// - `caused`: why a call waits, fails or is refused, and which nodes a collection frees;
     /// - `one_step`: that a step of a call is one step of its kind, by the tree before it. It visits one node, of which
     ///   it reads one field if it is a border on the way of the call; or it takes one delta of the log.
-    /// - `one_field`: that a step of a call changes at most one field of one border that others may read. When it shows
-    ///   a row, it changes the order, and gives the row its number of a commit.
+    /// - `one_field`: that a step of a call changes at most one node that other calls may read, and of a border at most
+    ///   one field, as they read it. The step of a commit may show a row: it changes the order, and writes the commit's
+    ///   number into the row.
     ///
     /// What the event answers keeps the limits of an index (`limited`).
     ///
@@ -220,7 +221,7 @@ impl Machine {
         ensures does { EventDoes self.old event.now result self.new }
         ensures caused { IsCaused self.old event.now result self.new }
         ensures one_step { IsOneStep self.old event.now result self.new }
-        ensures one_field { IsOneField self.old event.now self.new }
+        ensures one_field { IsOneField self.old event.now result self.new }
         ensures limited { OutcomeIsLimited result }
         ensures columns { self.new.columns ≡ self.old.columns }
         ensures bounds { HasBounds self.old.log.feed self.old.log.keep self.new.log }

@@ -3,7 +3,7 @@
 
 ghost use Rattle.std.specs.Prelude.{◌≡◌, ◌<◌, IsTrue, Contains, OnOk, OnErr, length, IfOk, None};
 ghost use Rattle.mt_promise.specs.Legal.{begin_fault, is_build};
-ghost use Rattle.mt_views.specs.Views.{places};
+ghost use Rattle.mt_view.specs.Views.{places};
 ghost use Rattle.mt_types.specs.declared.limits.TheConstants.{MAX_VIEWS};
 ghost use Rattle.mt_types.specs.declared.event.Outcome.TheVariants.{Call as Called};
 ghost use Rattle.mt_commit.specs.Log.{newest};
@@ -21,7 +21,7 @@ use mt_types::event::{Answer, Outcome, Reply, Request};
 use mt_types::limits::{MAX_OPEN_CALLS, MAX_VIEWS, request_fault};
 use mt_types::numbers::{CallNo, PassNo, ViewNo};
 use mt_types::refusal::{NoMemory, Refusal};
-use mt_views::views::Views;
+use mt_view::views::Views;
 use mt_works::building::Building;
 use mt_works::work::{Work, work_of};
 use std::alloc::Global;

@@ -10,7 +10,7 @@ ghost use Rattle.mt_commit.specs.Log.{newest, delta_of};
 ghost use Rattle.mt_commit.specs.Holders.{with_holder, without_holder};
 ghost use Rattle.mt_commit.specs.declared.log.TheConstants.{MAX_HOLDERS};
 ghost use Rattle.mt_view.specs.State.{StateView, applied, page_of_state};
-ghost use Rattle.mt_views.specs.Views.{state_at, with_state};
+ghost use Rattle.mt_view.specs.Views.{state_at, with_state};
 ghost use Rattle.mt_commit.specs.Log.{IsLog};
 ghost use Rattle.mt_index.specs.Stands.{Stands, Applies, ReadsView, Drops, HasBounds, with_view, vacated};
 ghost use Rattle.mt_index.specs.Viewing.{TakesView, CopiesView, page_outcome};
@@ -26,7 +26,7 @@ use mt_types::numbers::ViewNo;
 use mt_types::refusal::{NoMemory, Refusal};
 use mt_types::view::Page;
 use mt_view::state::ViewState;
-use mt_views::views::Views;
+use mt_view::views::Views;
 use std::alloc::Global;
 
 // Opens a view in the place of a build. It holds the log from the number of commits at which it is. On an error nothing

@@ -3,7 +3,7 @@
 
 use bytes::Bytes;
 use mt_border::RightLink;
-use mt_build::build::Build;
+use mt_works::build::Build;
 use mt_scan::ScanMove;
 use mt_types::numbers::NodeNo;
 use mt_types::refusal::Refusal;

@@ -15,7 +15,7 @@ use Rattle.mt_types.specs.declared.view.Page.{Page}
 use Rattle.mt_types.specs.Limits.{page_fault}
 use Rattle.mt_promise.specs.History.{History, moment}
 use Rattle.mt_view.specs.Laws.{ShowsPage}
-use Rattle.mt_views.specs.Views.{state_at}
+use Rattle.mt_view.specs.Views.{state_at}
 use Rattle.mt_view.specs.State.{StateView, page_of_state}
 use Rattle.mt_index.specs.Alone.{IsIdle, AnswersPlainly, RefusesPlainly}
 use Rattle.mt_index.specs.Events.{EventDoes, HappensAlone}

@@ -41,7 +41,7 @@ pub record RowsView : Type 0 where
 abbrev pub rows_view : MachineView → Walk → RowsView
 rows_view machine walk = record { machine = machine; at = record { key = walk.key.items; given = walk.given } }
 
--- unless memory was refused, it is a walk over the machine's tree; no call is open
+-- unless memory was refused, it is a walk over the machine's tree, in which no change is under way
 abbrev pub IsWalking : Bool → MachineView → Walk → Type 0
 IsWalking true machine walk = Unit {0}
 IsWalking false machine walk = IsQuiet machine × IsWalk (view_of walk) × ((view_of walk).tree ≡ machine.tree)

@@ -5,3 +5,4 @@ pub mod Folds
 pub mod Shown
 pub mod Rule
 pub mod Carried
+pub mod Follows

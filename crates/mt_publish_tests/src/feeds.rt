@@ -5,7 +5,7 @@ ghost use Rattle.mt_index.specs.Alone.{IsIdle};
 use crate::plain::{Changes, everything, first_key};
 use crate::threads::{CHANGES, Seen, read_beside};
 use bytes::Bytes;
-use mt_follow::follow::follow;
+use mt_publish::follow::follow;
 use mt_index::machine::Machine;
 use mt_index::options::Options;
 use mt_publish::publisher::{Publisher, ViewReader};

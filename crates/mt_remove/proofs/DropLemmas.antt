@@ -6,6 +6,8 @@ use Rattle.mt_types.specs.declared.numbers.NodeNo.{NodeNo}
 use Rattle.mt_types.specs.declared.event.Answer.TheVariants.{Tidied}
 use Rattle.mt_types.specs.declared.event.TidyRule.TheVariants.{Nothing as NoRule}
 use Rattle.mt_border.specs.Border.{BorderView, with_unlocked, with_deleted}
+use Rattle.mt_border.specs.Order.{IsBorder, IsLeftOf}
+use Rattle.mt_border.specs.declared.entry.RightLink.{RightLink}
 use Rattle.mt_interior.specs.Interior.{InteriorView, without_child}
 use Rattle.mt_interior.specs.declared.child.Child.{Child}
 use Rattle.mt_arena.specs.Node.{node_at, interior_at, border_at}
@@ -141,20 +143,22 @@ module _ (epoch : ℕ) (a : ArenaView) (tidy : Tidy) (border head parent : NodeN
 
 -- ---- it is marked deleted
 module _ (epoch : ℕ) (a : ArenaView) (tidy : Tidy) (border head : NodeNo) (is : tidy.stage ≡ Dropped border head) where
-  abbrev at_head : ℕ → Unlinking
-  at_head slice = record { border = border; head = head; node = head; slice = slice }
+  abbrev at_head : ℕ → Option RightLink → Unlinking
+  at_head slice right = record { border = border; head = head; node = head; slice = slice; right = right }
 
-  pub marks : (b : BorderView) (slice : ℕ) (after : ArenaView) → border_at a.nodes border.0 ≡ Some b → slice ≡ b.low - 1 → slice < 2 ^ 64 → after ≡ with_border_changed a border.0 with_deleted → KeepsTree a after → TidyStep epoch a after tidy Moved (record tidy { finding = Begins; stage = Marked (at_head slice) })
-  marks b slice after read low_is within value keeps = at_stage epoch a after tidy (Dropped border head) Moved (record tidy { finding = Begins; stage = Marked (at_head slice) }) is refl (ap (λ (x : ArenaView). x.retired) value) (record {
+  pub marks : (b : BorderView) (slice : ℕ) (right : Option RightLink) (after : ArenaView) → border_at a.nodes border.0 ≡ Some b → IsBorder b → slice ≡ b.low - 1 → right ≡ b.right → slice < 2 ^ 64 → after ≡ with_border_changed a border.0 with_deleted → KeepsTree a after → TidyStep epoch a after tidy Moved (record tidy { finding = Begins; stage = Marked (at_head slice right) })
+  marks b slice right after read sound low_is right_is within value keeps = at_stage epoch a after tidy (Dropped border head) Moved (record tidy { finding = Begins; stage = Marked (at_head slice right) }) is refl (ap (λ (x : ArenaView). x.retired) value) (record {
     reads = tt;
     steps = λ begun w world before truth.
         let (e, known) = truth in
         let prefix = prefix_of tidy.key tidy.way in
         let same : e.b ≡ b = (let both : ◌≡◌ {A = Option BorderView} (Some e.b) (Some b) = sym e.named ∙ read in cc) in
         let low : slice ≡ e.b.low - 1 = low_is ∙ ap (λ (x : BorderView). x.low - 1) (sym same) in
+        let link : e.b.right ≡ right = ap (λ (x : BorderView). x.right) same ∙ sym right_is in
+        let Over : BorderView → Option RightLink → Type 0 = λ x r. IsLeftOf x.low x.live r in
         let new : ArenaView = with_border_changed a border.0 with_deleted in
         let kept = (subst (λ (x : ArenaView). KeepsTree a x) value keeps).keeps epoch w.twins w.chart world.index in
-        let Then : ArenaView → World → Type 0 = λ x next. StageIsTrue begun tidy.key tidy.way Begins (Marked (at_head slice)) x next in
+        let Then : ArenaView → World → Type 0 = λ x next. StageIsTrue begun tidy.key tidy.way Begins (Marked (at_head slice right)) x next in
         subst (λ (x : ArenaView). Goes epoch a x w (border.0 ∷ []) (border.0 ∷ []) (Then x) × SameContent (arena_seen a) (arena_seen x)) (sym value) (
           goes_border a border.0 e.b with_deleted e.named epoch w (border.0 ∷ []) (border.0 ∷ []) (Then new) world (λ known. (ages_deleted e.b, inr refl)) kept.index (keys_same a new kept.content world.keys) (mine_free a border.0 w (border.0 ∷ []) first) (λ other i. inl i) (λ other ne i. i) (λ locked. first)
               (locked_may a border.0 e.b with_deleted e.named epoch w world e.locked e.free (inl e.locked)) (
@@ -163,6 +167,8 @@ module _ (epoch : ℕ) (a : ArenaView) (tidy : Tidy) (border head : NodeNo) (is 
                   marked = refl;
                   before = let above = e.later in omega (arith, low, above);
                   fits = within;
+                  noted = link;
+                  above = subst (λ (r : Option RightLink). Over e.b r) link (subst (λ (x : BorderView). Over x x.right) (sym same) sound.left_of);
                   headed = known;
                 },
                 record { role = top; low = 0; standing = known.standing; place = known.place; at_most = omega arith; since = known.since },
@@ -170,7 +176,10 @@ module _ (epoch : ℕ) (a : ArenaView) (tidy : Tidy) (border head : NodeNo) (is 
               ),
           kept.content,
         );
-  }) tt tt (subst (λ (o : Option BorderView). IsSomeAnd o (λ x. GoesTo (unread tidy) Moved (record tidy { finding = Begins; stage = Marked (at_head slice) }) (Marked (at_head (x.low - 1))))) (sym read) (refl, ap (λ (n : ℕ). record tidy { finding = Begins; stage = Marked (at_head n) }) low_is))
+  }) tt tt (subst (λ (o : Option BorderView). IsSomeAnd o (λ x. GoesTo (unread tidy) Moved (record tidy { finding = Begins; stage = Marked (at_head slice right) }) (Marked (at_head (x.low - 1) x.right)))) (sym read) (refl, as_read))
+    where
+      as_read : record tidy { finding = Begins; stage = Marked (at_head slice right) } ≡ record tidy { finding = Begins; stage = Marked (at_head (b.low - 1) b.right) }
+      as_read = λ i. record tidy { finding = Begins; stage = Marked (at_head (low_is i) (right_is i)) }
 
 -- ---- it is unlocked as it was
 module _ (epoch : ℕ) (a : ArenaView) (tidy : Tidy) (border : NodeNo) (is : tidy.stage ≡ KeepsBorder border) where

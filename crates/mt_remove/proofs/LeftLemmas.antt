@@ -1,5 +1,5 @@
 -- The steps that find the border before one that is marked deleted, and lock it.
-use Rattle.std.proofs.Common.{ℕ, ◌≡◌, ◌≢◌, ◌≤◌, inl, inr, List, [], ◌∷◌, Option, Some, None, IsSome, true, false, refl, sym, ap, subst, ◌∙◌, arith}
+use Rattle.std.proofs.Common.{ℕ, ◌≡◌, ◌≢◌, ◌≤◌, inl, inr, List, [], ◌∷◌, Option, Some, None, IsSome, Bool, true, false, refl, sym, ap, subst, ◌∙◌, arith}
 use Rattle.std.specs.Prelude.{IsSomeAnd}
 use Rattle.std.specs.Option.{option_and_then}
 use Rattle.mt_slice.specs.Place.{slice_number}
@@ -43,7 +43,7 @@ use Rattle.mt_remove.specs.Reading.{SeekReads, seek_reading}
 use Rattle.mt_remove.specs.Tidy.{stage_owns, tidy_held, StageIsTrue, ThenTidy, IsTidied, StageReads, MayTidy}
 use Rattle.mt_remove.specs.Locked.{IsUnlinking, HasLeft}
 use Rattle.mt_remove.specs.Known.{LeftFinding, AtLock}
-use Rattle.mt_remove.specs.Follows.{approach_progress, approached, slice_rest, StageWaits, TidyStep}
+use Rattle.mt_remove.specs.Follows.{approach_progress, approached, slice_rest, LocksLeftBy, Follows, StageWaits, TidyStep}
 use Rattle.mt_remove.proofs.LeftReads.{LeftLeads, left_leads}
 use Rattle.mt_remove.proofs.NoFinds.{NoFinds, seek_none}
 use Rattle.mt_remove.proofs.SeekWaits.{seek_waits}
@@ -67,6 +67,8 @@ unlinking_beside begun a w prefix u n k b change named differ =
       marked = k.marked;
       before = k.before;
       fits = k.fits;
+      noted = k.noted;
+      above = k.above;
       headed = k.headed;
     }
 
@@ -74,7 +76,7 @@ unlinking_beside begun a w prefix u n k b change named differ =
 -- the way begins again at the head
 pub from_head : (begun : ℕ) (a : ArenaView) (w : World) (prefix : List ℕ) (u : Unlinking) → IsUnlinking begun a w prefix u → IsUnlinking begun a w prefix (record u { node = u.head }) × Holds w.chart begun u.head.0 prefix u.slice
 from_head begun a w prefix u k = (
-  record { border = k.border; marked = k.marked; before = k.before; fits = k.fits; headed = k.headed },
+  record { border = k.border; marked = k.marked; before = k.before; fits = k.fits; noted = k.noted; above = k.above; headed = k.headed },
   record { role = top; low = 0; standing = k.headed.standing; place = k.headed.place; at_most = omega arith; since = k.headed.since },
 )
 
@@ -140,7 +142,7 @@ module _ (epoch : ℕ) (a : ArenaView) (tidy : Tidy) (u : Unlinking) (is : tidy.
   approached_true begun w world t Restarts led = let (k, held) = from_head begun a w prefix u t.0 in (k, held, tt)
   approached_true begun w world t Repeats led = (t.0, t.1, tt)
   approached_true begun w world t (GoesOn next) led = (t.0, t.1, led)
-  approached_true begun w world t (To node) led = (record { border = t.0.border; marked = t.0.marked; before = t.0.before; fits = t.0.fits; headed = t.0.headed }, led, tt)
+  approached_true begun w world t (To node) led = (record { border = t.0.border; marked = t.0.marked; before = t.0.before; fits = t.0.fits; noted = t.0.noted; above = t.0.above; headed = t.0.headed }, led, tt)
   approached_true begun w world t (Finds sight) led = (t.0, t.1, tt)
 
   approached_owns : (reading : FindReading) → stage_owns (Marked u) ≡ (left_with (approach_progress reading) (tidy_held (approached tidy u reading))).owns
@@ -215,6 +217,14 @@ module _ (epoch : ℕ) (a : ArenaView) (tidy : Tidy) (u : Unlinking) (is : tidy.
 
   -- ---- the lock
   module _ (lock : AtLock tidy.finding) (b : BorderView) (named : border_at a.nodes u.node.0 ≡ Some b) where
+    -- what follows, by the mark and the lock
+    looks_by : (p : Progress) (then : Tidy) → LocksLeftBy tidy u b.version.deleted b.version.locked p then → Follows a tidy (Marked u) p then
+    looks_by p then so = inr (lock, subst (λ (o : Option BorderView). IsSomeAnd o (λ x. LocksLeftBy tidy u x.version.deleted x.version.locked p then)) (sym named) so)
+
+    by_both : (locked : Bool) (p : Progress) (then : Tidy) → b.version.deleted ≡ false → b.version.locked ≡ locked → LocksLeftBy tidy u false locked p then → LocksLeftBy tidy u b.version.deleted b.version.locked p then
+    by_both locked p then alive is so =
+        subst (λ (d : Bool). LocksLeftBy tidy u d b.version.locked p then) (sym alive) (subst (λ (l : Bool). LocksLeftBy tidy u false l p then) (sym is) so)
+
     -- the border is marked deleted: the way begins again
     pub gone_again : b.version.deleted ≡ true → (new : Tidy) → new ≡ approached tidy u Restarts → TidyStep epoch a a tidy Waits new
     gone_again marked new new_is =
@@ -222,15 +232,15 @@ module _ (epoch : ℕ) (a : ArenaView) (tidy : Tidy) (u : Unlinking) (is : tidy.
         subst (λ (t : Tidy). TidyStep epoch a a tidy Waits t) (sym new_is)
         (at_stage epoch a a tidy (Marked u) Waits (approached tidy u Restarts) is refl refl
         (law_same epoch a tidy (Marked u) Waits (approached tidy u Restarts) refl (λ begun w world t. let (k, held) = from_head begun a w prefix u t.0 in (k, held, tt)))
-        tt (inr (lock, inl at)) (inr (lock, inl (at, refl, refl))))
+        tt (inr (lock, inl at)) (looks_by Waits (approached tidy u Restarts) (subst (λ (d : Bool). LocksLeftBy tidy u d b.version.locked Waits (approached tidy u Restarts)) (sym marked) (refl, refl))))
 
-    -- another call has locked it: it waits
-    pub locked_waits : b.version.locked ≡ true → TidyStep epoch a a tidy Waits tidy
-    locked_waits locked =
+    -- it is not, and another call has locked it: it waits
+    pub locked_waits : b.version.deleted ≡ false → b.version.locked ≡ true → TidyStep epoch a a tidy Waits tidy
+    locked_waits alive locked =
         let held : IsLockedAlready a u.node.0 = subst (λ (o : Option BorderView). IsSomeAnd o (λ x. x.version.locked ≡ true)) (sym named) locked in
         at_stage epoch a a tidy (Marked u) Waits tidy is refl refl
         (law_same epoch a tidy (Marked u) Waits tidy (sym (ap stage_owns is)) (λ begun w world t. subst (λ (s : Stage). StageIsTrue begun tidy.key tidy.way tidy.finding s a w) (sym is) t)) tt (inr (lock, inr held))
-        (inr (lock, inr (inl (held, refl, refl))))
+        (looks_by Waits tidy (by_both true Waits tidy alive locked (refl, refl)))
 
     abbrev taken : BorderView → BorderView
     taken x = with_locked x
@@ -265,7 +275,7 @@ module _ (epoch : ℕ) (a : ArenaView) (tidy : Tidy) (u : Unlinking) (is : tidy.
                 }),
             kept.content,
           );
-    }) tt tt (inr (lock, inr (inr (refl, refl))))
+    }) tt tt (looks_by Moved (record tidy { finding = Begins; stage = LeftLocked u }) (by_both false Moved (record tidy { finding = Begins; stage = LeftLocked u }) alive unlocked (refl, refl)))
       where
         locked_so : (finding : Finding) → AtLock finding → StageReads a after finding (Marked u)
         locked_so (Bounded counters right) lock = inr value

@@ -1,5 +1,5 @@
 -- What is left of a tidy that runs alone, and that it never waits.
-use Rattle.std.proofs.Common.{ℕ, ◌≡◌, ◌≢◌, ◌≤◌, ◌+◌, ◌*◌, ◌-◌, inl, inr, List, [], ◌∷◌, length, Option, Some, None, true, false, refl, sym, ap, subst, ◌∙◌, arith}
+use Rattle.std.proofs.Common.{ℕ, ◌≡◌, ◌≢◌, ◌≤◌, ◌+◌, ◌*◌, ◌-◌, inl, inr, List, [], ◌∷◌, length, Option, Some, None, Bool, true, false, refl, sym, ap, subst, ◌∙◌, arith}
 use Rattle.std.specs.Prelude.{IsSomeAnd}
 use Rattle.mt_types.specs.declared.numbers.NodeNo.{NodeNo}
 use Rattle.mt_types.specs.declared.event.Answer.TheVariants.{Tidied}
@@ -21,7 +21,7 @@ use Rattle.mt_steps.specs.declared.reader.Reading.TheVariants.{Restarts, Repeats
 use Rattle.mt_steps.specs.declared.way.Way.{Way}
 use Rattle.mt_steps.specs.declared.progress.Progress.{Progress}
 use Rattle.mt_steps.specs.declared.progress.Progress.TheVariants.{Moved, Waits, Answered}
-use Rattle.mt_steps.specs.Causes.{IsLockedAlready}
+use Rattle.mt_tree.specs.Descent.{is_marked}
 use Rattle.mt_steps.specs.Finding.{Finding, FindReading}
 use Rattle.mt_steps.specs.Getting.{reads_made}
 use Rattle.mt_steps.specs.Way.{start, prefix_of, rest_of}
@@ -46,7 +46,7 @@ use Rattle.mt_remove.specs.Reading.{seek_reading}
 use Rattle.mt_remove.specs.Tidy.{stage_owns, tidy_held, StageIsTrue, TidyIsTrue}
 use Rattle.mt_remove.specs.Locked.{IsUnlinking}
 use Rattle.mt_remove.specs.Known.{SeekFinding, AtLock}
-use Rattle.mt_remove.specs.Follows.{not_noted, names, slice_rest, unread, approach_progress, BeginsAt, BeginsBy, FollowsReading, StageWaits, TidyWaits, Follows, TidyFollows}
+use Rattle.mt_remove.specs.Follows.{not_noted, names, slice_rest, unread, approach_progress, LocksLeftBy, BeginsAt, BeginsBy, FollowsReading, StageWaits, TidyWaits, Follows, TidyFollows}
 use Rattle.mt_remove.proofs.LoneReads.{NoRow, LeftStands, LeftGoes, seek_goes, left_goes}
 
 -- ---- what else is true of it
@@ -224,16 +224,16 @@ module _ (a : ArenaView) (now begun : ℕ) (w : World) (world : IsWorld a now w)
         go (GoesOn next) goes is = (let clash : Waits ≡ Moved = is in cc)
         go (To next) goes is = (let clash : Waits ≡ Moved = is in cc)
         go (Finds sight) goes is = goes
-    left_waits_not new (inr (lock, inl (marked, p_is, new_is))) = not_marked a now w world u.node.0 left_free stands.1 marked
-    left_waits_not new (inr (lock, inr (inl (locked, p_is, new_is)))) = left_free (locked_there locked)
+    left_waits_not new (inr (lock, looked)) = go (border_at a.nodes u.node.0) refl looked
       where
-        locked_there : IsLockedAlready a u.node.0 → IsTaken a w u.node.0
-        locked_there locked = go (border_at a.nodes u.node.0) refl locked
-          where
-            go : (o : Option BorderView) → border_at a.nodes u.node.0 ≡ o → IsSomeAnd o (λ b. b.version.locked ≡ true) → IsTaken a w u.node.0
-            go None named h = absurd h
-            go (Some b) named h = inl (subst (λ (x : Option Node). IsLocked x) (sym (node-from_border a.nodes u.node.0 b named)) h)
-    left_waits_not new (inr (lock, inr (inr (p_is, new_is)))) = (let clash : Waits ≡ Moved = p_is in cc)
+        by_both : (b : BorderView) → border_at a.nodes u.node.0 ≡ Some b → (deleted locked : Bool) → b.version.deleted ≡ deleted → b.version.locked ≡ locked → LocksLeftBy tidy u deleted locked Waits new → ⊥
+        by_both b named true locked marked held does = not_marked a now w world u.node.0 left_free stands.1 (subst (λ (o : Option Node). IsSomeAnd o (λ node. is_marked node ≡ true)) (sym (node-from_border a.nodes u.node.0 b named)) marked)
+        by_both b named false true alive held does = left_free (inl (subst (λ (x : Option Node). IsLocked x) (sym (node-from_border a.nodes u.node.0 b named)) held))
+        by_both b named false false alive held does = (let clash : Waits ≡ Moved = does.0 in cc)
+
+        go : (o : Option BorderView) → border_at a.nodes u.node.0 ≡ o → IsSomeAnd o (λ b. LocksLeftBy tidy u b.version.deleted b.version.locked Waits new) → ⊥
+        go None named h = absurd h
+        go (Some b) named h = by_both b named b.version.deleted b.version.locked refl refl h
 
   -- ---- at any stage
   stage_waits_not : (stage : Stage) (new : Tidy) → StageIsTrue begun tidy.key tidy.way tidy.finding stage a w → stage_stands a w tidy.key tidy.way tidy.finding stage → Taken stage → Follows a tidy stage Waits new → StageWaits a tidy stage Waits → ⊥

@@ -64,8 +64,8 @@ module _ (a after : ArenaView) (now begun : ℕ) (w next : World) (world : IsWor
   by_place border head parent stands new None follows = goes (Locked border head parent) (KeepsBorder border) new follows (λ spots new_true. (tt, omega arith))
   by_place border head parent stands new (Some place) follows = goes (Locked border head parent) (Dropped border head) new follows (λ spots new_true. (head_beside a after now begun w next world world_next tidy bytes fits all_owned border.0 head stands _ _ _ _ spots new_true.1 new_true.0.place, omega arith))
 
-  marks_nearer : (border head : NodeNo) → head_stands w tidy.key tidy.way head → (new : Tidy) (slice : ℕ) → GoesTo (unread tidy) Moved new (Marked (record { border = border; head = head; node = head; slice = slice })) → Comes (Dropped border head) new
-  marks_nearer border head stands new slice follows = subst (λ (t : Tidy). Comes (Dropped border head) t) (sym follows.1) (λ spots new_true.
+  marks_nearer : (border head : NodeNo) → head_stands w tidy.key tidy.way head → (new : Tidy) (slice : ℕ) (right : Option RightLink) → GoesTo (unread tidy) Moved new (Marked (record { border = border; head = head; node = head; slice = slice; right = right })) → Comes (Dropped border head) new
+  marks_nearer border head stands new slice right follows = subst (λ (t : Tidy). Comes (Dropped border head) t) (sym follows.1) (λ spots new_true.
       let still = head_beside a after now begun w next world world_next tidy bytes fits all_owned border.0 head stands _ _ _ _ spots new_true.0.headed new_true.0.border.place in
       ((still, still.0, tt), let most = most_heights after tidy.way.layer head.0 in omega (arith, most)))
 
@@ -143,7 +143,7 @@ module _ (a after : ArenaView) (now begun : ℕ) (w next : World) (world : IsWor
   stage_nearer (LooksRight border head emptied right) is new truth stands reads follows = some_gives (border_at a.nodes border.0) _ (Comes (LooksRight border head emptied right) new) (λ b h. by_right border head emptied right stands new (b.right ≡ right) h) follows
   stage_nearer (Locked border head parent) is new truth stands reads follows = some_gives (node_at a.nodes parent.0) _ (Comes (Locked border head parent) new)
       (λ node h. by_place border head parent stands new (later_place node border) h) follows
-  stage_nearer (Dropped border head) is new truth stands reads follows = some_gives (border_at a.nodes border.0) _ (Comes (Dropped border head) new) (λ b h. marks_nearer border head stands new (b.low - 1) h) follows
+  stage_nearer (Dropped border head) is new truth stands reads follows = some_gives (border_at a.nodes border.0) _ (Comes (Dropped border head) new) (λ b h. marks_nearer border head stands new (b.low - 1) b.right h) follows
   stage_nearer (Marked u) is new truth stands reads follows = marked_nearer a after now begun w next world world_next tidy bytes fits all_owned u is truth stands reads new follows
   stage_nearer (LeftLocked u) is new truth stands reads follows = by_left u stands new follows
   stage_nearer (LeftNames u) is new truth stands reads follows = goes (LeftNames u) (LeftWritten u.border u.node) new follows (λ spots new_true. (tt, omega arith))

@@ -58,7 +58,7 @@ use Rattle.mt_remove.specs.Reading.{seek_reading}
 use Rattle.mt_remove.specs.Tidy.{stage_owns, tidy_held, StageIsTrue, StageReads}
 use Rattle.mt_remove.specs.Locked.{HasLeft}
 use Rattle.mt_remove.specs.Known.{SeekFinding, AtLock}
-use Rattle.mt_remove.specs.Follows.{Did, GoesTo, names, slice_rest, unread, advanced, approached, approach_progress, BeginsAt, BeginsBy, FollowsReading, Follows}
+use Rattle.mt_remove.specs.Follows.{Did, GoesTo, names, slice_rest, unread, advanced, approached, approach_progress, LocksLeftBy, BeginsAt, BeginsBy, FollowsReading, Follows}
 use Rattle.mt_remove.proofs.LoneReads.{LeftStands, LeftGoes, settles_not, NotOn}
 use Rattle.mt_remove.proofs.SeekReads.{SeekLeads, seek_leads}
 use Rattle.mt_remove.proofs.LoneStages.{LeftNamesIt, before_apart, goes_left, goes_there, head_apart, head_stands, left_free, left_made, not_the_one, same_prefix, same_standing, some_gives, stage_left, stage_stands}
@@ -365,6 +365,9 @@ module _ (a after : ArenaView) (now begun : ℕ) (w next : World) (world : IsWor
         by_reading_left (GoesOn to) is_so noted_there p_is new_is = subst (λ (t : Tidy). Comes (Marked u) t) (sym new_is) (on_nearer to (left_unchanged tidy.finding read.before reads) (subst (Rises (left_made tidy.finding)) is_so (left_rises a u.node (slice_rest u) u.slice tidy.finding read.before stands.2 read.part read.lent)) noted_there)
         by_reading_left (To node) is_so move p_is new_is = subst (λ (t : Tidy). Comes (Marked u) t) (sym new_is) (to_nearer node move)
         by_reading_left (Finds sight) is_so moves p_is new_is = absurd moves
-    marked_nearer (inr (lock, inl (marked, p_is, new_is))) = absurd (let clash : Moved ≡ Waits = p_is in cc)
-    marked_nearer (inr (lock, inr (inl (locked, p_is, new_is)))) = absurd (let clash : Moved ≡ Waits = p_is in cc)
-    marked_nearer (inr (lock, inr (inr (p_is, new_is)))) = subst (λ (t : Tidy). Comes (Marked u) t) (sym new_is) (lock_nearer lock)
+    marked_nearer (inr (lock, looked)) = some_gives (border_at a.nodes u.node.0) _ (Comes (Marked u) new) (λ b does. by_both b.version.deleted b.version.locked does) looked
+      where
+        by_both : (deleted locked : Bool) → LocksLeftBy tidy u deleted locked Moved new → Comes (Marked u) new
+        by_both true locked does = absurd (let clash : Moved ≡ Waits = does.0 in cc)
+        by_both false true does = absurd (let clash : Moved ≡ Waits = does.0 in cc)
+        by_both false false does = subst (λ (t : Tidy). Comes (Marked u) t) (sym does.1) (lock_nearer lock)

@@ -166,7 +166,7 @@ module _ (a after : ArenaView) (now : ℕ) (w next : World) (world : IsWorld aft
 
   unlinking_stays : (prefix : List ℕ) (u : Unlinking) → IsSame a after w next u.border.0 → IsUnlinking begun a w prefix u → IsUnlinking begun after next prefix u
   unfolding empty_stays
-  unlinking_stays prefix u s k = record { border = empty_stays u.border.0 prefix false s k.border; marked = k.marked; before = k.before; fits = k.fits; headed = head_stays u.head.0 prefix k.headed }
+  unlinking_stays prefix u s k = record { border = empty_stays u.border.0 prefix false s k.border; marked = k.marked; before = k.before; fits = k.fits; noted = k.noted; above = k.above; headed = head_stays u.head.0 prefix k.headed }
 
   left_stays_locked : (prefix : List ℕ) (u : Unlinking) → ((number : ℕ) → Among number (unlinking_owns u) → IsSame a after w next number) → HasLeft begun a w prefix u → HasLeft begun after next prefix u
   unfolding own_stays unlinking_stays

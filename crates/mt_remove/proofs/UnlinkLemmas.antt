@@ -7,6 +7,7 @@ use Rattle.mt_types.specs.declared.event.Answer.TheVariants.{Tidied}
 use Rattle.mt_types.specs.declared.event.TidyRule.TheVariants.{EmptyBorder as BorderRule}
 use Rattle.mt_types.specs.declared.numbers.NodeNo.{NodeNo}
 use Rattle.mt_border.specs.Border.{BorderView, with_unlocked, with_right}
+use Rattle.mt_border.specs.Order.{IsLeftOf}
 use Rattle.mt_border.specs.declared.entry.RightLink.{RightLink}
 use Rattle.mt_arena.specs.Node.{interior_of, border_at, border_of}
 use Rattle.mt_arena.specs.Arena.{ArenaView, with_border_changed, with_retired}
@@ -18,8 +19,8 @@ use Rattle.mt_chart.specs.Steps.{SameContent}
 use Rattle.mt_chart.proofs.HeldNodes.{evolves_same}
 use Rattle.mt_tree.specs.Seen.{arena_seen, border_seen, right_seen}
 use Rattle.mt_tree.specs.Keeping.{KeepsTree, IsOnIn}
-use Rattle.mt_tree.specs.BorderSteps.{IsMarkedRight, UnlinksAt}
-use Rattle.mt_tree.specs.Fields.{BorderAges}
+use Rattle.mt_tree.specs.BorderSteps.{IsMarkedRight, MayUnlink, UnlinksAt}
+use Rattle.mt_tree.specs.Fields.{BorderChanges}
 use Rattle.mt_tree.proofs.SeenLemmas.{seen-border}
 use Rattle.mt_tree.proofs.AgeLemmas.{ages_unlocked, ages_right, NotLower, not_lower}
 use Rattle.mt_steps.specs.declared.progress.Progress.TheVariants.{Moved, Answered}
@@ -40,7 +41,7 @@ use Rattle.mt_remove.specs.Locked.{HasLeft}
 use Rattle.mt_remove.specs.Follows.{names, LooksLeft, TidyStep}
 use Rattle.mt_remove.proofs.LayerFacts.{gone_beside}
 use Rattle.mt_remove.proofs.ReleaseLemmas.{goes_unlocked}
-use Rattle.mt_remove.proofs.StageLemmas.{at_stage, none_retired, true_at, law_same}
+use Rattle.mt_remove.proofs.StageLemmas.{at_stage, true_at, law_same}
 use Rattle.mt_remove.proofs.LeftLemmas.{from_head, unlinking_beside}
 
 -- ---- once it is locked
@@ -119,33 +120,37 @@ module _ (epoch : ℕ) (a : ArenaView) (tidy : Tidy) (u : Unlinking) where
 
   -- ---- its right link is written
   module _ (is : tidy.stage ≡ LeftNames u) where
-    pub may_unlink : MayTidy epoch a tidy → IsSomeAnd (border_at a.nodes u.node.0) (λ b. IsSomeAnd (border_at a.nodes u.border.0) (λ right. IsMarkedRight b right u.border))
-    may_unlink may =
-        let (k, named) = true_at epoch a tidy (LeftNames u) is may in
-        subst (λ (o : Option BorderView). IsSomeAnd o (λ b. IsSomeAnd (border_at a.nodes u.border.0) (λ right. IsMarkedRight b right u.border))) (sym k.left.named)
-        (subst (λ (o : Option BorderView). IsSomeAnd o (λ right. IsMarkedRight k.left.b right u.border)) (sym k.unlinking.border.named) (record { named = named; marked = k.unlinking.marked }))
+    left_unlinks : (begun : ℕ) (w : World) → StageIsTrue begun tidy.key tidy.way tidy.finding (LeftNames u) a w → MayUnlink a u.node.0 u.border u.right
+    left_unlinks begun w (k, named) =
+        let marked : IsMarkedRight k.left.b k.unlinking.border.b u.border u.right = record { named = named; marked = k.unlinking.marked; noted = k.unlinking.noted; above = k.unlinking.above } in
+        subst (λ (o : Option BorderView). IsSomeAnd o (λ b. IsSomeAnd (border_at a.nodes u.border.0) (λ right. IsMarkedRight b right u.border u.right))) (sym k.left.named)
+        (subst (λ (o : Option BorderView). IsSomeAnd o (λ right. IsMarkedRight k.left.b right u.border u.right)) (sym k.unlinking.border.named) marked)
 
-    unlinked_law : (gone_border : BorderView) → border_at a.nodes u.border.0 ≡ Some gone_border → UnlinksAt a (with_border_changed a u.node.0 (λ b. with_right b gone_border.right)) u.node.0 u.border.0
-        → StageLaw epoch a (with_border_changed a u.node.0 (λ b. with_right b gone_border.right)) tidy (LeftNames u) Moved (record tidy { stage = LeftWritten u.border u.node })
-    unlinked_law gone_border read unlinks = record {
+    pub may_unlink : MayTidy epoch a tidy → (gone_border : NodeNo) × MayUnlink a u.node.0 gone_border u.right
+    may_unlink may = (u.border, left_unlinks may.begun may.w (true_at epoch a tidy (LeftNames u) is may))
+
+    abbrev change : BorderView → BorderView
+    change b = with_right b u.right
+
+    unlinked_law : ((gone_border : NodeNo) → MayUnlink a u.node.0 gone_border u.right → UnlinksAt a (with_border_changed a u.node.0 change) u.node.0 gone_border.0)
+        → StageLaw epoch a (with_border_changed a u.node.0 change) tidy (LeftNames u) Moved (record tidy { stage = LeftWritten u.border u.node })
+    unlinked_law unlinks = record {
       reads = tt;
       steps = λ begun w world before truth.
           let (k, named) = truth in
           let n = u.node.0 in
           let c = k.left.b in
           let e = k.unlinking.border in
-          let change : BorderView → BorderView = λ b. with_right b gone_border.right in
           let new : ArenaView = with_border_changed a n change in
-          let same : gone_border ≡ e.b = (let both : ◌≡◌ {A = Option BorderView} (Some gone_border) (Some e.b) = sym read ∙ e.named in cc) in
           let there : Spot = spot (at_level 0) in_layer e.b.low (gone epoch) in
           let chart : Chart = with_spot w.chart u.border.0 there in
           let charted = spot_changes w.chart u.border.0 there in
           let stands : IsOnIn w.chart n in_layer = record { low = c.low; posted = k.left.posted; place = k.left.place } in
-          let kept = (unlinks.unlinks e.b e.named).keeps epoch w.twins w.chart chart world.index (record { prefix = in_layer; stands = stands; dropped = e.place; charted = charted }) in
+          let kept = ((unlinks u.border (left_unlinks begun w truth)).unlinks e.b e.named).keeps epoch w.twins w.chart chart world.index (record { prefix = in_layer; stands = stands; dropped = e.place; charted = charted }) in
           let heads = heads_changed a n c change k.left.named w.chart (λ i. absurd (k.left.free i)) world.heads in
           let apart : u.node.0 ≢ u.border.0 = left_apart begun a w in_layer u k in
           goes_at epoch a new w chart n (n ∷ u.border.0 ∷ []) (n ∷ u.border.0 ∷ []) _ world
-          (age_one n c (change c) k.left.named (now_named a n c change k.left.named) (λ known. (further begun w world k named same, inl (on_as {chart = w.chart} stands (charted.rest n apart)))) (others_named a n c change k.left.named))
+          (age_one n c (change c) k.left.named (now_named a n c change k.left.named) (λ known. (further begun w k named, inl (on_as {chart = w.chart} stands (charted.rest n apart)))) (others_named a n c change k.left.named))
           kept refl (on_kept a epoch w.chart n _ _ _ _ k.left.place world.retired) (others_named a n c change k.left.named)
           (λ other out. charted.rest other (λ x. out (subst (λ (m : ℕ). Among m (n ∷ u.border.0 ∷ [])) (sym x) (later first))))
           (record { alive = λ number layer h place x. heads.alive number layer h (heads_were w.chart chart u.border.0 0 e.b.low in_layer (gone epoch) charted number layer place) x; roots = heads.roots })
@@ -179,18 +184,15 @@ module _ (epoch : ℕ) (a : ArenaView) (tidy : Tidy) (u : Unlinking) where
     }
       where
         -- the link that it gets is further to the right
-        further : (begun : ℕ) (w : World) → IsWorld a epoch w → (k : HasLeft begun a w in_layer u) → k.left.b.right ≡ Some (record { low = k.unlinking.border.b.low; node = u.border }) → gone_border ≡ k.unlinking.border.b → BorderAges k.left.b (with_right k.left.b gone_border.right)
-        further begun w world k named same =
-            let facts = world.index.tree.each_border u.border.0 in_layer (border_seen k.unlinking.border.b) (record { posted = false; place = k.unlinking.border.place; node = seen-border a u.border.0 k.unlinking.border.b k.unlinking.border.named }) in
-            ages_right k.left.b gone_border.right (subst (λ (r : Option RightLink). NotLower r gone_border.right) (sym named)
-            (not_lower (record { low = k.unlinking.border.b.low; node = u.border }) gone_border.right (λ link is. (facts.right (right_seen link) (ap (option_map right_seen) (ap (λ (b : BorderView). b.right) (sym same) ∙ is))).0)))
+        further : (begun : ℕ) (w : World) (k : HasLeft begun a w in_layer u) → k.left.b.right ≡ Some (record { low = k.unlinking.border.b.low; node = u.border }) → BorderChanges None k.left.b (change k.left.b)
+        further begun w k named =
+            ages_right k.left.b u.right (subst (λ (r : Option RightLink). NotLower r u.right) (sym named)
+            (not_lower (record { low = k.unlinking.border.b.low; node = u.border }) u.right (λ link is. (subst (λ (r : Option RightLink). IsLeftOf k.unlinking.border.b.low k.unlinking.border.b.live r) is k.unlinking.above).0)))
 
-    pub writes_left : (after : ArenaView) → IsSomeAnd (border_at a.nodes u.border.0) (λ right. after ≡ with_border_changed a u.node.0 (λ b. with_right b right.right)) → UnlinksAt a after u.node.0 u.border.0 → TidyStep epoch a after tidy Moved (record tidy { stage = LeftWritten u.border u.node })
-    writes_left after value unlinks = at_stage epoch a after tidy (LeftNames u) Moved (record tidy { stage = LeftWritten u.border u.node }) is refl (none_retired (border_at a.nodes u.border.0) a after _ (λ right. refl) value) (go (border_at a.nodes u.border.0) refl value) tt tt (refl, refl)
-      where
-        go : (o : Option BorderView) → border_at a.nodes u.border.0 ≡ o → IsSomeAnd o (λ right. after ≡ with_border_changed a u.node.0 (λ b. with_right b right.right)) → StageLaw epoch a after tidy (LeftNames u) Moved (record tidy { stage = LeftWritten u.border u.node })
-        go None read h = absurd h
-        go (Some right) read h = subst (λ (x : ArenaView). StageLaw epoch a x tidy (LeftNames u) Moved (record tidy { stage = LeftWritten u.border u.node })) (sym h) (unlinked_law right read (subst (λ (x : ArenaView). UnlinksAt a x u.node.0 u.border.0) h unlinks))
+    pub writes_left : (after : ArenaView) → after ≡ with_border_changed a u.node.0 change → ((gone_border : NodeNo) → MayUnlink a u.node.0 gone_border u.right → UnlinksAt a after u.node.0 gone_border.0) → TidyStep epoch a after tidy Moved (record tidy { stage = LeftWritten u.border u.node })
+    writes_left after value unlinks = at_stage epoch a after tidy (LeftNames u) Moved (record tidy { stage = LeftWritten u.border u.node }) is refl (ap (λ (x : ArenaView). x.retired) value)
+        (subst (λ (x : ArenaView). StageLaw epoch a x tidy (LeftNames u) Moved (record tidy { stage = LeftWritten u.border u.node })) (sym value)
+        (unlinked_law (subst (λ (x : ArenaView). (gone_border : NodeNo) → MayUnlink a u.node.0 gone_border u.right → UnlinksAt a x u.node.0 gone_border.0) value unlinks))) tt tt (refl, refl)
 
 -- ---- the border before is unlocked
 module _ (epoch : ℕ) (a : ArenaView) (tidy : Tidy) (border left : NodeNo) (is : tidy.stage ≡ LeftWritten border left) where

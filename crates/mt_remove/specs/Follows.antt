@@ -151,12 +151,17 @@ pub record ApproachesPart (a : ArenaView) (tidy : Tidy) (u : Unlinking) (p : Pro
   pub does : (p ≡ approach_progress (seek_reading tidy.finding (slice_rest u) part))
       × (then ≡ approached tidy u (seek_reading tidy.finding (slice_rest u) part))
 
--- then it locks that border, unless that is marked deleted, and the way begins again, or is locked
+-- then it is to lock that border. It looks at its mark first: if it is marked deleted, the way begins again. If another
+-- call has locked it, the tidy waits. If neither, it locks it
+abbrev pub LocksLeftBy : Tidy → Unlinking → Bool → Bool → Progress → Tidy → Type 0
+LocksLeftBy tidy u true locked p then = (p ≡ Waits) × (then ≡ approached tidy u Restarts)
+LocksLeftBy tidy u false true p then = (p ≡ Waits) × (then ≡ tidy)
+LocksLeftBy tidy u false false p then =
+    (p ≡ Moved) × (then ≡ record tidy { finding = Begins; stage = LeftLocked u })
+
 abbrev pub LocksLeft : ArenaView → Tidy → Unlinking → Progress → Tidy → Type 0
-LocksLeft a tidy u p then = AtLock tidy.finding × (
-    (IsMarkedAt a u.node.0 × (p ≡ Waits) × (then ≡ approached tidy u Restarts))
-    ⊎ ((IsLockedAlready a u.node.0 × (p ≡ Waits) × (then ≡ tidy))
-    ⊎ ((p ≡ Moved) × (then ≡ record tidy { finding = Begins; stage = LeftLocked u }))))
+LocksLeft a tidy u p then = AtLock tidy.finding × IsSomeAnd (border_at a.nodes u.node.0)
+    (λ b. LocksLeftBy tidy u b.version.deleted b.version.locked p then)
 
 -- a right link is to the border
 abbrev pub names : Option RightLink → NodeNo → Bool
@@ -216,7 +221,7 @@ Follows a tidy (LooksRight border head emptied right) p then = IsSomeAnd (border
 Follows a tidy (Locked border head parent) p then =
     IsSomeAnd (node_at a.nodes parent.0) (λ node. DropsBy tidy border head (later_place node border) p then)
 Follows a tidy (Dropped border head) p then = IsSomeAnd (border_at a.nodes border.0) (λ b. GoesTo (unread tidy) p then
-    (Marked (record { border = border; head = head; node = head; slice = b.low - 1 })))
+    (Marked (record { border = border; head = head; node = head; slice = b.low - 1; right = b.right })))
 Follows a tidy (Marked u) p then = ApproachesPart a tidy u p then ⊎ LocksLeft a tidy u p then
 Follows a tidy (LeftLocked u) p then =
     IsSomeAnd (border_at a.nodes u.node.0) (λ b. LooksLeft tidy u (names b.right u.border) p then)

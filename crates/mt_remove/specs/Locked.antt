@@ -2,6 +2,7 @@
 use Rattle.std.specs.Prelude.{ℕ, ◌≡◌, ◌≢◌, ◌<◌, ◌≤◌, ◌+◌, ◌-◌, ◌*◌, ◌^◌, List, [], length, slice_get, Option, Some, None, IsSome, Bool, true, false}
 use Rattle.mt_word.specs.Slots.{Slots}
 use Rattle.mt_border.specs.Border.{BorderView}
+use Rattle.mt_border.specs.Order.{IsLeftOf}
 use Rattle.mt_border.specs.declared.unwritten.Unwritten.TheVariants.{Nothing}
 use Rattle.mt_border.specs.declared.entry.Content.TheVariants.{Link}
 use Rattle.mt_border.specs.declared.entry.RightLink.{RightLink}
@@ -103,12 +104,14 @@ pub record IsEmptied (begun : ℕ) (key : List ℕ) (way : Way) (border head : �
   pub right : RightFits emptied link
 
 -- the call has marked an empty border deleted, which no interior names; it is to be unlinked from the one in whose
--- interval the slice before its low is
+-- interval the slice before its low is; and its right link is the one that was noted
 pub record IsUnlinking (begun : ℕ) (a : ArenaView) (w : World) (prefix : List ℕ) (u : Unlinking) : Type 0 where
   pub border : IsEmptyBorder a w u.border.0 prefix false
   pub marked : border.b.version.deleted ≡ true
   pub before : u.slice + 1 ≡ border.b.low
   pub fits : u.slice < 2 ^ 64
+  pub noted : border.b.right ≡ u.right
+  pub above : IsLeftOf border.b.low border.b.live u.right
   pub headed : IsHeadOf w begun u.head.0 prefix
 
 -- and has locked a border from whose low on that slice is

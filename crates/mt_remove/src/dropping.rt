@@ -36,7 +36,7 @@ impl Tidy {
         Progress::Moved
     }
 
-    // The border is marked deleted, and the way to the one before it begins.
+    // The border is marked deleted, and its right link noted. The way to the one before it begins.
     pub(crate) fn mark_border(
         &mut self,
         tree: &mut Tree,
@@ -48,7 +48,9 @@ impl Tidy {
         requires may { MayTidy epoch tree.old self.old }
         ensures { TidyStep epoch tree.old tree.new self.old result self.new }
     {
-        let slice = tree.border(border).low() - 1;
+        let gone = tree.border(border);
+        let slice = gone.low() - 1;
+        let right = gone.right();
         tree.mark_border_deleted(border);
         self.finding = Reader::Begins;
         self.stage = Stage::Marked(Unlinking {
@@ -56,6 +58,7 @@ impl Tidy {
             head,
             node: head,
             slice,
+            right,
         });
         Progress::Moved
     }

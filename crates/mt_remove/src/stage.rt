@@ -18,6 +18,8 @@ pub struct Unlinking {
     pub node: NodeNo,
     /// The slice before the border's low.
     pub slice: u64,
+    /// The border's right link, as it was when the border was marked.
+    pub right: Option<RightLink>,
 }
 
 /// An empty layer, whose link is sought.
@@ -82,7 +84,7 @@ pub enum Stage {
     Marked(Unlinking),
     /// It has locked the border before, and is to read its right link again.
     LeftLocked(Unlinking),
-    /// That names the border, and is to become the border's own.
+    /// That names the border, and is to become what the border's own was when it was marked.
     LeftNames(Unlinking),
     /// That names another. It is to be unlocked, and the way to the border before begins again.
     LeftMissed(Unlinking),

@@ -206,8 +206,8 @@ impl Tidy {
         }
     }
 
-    /// Reads or writes one field of a border, or visits one head or interior node. `epoch` is the present epoch. It never
-    /// commits, allocates nothing and is never refused.
+    /// Reads or writes one field of a border, or visits one head or interior node. The step that marks a border deleted
+    /// also notes its right link. `epoch` is the present epoch. It never commits, allocates nothing and is never refused.
     ///
     /// At its place it begins the first rule whose signs are seen, unless the border is locked. It ends with `Nothing`
     /// if there are no signs. It also does so if it finds a node that another call has locked, that is marked deleted

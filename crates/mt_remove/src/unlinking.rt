@@ -149,7 +149,7 @@ impl Tidy {
         Progress::Moved
     }
 
-    // The border before takes the right link of the border.
+    // The border before takes the right link of the border, which was noted.
     pub(crate) fn write_left(
         &mut self,
         tree: &mut Tree,
@@ -160,7 +160,7 @@ impl Tidy {
         requires may { MayTidy epoch tree.old self.old }
         ensures { TidyStep epoch tree.old tree.new self.old result self.new }
     {
-        tree.unlink(unlinking.node, unlinking.border);
+        tree.unlink(unlinking.node, unlinking.right);
         self.stage = Stage::LeftWritten {
             border: unlinking.border,
             left: unlinking.node,

@@ -1,2 +1,1 @@
--- Lemmas on maps.
-pub mod MapLemmas
+-- Nothing is shared yet.

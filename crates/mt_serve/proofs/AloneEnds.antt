@@ -205,7 +205,7 @@ drive_ends s t p q h request (Err refusal) a few d = elim d.refused [
                 c,
                 l.ends,
                 refused_for request p.number c h l.at.past l.at.way s.machine l.m.machine.columns l.went.note refusal l.went.may
-                    (refused_says (store_of s h) p.number request c l.m.machine t.machine l.at.past l.at.way.one (only_call (store_of s h) request p.number c l.m l.r l.at) l.at.way.asks refusal l.went.happens l.at.says),
+                    (refused_says (store_of s h) p.number request c l.m.machine t.machine l.at.past l.at.way.one (only_call (store_of s h) request p.number c l.m l.r l.at) l.at.way.asks refusal l.went.happens.happens l.at.says),
               ),
             ),
             nothing,

@@ -23,7 +23,7 @@ use Rattle.mt_shared.specs.Passes.{PassView, seen_in}
 use Rattle.mt_shared.specs.Drives.{Runs, Continues}
 use Rattle.mt_shared.specs.Kept.{KeptView, Does, IsMade, IsUnmade, has_book, is_foreign, is_wrong, is_spent}
 use Rattle.mt_shared.proofs.HappeningLemmas.{event_grows, event_shows}
-use Rattle.mt_index.specs.Events.{Happens}
+use Rattle.mt_index.specs.Events.{Makes}
 use Rattle.mt_index.proofs.EventLemmas.{all-more}
 use Rattle.mt_serve.specs.Store.{Store, Leads, ComesTo, call_events}
 use Rattle.mt_serve.specs.Plain.{IsAlone, store_of}
@@ -85,7 +85,7 @@ pub record Goes (s : KeptView) (p : PassView) (h : History) (e : Event) (o : Out
   pub number : q.number ≡ p.number
   pub columns : t.machine.columns ≡ s.machine.columns
   pub legal : Legal s.machine.columns (happening e o note ∷ h)
-  pub happens : Happens s.machine e o t.machine
+  pub happens : Makes s.machine e o t.machine
   pub feed : t.machine.log.feed ≡ s.machine.log.feed
 
 pub goes : (s t : KeptView) (p q : PassView) (h : History) (e : Event) (o : Outcome) → Keeping s p h → t.events < greatest_number → is_foreign s.machine p.number e ≡ false → Does s p e o t q → Goes s p h e o t q
@@ -110,15 +110,15 @@ goes s t p q h e o k few foreign d =
       number = made.counts.number;
       columns = made.makes.columns;
       legal = legal;
-      happens = made.makes.happens;
+      happens = made.makes;
       feed = made.makes.bounds.0;
     }
 
 -- ---- from store to store
-pub leads_one : (s t : KeptView) (h : History) (e : Event) (o : Outcome) (note : ℕ) → Happens s.machine e o t.machine → Leads (store_of s h) (e ∷ []) (o ∷ []) (store_of t (happening e o note ∷ h))
+pub leads_one : (s t : KeptView) (h : History) (e : Event) (o : Outcome) (note : ℕ) → Makes s.machine e o t.machine → Leads (store_of s h) (e ∷ []) (o ∷ []) (store_of t (happening e o note ∷ h))
 leads_one s t h e o note happens = ((t.machine, happens, refl), (note, refl))
 
-pub leads_more : (s : Store) (m t : KeptView) (h : History) (events : List Event) (outcomes : List Outcome) (e : Event) (o : Outcome) (note : ℕ) → Leads s events outcomes (store_of m h) → Happens m.machine e o t.machine
+pub leads_more : (s : Store) (m t : KeptView) (h : History) (events : List Event) (outcomes : List Outcome) (e : Event) (o : Outcome) (note : ℕ) → Leads s events outcomes (store_of m h) → Makes m.machine e o t.machine
     → Leads s (events ++ e ∷ []) (outcomes ++ o ∷ []) (store_of t (happening e o note ∷ h))
 leads_more s m t h events outcomes e o note (all, on) happens =
     (all-more s.machine m.machine t.machine events outcomes e o all happens, GoesOn-append s.past h events outcomes e o note on)
@@ -128,7 +128,7 @@ all_push P [] x all p = All-cons P x [] p (All-nil P)
 all_push P (y ∷ xs) x all p = All-cons P y (xs ++ x ∷ []) (All-head P y xs all) (all_push P xs x (All-tail P y xs all) p)
 
 -- a step more of a call
-pub comes_more : (s : Store) (pass : PassNo) (request : Request) (call : CallNo) (m t : KeptView) (h : History) (o : Outcome) (note : ℕ) → ComesTo s pass request call (store_of m h) → Continues o → Happens m.machine (Step call) o t.machine
+pub comes_more : (s : Store) (pass : PassNo) (request : Request) (call : CallNo) (m t : KeptView) (h : History) (o : Outcome) (note : ℕ) → ComesTo s pass request call (store_of m h) → Continues o → Makes m.machine (Step call) o t.machine
     → ComesTo s pass request call (store_of t (happening (Step call) o note ∷ h))
 comes_more s pass request call m t h o note comes on happens = record {
   steps = comes.steps ++ o ∷ [];

@@ -259,7 +259,7 @@ steps_on s request pass call last t q few (x ∷ steps) m r all at (n, w, does, 
       comes = comes_more s pass request call m n at.past x.outcome went.note at.comes step.outcome went.happens;
       feed = went.feed ∙ at.feed;
       says = says_on s pass request call (store_of m at.past) n.machine at.way.one (only_call s request pass call m r at) at.comes
-          (λ pending. at.keeps.stands.commits ∙ ap length (at.way.quiet pending)) at.feed x.outcome step.outcome went.happens at.says;
+          (λ pending. at.keeps.stands.commits ∙ ap length (at.way.quiet pending)) at.feed x.outcome step.outcome went.happens.happens at.says;
     }) more
 
 pub own_begin : (m : MachineView) (pass : PassNo) (request : Request) → is_foreign m pass (Begin pass request) ≡ false
@@ -290,7 +290,7 @@ whole_run s t p q h request call steps last a few all (m, r, does, more) =
               leads = leads_one s m h (Begin p.number request) (Called call) went.note went.happens;
             };
             feed = went.feed;
-            says = says_begun (store_of s h) p.number request call s.machine m.machine h p.number request a.stands a.ended went.happens;
+            says = says_begun (store_of s h) p.number request call s.machine m.machine h p.number request a.stands a.ended went.happens.happens;
           }) more;
       note = went.note;
       may = went.may;

@@ -22,7 +22,7 @@ use Rattle.mt_shared.specs.Turns.{furthest, turn, IsTurn, HasTurned}
 use Rattle.mt_shared.specs.Kept.{KeptView, Does}
 use Rattle.mt_serve.specs.Asking.{KeepsViews}
 use Rattle.mt_serve.specs.Plain.{IsAlone, TakenOn, KeptUp, store_of}
-use Rattle.mt_index.specs.Events.{Happens}
+use Rattle.mt_index.specs.Events.{Makes}
 use Rattle.mt_serve.specs.Store.{Store, Leads}
 use Rattle.mt_serve.proofs.AloneEvents.{Keeping, keeping, goes, leads_more, runs_rise}
 
@@ -217,7 +217,7 @@ record HasKept (s : Store) (pass : PassNo) (made : ℕ) (m : KeptView) (r : Pass
 
 -- one more turn
 leads_turn : (s : Store) (m n : KeptView) (past : History) (turns : List Outcome) (o : Outcome) (note : ℕ) → Leads s (map (λ (x : Outcome). furthest) turns) turns (store_of m past)
-    → Happens m.machine furthest o n.machine → Leads s (map (λ (x : Outcome). furthest) (turns ++ o ∷ [])) (turns ++ o ∷ []) (store_of n (happening furthest o note ∷ past))
+    → Makes m.machine furthest o n.machine → Leads s (map (λ (x : Outcome). furthest) (turns ++ o ∷ [])) (turns ++ o ∷ []) (store_of n (happening furthest o note ∷ past))
 leads_turn s m n past turns o note leads happens =
     subst (λ (events : List Event). Leads s events (turns ++ o ∷ []) (store_of n (happening furthest o note ∷ past)))
     (sym (map-append (λ (x : Outcome). furthest) turns (o ∷ []))) (leads_more s m n past (map (λ (x : Outcome). furthest) turns) turns furthest o note leads happens)

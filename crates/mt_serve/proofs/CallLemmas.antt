@@ -45,6 +45,7 @@ use Rattle.mt_index.specs.Events.{EventDoes, Happens}
 use Rattle.mt_index.specs.Stands.{MachineView, Stands, CallStands, Begins}
 use Rattle.mt_shared.specs.Drives.{Continues}
 use Rattle.mt_serve.specs.Store.{Store, newest, ComesTo, Meets, MeetsSpent, HasFewNodes}
+use Rattle.mt_serve.proofs.ReadLemmas.{no_entries}
 use Rattle.mt_serve.proofs.StageLemmas.{WorkSays, Explains, IsWriting, work_moved, work_rests, work_commits, work_begins, work_refused}
 
 -- ---- why a call that began at a store may fail
@@ -234,13 +235,6 @@ module _ (s : Store) (pass : PassNo) (request : Request) (number : CallNo) where
   begins_of : (m n : MachineView) (own : PassNo) (asked : Request) → EventDoes m (Begin own asked) (Called number) n → Begins m own asked (Called number) n
   unfolding EventDoes
   begins_of m n own asked does = does
-
-  no_entries : (m : MachineView) (past : History) → Stands m past → (moment past).calls ≡ [] → m.calls.calls ≡ []
-  no_entries m past st none = go m.calls.calls refl (subst (λ (l : List OpenCall). Paired (CallStands m.columns m.epoch m.tree st.w past) 0 m.calls.begun m.calls.calls l) none st.calls)
-    where
-      go : (entries : List (ℕ × Call)) → m.calls.calls ≡ entries → Paired (CallStands m.columns m.epoch m.tree st.w past) 0 m.calls.begun entries [] → m.calls.calls ≡ []
-      go [] is pairs = is
-      go (entry ∷ entries) is pairs = absurd pairs
 
   pub says_begun : (m n : MachineView) (past : History) (own : PassNo) (asked : Request) → Stands m past → (moment past).calls ≡ [] → Happens m (Begin own asked) (Called number) n → CallSays n
   says_begun m n past own asked st none h =

@@ -39,7 +39,7 @@ drive_rises s t p q request (Err refusal) d = elim d.refused [
 ]
 
 asks_rise : (s t : KeptView) (p q : PassView) (query : Query) (response : Response) → Asks Does ReadsNow s p query response t q → s.events ≤ t.events
-asks_rise s t p q (Call request) response (result, inl drive, is) = drive_rises s t p q request result drive
+asks_rise s t p q (Call request) response (result, inl (must, drive), is) = drive_rises s t p q request result drive
 asks_rise s t p q (Call request) response (result, inr read, is) =
     let equal = ap (λ (k : KeptView). k.events) (read_same s t p q request result read) in omega (arith, equal)
 asks_rise s t p q (ViewRead view floor start limit) response (result, does, is) = does_rises s t p q (ReadOf view floor start limit) (page_outcome result) does
@@ -89,7 +89,7 @@ few_left number (v ∷ views) =
     elim (cases_Bool (v.number == number)) [ inl b ↦ rw b (omega (arith, rest)) | inr b ↦ rw b (omega (arith, rest)) ]
 
 asks_plainly : (s t : KeptView) (p q : PassView) (h : History) (query : Query) (response : Response) → IsAlone s p h → t.events < greatest_number → Asks Does ReadsNow s p query response t q → IsAsked (store_of s h) query response t q
-asks_plainly s t p q h (Call request) response a few (result, inl drive, is) =
+asks_plainly s t p q h (Call request) response a few (result, inl (must, drive), is) =
     let (final, alone, columns, ends) = drive_ends s t p q h request result a few drive in
     record { final = final; alone = alone; columns = columns; plain = (result, inl ends, is) }
 asks_plainly s t p q h (Call request) response a few (result, inr read, is) =

@@ -1,6 +1,6 @@
 -- A read at once on an index of one caller: the answer is that of a plain store, and nothing has changed but what the
 -- pass has seen.
-use Rattle.std.proofs.Common.{ℕ, ◌≡◌, ◌∙◌, List, [], ◌++◌, length, Option, Some, None, Result, Ok, Err, refl, sym, ap, subst, inl, inr, arith, append-nil}
+use Rattle.std.proofs.Common.{ℕ, ◌≡◌, ◌∙◌, List, [], ◌∷◌, ◌++◌, length, Option, Some, None, Result, Ok, Err, refl, sym, ap, subst, inl, inr, arith, append-nil}
 use Rattle.std.specs.Prelude.{MatchOption}
 use Rattle.mt_types.specs.Limits.{request_fault}
 use Rattle.mt_types.specs.declared.refusal.Refusal.{Refusal}
@@ -9,13 +9,28 @@ use Rattle.mt_types.specs.declared.event.Answer.{Answer}
 use Rattle.mt_types.specs.declared.event.Request.{Request}
 use Rattle.mt_types.specs.declared.event.Request.TheVariants.{Get, Range}
 use Rattle.mt_types.specs.declared.event.Reply.{Reply}
-use Rattle.mt_promise.specs.History.{History, StandingView, moment, view_built}
+use Rattle.mt_promise.specs.History.{History, OpenCall, StandingView, moment, view_built}
 use Rattle.mt_promise.specs.Alone.{EndsPlainly}
+use Rattle.mt_index.specs.declared.calls.Call.{Call}
+use Rattle.mt_index.specs.Calls.{changing}
+use Rattle.mt_index.specs.Paired.{Paired}
+use Rattle.mt_index.specs.Stands.{MachineView, Stands, CallStands}
+use Rattle.mt_shared.specs.declared.trace.Trace.TheVariants.{Off}
 use Rattle.mt_shared.specs.Passes.{PassView}
 use Rattle.mt_shared.specs.Kept.{KeptView, IsRefusedBy}
-use Rattle.mt_shared.specs.Reads.{IsRead, IsPlainNow, IsReadNow, IsToldNow, ReadsNow, read_reply}
+use Rattle.mt_shared.specs.Reads.{IsRead, IsPlainNow, IsReadNow, IsToldNow, MustDrive, ReadsNow, read_reply}
 use Rattle.mt_shared.proofs.ReadLemmas.{unbroken}
-use Rattle.mt_serve.specs.Plain.{IsAlone, IsReadAtOnce, store_of}
+use Rattle.mt_wire.specs.declared.query.Query.TheVariants.{Call as CallOf}
+use Rattle.mt_serve.specs.Asking.{Asks}
+use Rattle.mt_serve.specs.Plain.{AloneReadsAtOnce, IsAlone, IsReadAtOnce, store_of}
+
+-- if no call is open in the history, none is in the machine
+pub no_entries : (m : MachineView) (past : History) → Stands m past → (moment past).calls ≡ [] → m.calls.calls ≡ []
+no_entries m past st none = go m.calls.calls refl (subst (λ (l : List OpenCall). Paired (CallStands m.columns m.epoch m.tree st.w past) 0 m.calls.begun m.calls.calls l) none st.calls)
+  where
+    go : (entries : List (ℕ × Call)) → m.calls.calls ≡ entries → Paired (CallStands m.columns m.epoch m.tree st.w past) 0 m.calls.begun entries [] → m.calls.calls ≡ []
+    go [] is pairs = is
+    go (entry ∷ entries) is pairs = absurd pairs
 
 pub read_same : (s t : KeptView) (p q : PassView) (request : Request) (result : Result Reply Refusal) → IsReadNow ReadsNow s p request result t q → t ≡ s
 read_same s t p q request result read = read.same
@@ -78,3 +93,13 @@ module _ (s : KeptView) (p : PassView) (h : History) (request : Request) (a : Is
 pub read_ends : (s t : KeptView) (p q : PassView) (h : History) (request : Request) (result : Result Reply Refusal) → IsAlone s p h → IsReadNow ReadsNow s p request result t q
     → IsAlone t q h × IsReadAtOnce (store_of s h) request result (store_of t h)
 read_ends s t p q h request result a read = subst (λ (k : KeptView). Came s p h request a result k q) (sym read.same) (told s p h request a read.read result q read.shown read.told)
+
+-- where no trace is kept, no get or range need be driven
+never_driven : (s : KeptView) (p : PassView) (h : History) (request : Request) → IsAlone s p h → s.trace ≡ Off → IsRead request → MustDrive ReadsNow s p.number request → ⊥
+never_driven s p h request a off read (inl other) = other read
+never_driven s p h request a off read (inr none) =
+    let some = none.may.1 (read, (a.own, ap changing (no_entries s.machine h a.stands a.ended), off)) in absurd (cc some)
+
+pub reads_at_once : AloneReadsAtOnce
+reads_at_once s t p q h request response a off read (result, inl (must, drive), is) = absurd (never_driven s p h request a off read must)
+reads_at_once s t p q h request response a off read (result, inr now, is) = (result, (read_ends s t p q h request result a now).1, is)

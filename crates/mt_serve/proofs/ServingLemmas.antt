@@ -6,13 +6,20 @@ use Rattle.std.specs.Io.KnownBytes.{Appends}
 use Rattle.std.proofs.KnownBytes.{Appends-nil, Appends-trans}
 use Rattle.mt_shared.specs.Passes.{PassView}
 use Rattle.mt_shared.specs.Drives.{EventLaw}
-use Rattle.mt_shared.specs.Reads.{ReadLaw}
+use Rattle.mt_shared.specs.Reads.{ReadLaw, MustDrive}
+use Rattle.mt_shared.specs.Changes.{IsDriveKept, has_changed, is_change}
+use Rattle.mt_shared.proofs.ReadLemmas.{driven_call}
 use Rattle.mt_index.specs.Viewing.{page_outcome}
 use Rattle.mt_shared.specs.Turns.{drop_outcome}
 use Rattle.mt_types.specs.declared.event.Event.TheVariants.{ViewDrop as DropOf, ViewRead as ReadOf}
 use Rattle.mt_types.specs.declared.numbers.ViewNo.{ViewNo}
 use Rattle.mt_wire.specs.declared.query.Query.{Query}
-use Rattle.mt_wire.specs.declared.query.Query.TheVariants.{ViewDrop, ViewRead}
+use Rattle.mt_types.specs.declared.event.Answer.{Answer}
+use Rattle.mt_types.specs.declared.event.Answer.TheVariants.{Absent, Found, Stored, Removed, Rows, Tidied, Built}
+use Rattle.mt_types.specs.declared.event.Reply.{Reply}
+use Rattle.mt_types.specs.declared.event.Request.{Request}
+use Rattle.mt_wire.specs.Answered.{end_of}
+use Rattle.mt_wire.specs.declared.query.Query.TheVariants.{Call, ViewDrop, ViewRead}
 use Rattle.mt_wire.specs.declared.response.Response.{Response}
 use Rattle.mt_wire.specs.declared.frame.Frame.{Frame}
 use Rattle.mt_types.specs.Limited.{PageIsLimited}
@@ -22,7 +29,7 @@ use Rattle.mt_wire.specs.Limited.{ResponseIsLimited}
 use Rattle.mt_wire.specs.Frames.{Holds, RequestsFit, request_frame, reply_frame}
 use Rattle.mt_serve.specs.declared.fault.SessionFault.{SessionFault}
 use Rattle.mt_serve.specs.declared.session.Summary.{Summary}
-use Rattle.mt_serve.specs.Asking.{Answers, AnswersAll, AnswersFrame, AnswersFrames, KeepsViews, changes, drop_response, page_response}
+use Rattle.mt_serve.specs.Asking.{Answers, AnswersAll, AnswersFrame, AnswersFrames, KeepsViews, call_response, changes, drop_response, end_changes, page_response}
 use Rattle.mt_serve.specs.Sources.{LosesFrame}
 use Rattle.mt_serve.specs.Sessions.{HasServed, IsBroken, BreaksIn, requests_of, replies_of}
 
@@ -34,6 +41,29 @@ AnswersAll-push {S} does shows s m t p r q [] [] query response all one =
 AnswersAll-push does shows s m t p r q [] (y ∷ ys) query response all one = absurd all
 AnswersAll-push does shows s m t p r q (x ∷ xs) [] query response all one = absurd all
 AnswersAll-push does shows s m t p r q (x ∷ xs) (y ∷ ys) query response all one = (all.0, all.1, all.2, AnswersAll-push does shows all.0 m t all.1 r q xs ys query response all.3 one)
+
+-- ---- after a call that was driven views are kept up, if it was a change
+end_change : (answer : Answer) → is_change answer ≡ end_changes (end_of answer)
+end_change Absent = refl
+end_change (Found row) = refl
+end_change (Stored number) = refl
+end_change (Removed number) = refl
+end_change (Rows pairs) = refl
+end_change (Tidied rule) = refl
+end_change (Built view) = refl
+
+same_change : (result : Result Reply Refusal) → has_changed result ≡ changes (call_response result)
+same_change (Ok reply) = end_change reply.answer
+same_change (Err refusal) = refl
+
+pub driven_answers : {S : Type 0} (does : EventLaw S) (shows : ReadLaw S) (s t : S) (p r q : PassView) (request : Request) (result : Result Reply Refusal)
+    → MustDrive shows s p.number request × (r ≡ p) → IsDriveKept does s r request 64 result t q → Answers does shows s p (Call request) (call_response result) t q
+driven_answers does shows s t p r q request result must (m, v, drive, kept) = (
+  m,
+  v,
+  (result, driven_call does shows s m p r v request result must drive, refl),
+  subst (λ (b : Bool). MatchBool b (KeepsViews does m v t q) ((t ≡ m) × (q ≡ v))) (same_change result) kept,
+)
 
 -- ---- an event of a view leaves no view behind
 page_changes_none : (result : Result Page Refusal) → changes (page_response result) ≡ false

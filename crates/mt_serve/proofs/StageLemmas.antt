@@ -95,7 +95,7 @@ module _ (P : Refusal → Type 0) where
   copied_says : (half : NodeNo) (cut place : ℕ) (outline : Outline) (copies : List Entry) → StageSays (copied_stage half cut place outline copies)
   copied_says half cut place outline copies = go (cut + length copies == SLOTS)
     where
-      go : (all : Bool) → StageSays (cond all (Spared half cut place copies) (Copies half cut place outline copies))
+      go : (all : Bool) → StageSays (cond all (Spared half cut place outline.right copies) (Copies half cut place outline copies))
       go true = tt
       go false = tt
 

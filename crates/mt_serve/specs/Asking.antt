@@ -34,8 +34,8 @@ drop_response (Err refusal) = Refused refusal
 
 -- ---- one query
 
--- A call is driven from its begin to its end, or read at once; a page is read, or a view dropped, by one event. This is
--- the answer.
+-- A call is read at once if it may be, and else driven from its begin to its end; a page is read, or a view dropped, by
+-- one event. This is the answer.
 abbrev pub Asks : {S : Type 0} → EventLaw S → ReadLaw S → S → PassView → Query → Response → S → PassView → Type 0
 Asks does shows s p (Call request) response t q =
     (result : Result Reply Refusal) × IsCall does shows s p request result t q × (response ≡ call_response result)

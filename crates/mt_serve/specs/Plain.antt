@@ -26,6 +26,7 @@ use Rattle.mt_promise.specs.Legal.{MayHappen}
 use Rattle.mt_promise.specs.Alone.{EndsPlainly, EndsRefused}
 use Rattle.mt_index.specs.declared.options.Options.{Options}
 use Rattle.mt_index.specs.Stands.{Stands}
+use Rattle.mt_shared.specs.declared.trace.Trace.TheVariants.{Off}
 use Rattle.mt_shared.specs.Passes.{PassView, IsNewPass}
 use Rattle.mt_shared.specs.Kept.{KeptView, Does, IsFresh, has_book}
 use Rattle.mt_shared.specs.Reads.{IsRead, ReadsNow}
@@ -39,7 +40,7 @@ use Rattle.mt_wire.specs.Frames.{RequestsFit, request_frame, reply_frame}
 use Rattle.mt_serve.specs.declared.fault.SessionFault.{SessionFault}
 use Rattle.mt_serve.specs.declared.fault.SessionFault.TheVariants.{Write, NoMemory as WantsMemory}
 use Rattle.mt_serve.specs.declared.session.Summary.{Summary}
-use Rattle.mt_serve.specs.Asking.{call_response, page_response, drop_response, changes, AnswersAll, AnswersFrames}
+use Rattle.mt_serve.specs.Asking.{Asks, call_response, page_response, drop_response, changes, AnswersAll, AnswersFrames}
 use Rattle.mt_serve.specs.Sources.{FaultIsAt}
 use Rattle.mt_serve.specs.Sessions.{requests_of, replies_of, IsServed, IsBroken}
 use Rattle.mt_serve.specs.Store.{Store, now, newest, Leads, fault, EndsBy, MayLack}
@@ -182,6 +183,14 @@ abbrev pub FreshIsAlone : Type 0
 FreshIsAlone =
     (options : Options) (traced : Bool) (s : KeptView) (p : PassView) → IsFresh options 1 s → IsNewPass traced 1 p
     → IsAlone s p []
+
+-- Of an index of one caller that keeps no trace: a get or a range is read at once, and nothing happens.
+abbrev pub AloneReadsAtOnce : Type 0
+AloneReadsAtOnce =
+    (s t : KeptView) (p q : PassView) (h : History) (request : Request) (response : Response)
+    → IsAlone s p h → s.trace ≡ Off → IsRead request → Asks Does ReadsNow s p (Call request) response t q
+    → (result : Result Reply Refusal) × IsReadAtOnce (store_of s h) request result (store_of t h)
+    × (response ≡ call_response result)
 
 -- Of an index of one caller, while its events can be counted: queries that it answers are answered plainly.
 abbrev pub AloneAnswersPlainly : Type 0

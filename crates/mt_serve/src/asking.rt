@@ -3,19 +3,18 @@
 ghost use Rattle.std.specs.Prelude.{◌≡◌};
 ghost use Rattle.mt_wire.specs.Limited.{ResponseIsLimited};
 ghost use Rattle.mt_wire.specs.declared.query.Query.TheVariants.{Call};
-ghost use Rattle.mt_serve.specs.Asking.{Answers, KeepsViews, call_response, page_response, drop_response, changes};
+ghost use Rattle.mt_serve.specs.Asking.{Answers, call_response, page_response, drop_response};
 
-use mt_shared::asking::ask as make_call;
+use mt_shared::asking::read_at_once;
 use mt_shared::changing::drive_and_keep;
 use mt_shared::driving::Shared;
 use mt_shared::pass::Pass;
-use mt_shared::reads::is_read;
-use mt_shared::views::{keep_views, view_drop, view_read};
+use mt_shared::views::{view_drop, view_read};
 use mt_types::event::{Reply, Request};
 use mt_types::refusal::Refusal;
 use mt_types::view::Page;
 use mt_wire::query::Query;
-use mt_wire::response::{End, Response};
+use mt_wire::response::Response;
 use std::alloc::Global;
 
 // The most turns by which views are kept up after a query.
@@ -48,27 +47,8 @@ fn drop_response(dropped: Result<(), Refusal>) -> Response
     }
 }
 
-// Whether rows were changed, or a view was built.
-fn changes(response: &Response) -> bool
-    ensures { result ≡ changes response.now }
-{
-    matches!(
-        response,
-        Response::Done {
-            end: End::Committed(_) | End::Built(_),
-            ..
-        }
-    )
-}
-
-// Advances views. A turn that is refused changes nothing: views are advanced again after a later commit.
-fn keep_up<S: Shared>(alloc: Global, shared: &mut S, pass: &mut Pass)
-    ensures { KeepsViews S.does shared.old pass.old shared.new pass.new }
-{
-    let _kept = keep_views(alloc, shared, pass, TURNS);
-}
-
-// Does what a call asks, and returns its answer. If it changed rows or built a view, views are then advanced.
+// Does what a call asks, and returns its answer. If it is driven, and changed rows or built a view, views are then
+// advanced.
 fn answer_call<S: Shared>(
     alloc: Global,
     shared: &mut S,
@@ -78,19 +58,14 @@ fn answer_call<S: Shared>(
     ensures answers { Answers S.does S.shows shared.old pass.old (Call request) result shared.new pass.new }
     ensures limited { ResponseIsLimited result }
 {
-    if !is_read(&request) {
-        return call_response(drive_and_keep(alloc, shared, pass, request, TURNS));
+    match read_at_once(alloc, shared, pass, &request) {
+        Some(ended) => call_response(ended),
+        None => call_response(drive_and_keep(alloc, shared, pass, request, TURNS)),
     }
-    let response = call_response(make_call(alloc, shared, pass, request));
-    // (a read changes nothing, but no clause of `Shared::read` says so)
-    if changes(&response) {
-        keep_up(alloc, shared, pass);
-    }
-    response
 }
 
-/// Does what a query asks, and returns its answer. A get or a range is read at once if it may be, and any other call is
-/// driven from its begin to its end, as `mt_shared::asking::ask` does. A page is read, or a view dropped, by one event.
+/// Does what a query asks, and returns its answer. A get or a range is read at once if it may be (`read_at_once`), and
+/// any other call is driven from its begin to its end (`drive_and_keep`). A page is read, or a view dropped, by one event.
 /// If the query changed rows or built a view, views are then advanced, in at most 64 turns.
 ///
 /// Over a `Door` each event or read holds the lock once, so events of other threads can come between them. Over a

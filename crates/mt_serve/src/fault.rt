@@ -23,10 +23,10 @@ pub enum SessionFault {
     #[error("the length of a frame is out of its bounds")]
     BadLength,
     /// The first byte of a frame's body is not a version.
-    #[error("a frame has another version")]
+    #[error("a frame has an unknown version")]
     BadVersion,
     /// A frame's body does not spell queries of its version.
-    #[error("a frame spells no queries")]
+    #[error("the body of a frame is not a list of queries")]
     BadBody,
     /// An allocation was refused.
     #[error("out of memory")]

@@ -3,4 +3,6 @@
 #![tactic(auto)]
 
 #[cfg(test)]
+mod faulty;
+#[cfg(test)]
 mod sessions;

@@ -1,12 +1,12 @@
 //! Sessions on an index of one caller: the worked session, however it is cut, each fault, and damaged input.
 
+use crate::faulty::Faulty;
 use mt_index::options::Options;
 use mt_serve::fault::SessionFault;
 use mt_serve::frames::Frames;
 use mt_serve::session::{Summary, session};
 use mt_shared::lone::Lone;
 use mt_shared::pass::Pass;
-use mt_streams::faulty::Faulty;
 use mt_streams::sink::Sink;
 use std::alloc::Global;
 use std::test::Fail;

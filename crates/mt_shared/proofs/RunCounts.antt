@@ -1,5 +1,5 @@
 -- How many events a run counts.
-use Rattle.std.proofs.Common.{arith, ap, ◌≡◌, ◌+◌, ◌-◌, ◌≤◌, ◌<◌, ◌∙◌, ℕ, refl, Bool, true, false, ◌||◌, eqb, ◌⊎◌, inl, inr, suc}
+use Rattle.std.proofs.Common.{arith, ap, ◌≡◌, ◌+◌, ◌≤◌, ◌<◌, ◌∙◌, ℕ, refl, Bool, true, false, ◌||◌, eqb, ◌⊎◌, inl, inr, suc}
 use Rattle.std.specs.Prelude.{max, min}
 use Rattle.std.proofs.lemmas.Bool.{eq-eqb}
 use Rattle.std.proofs.lemmas.Bool.Decides.{leb_tells}

@@ -7,7 +7,7 @@ use Rattle.mt_types.specs.declared.refusal.Refusal.TheVariants.{NoMemory, NoSuch
 use Rattle.mt_promise.specs.History.{History, moment}
 use Rattle.mt_commit.specs.Logged.{deltas_of}
 use Rattle.mt_view.specs.State.{StateView}
-use Rattle.mt_views.specs.Views.{state_at}
+use Rattle.mt_view.specs.Views.{state_at}
 use Rattle.mt_index.specs.Feed.{feed_fault}
 use Rattle.mt_index.specs.Viewing.{CopiesView}
 use Rattle.mt_index.specs.Stands.{MachineView, Stands}

@@ -1,10 +1,11 @@
 -- A READ AT ONCE: a get or a range that is answered from the rows of one moment. It is no event.
-use Rattle.std.specs.Prelude.{ℕ, true, ◌≡◌, ◌≤◌, ◌<◌, ◌⊎◌, ◌↔◌, [], length, Option, Some, Result, Ok, Err, IfOk, IfSome, IsSome}
+use Rattle.std.specs.Prelude.{ℕ, true, ◌≡◌, ◌≤◌, ◌<◌, ◌⊎◌, ◌↔◌, [], length, Option, Some, None, Result, Ok, Err, IfOk, IfSome, IsSome}
 use Rattle.mt_types.specs.Limits.{request_fault}
 use Rattle.mt_types.specs.declared.numbers.PassNo.{PassNo}
 use Rattle.mt_types.specs.declared.refusal.Refusal.{Refusal}
 use Rattle.mt_types.specs.declared.refusal.Refusal.TheVariants.{WrongPass}
 use Rattle.mt_types.specs.declared.event.Answer.{Answer}
+use Rattle.mt_types.specs.declared.event.Answer.TheVariants.{Absent, Found, Rows}
 use Rattle.mt_types.specs.declared.event.Request.{Request}
 use Rattle.mt_types.specs.declared.event.Request.TheVariants.{Get, Range}
 use Rattle.mt_types.specs.declared.event.Reply.{Reply}
@@ -22,6 +23,13 @@ abbrev pub IsRead : Request → Type 0
 IsRead (Get key asked) = Unit {0}
 IsRead (Range start limit asked) = Unit {0}
 IsRead _ = ⊥
+
+-- an answer to a get or a range: it changes nothing
+abbrev pub IsReadAnswer : Answer → Type 0
+IsReadAnswer Absent = Unit {0}
+IsReadAnswer (Found row) = Unit {0}
+IsReadAnswer (Rows pairs) = Unit {0}
+IsReadAnswer _ = ⊥
 
 -- the pass has a book, no put, remove or tidy is open, and no trace is kept, in which a read would be missing
 abbrev pub MayRead : KeptView → PassNo → Type 0
@@ -76,7 +84,13 @@ pub record IsReadNow {S : Type 0} (shows : ReadLaw S) (s : S) (p : PassView) (re
   pub shown : shows s p.number request (Some read)
   pub told : IsToldNow p read result q
 
--- A CALL: driven from its begin to its end by events, or read at once
+-- the request is no get or range, or a read at once of it gives nothing
+abbrev pub MustDrive : {S : Type 0} → ReadLaw S → S → PassNo → Request → Type 0
+MustDrive shows s pass request = (¬ IsRead request) ⊎ shows s pass request None
+
+-- A CALL: read at once; or, if it may not be, driven from its begin to its end by events
 abbrev pub IsCall : {S : Type 0} → EventLaw S → ReadLaw S → S → PassView → Request → Result Reply Refusal → S → PassView
     → Type 0
-IsCall does shows s p request result t q = IsDrive does s p request result t q ⊎ IsReadNow shows s p request result t q
+IsCall does shows s p request result t q =
+    (MustDrive shows s p.number request × IsDrive does s p request result t q)
+    ⊎ IsReadNow shows s p request result t q

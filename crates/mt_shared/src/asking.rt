@@ -1,9 +1,9 @@
 //! Calls as a caller makes them: a get or a range is read at once if it may be, and every other call is driven.
 
-ghost use Rattle.std.specs.Prelude.{◌≡◌, ◌≤◌, IfOk};
+ghost use Rattle.std.specs.Prelude.{◌≡◌, ◌≤◌, IfOk, IfSome, MatchOption};
 ghost use Rattle.mt_types.specs.Limited.{AnswerIsLimited};
 ghost use Rattle.mt_shared.specs.Drives.{IsReplyTo};
-ghost use Rattle.mt_shared.specs.Reads.{IsCall, IsToldNow};
+ghost use Rattle.mt_shared.specs.Reads.{IsCall, IsReadAnswer, IsReadNow, IsToldNow, MustDrive};
 
 use crate::driving::{NoGate, Shared, drive};
 use crate::pass::Pass;
@@ -31,18 +31,45 @@ fn reply_now(pass: &mut Pass, read: Result<(u64, Answer), Refusal>) -> Result<Re
     })
 }
 
-/// Makes one call of a pass, and returns its reply. A get or a range is read at once, if no put, remove or tidy is open
-/// and the index keeps no trace: it makes no event, its reply is of call 0, and begins and ends at the number of commits
-/// at that moment. Otherwise it is driven from its begin to its end, as [`drive`] does, and so is every other call.
+/// Reads a get or a range at once, and returns the reply of the pass. Returns `None` if the request is another one, or
+/// may not be read at once: if a put, remove or tidy is open, or the index keeps a trace. Makes no event. The reply is of
+/// call 0, and begins and ends at the number of commits at that moment.
 ///
-/// Over a door a read at once holds the lock once, together with other reads.
+/// Over a door it holds the lock once, together with other reads.
 ///
-/// Costs what `Machine::get`, `Machine::range` or [`drive`] costs.
+/// Costs what `Machine::get` or `Machine::range` costs.
 ///
 /// # Errors
 ///
-/// Those of [`drive`]. A read at once has the limits that the request breaks, `NoMemory`, and `WrongPass` if there are
-/// fewer commits than the pass had seen: then the pass is of another index.
+/// The limits that the request breaks, `NoMemory`, and `WrongPass` if there are fewer commits than the pass had seen:
+/// then the pass is of another index.
+pub fn read_at_once<S: Shared>(
+    alloc: Global,
+    shared: &S,
+    pass: &mut Pass,
+    request: &Request,
+) -> Option<Result<Reply, Refusal>>
+    ensures reads { MatchOption result
+        (MustDrive S.shows shared.now pass.old.number request.now × (pass.new ≡ pass.old))
+        (λ ended. IsReadNow S.shows shared.now pass.old request.now ended shared.now pass.new) }
+    ensures answer { IfSome result (λ ended. IfOk ended (λ reply. IsReadAnswer reply.answer)) }
+    ensures limited { IfSome result (λ ended. IfOk ended (λ reply. AnswerIsLimited reply.answer)) }
+{
+    if !is_read(request) {
+        return None;
+    }
+    match shared.read(alloc, pass.number(), request) {
+        Some(read) => Some(reply_now(pass, read)),
+        None => None,
+    }
+}
+
+/// Makes one call of a pass, and returns its reply. A get or a range is read at once if it may be, as [`read_at_once`]
+/// does. Otherwise it is driven from its begin to its end, as [`drive`] does, and so is every other call.
+///
+/// # Errors
+///
+/// Those of [`read_at_once`] and [`drive`].
 pub fn ask<S: Shared>(
     alloc: Global,
     shared: &mut S,
@@ -55,11 +82,8 @@ pub fn ask<S: Shared>(
     ensures seen { pass.old.seen ≤ pass.new.seen }
     ensures limited { IfOk result (λ reply. AnswerIsLimited reply.answer) }
 {
-    if !is_read(&request) {
-        return drive(alloc, shared, pass, &mut NoGate, request);
-    }
-    match shared.read(alloc, pass.number(), &request) {
-        Some(read) => reply_now(pass, read),
+    match read_at_once(alloc, shared, pass, &request) {
+        Some(ended) => ended,
         None => drive(alloc, shared, pass, &mut NoGate, request),
     }
 }

@@ -10,6 +10,7 @@ ghost use Rattle.mt_types.specs.declared.event.Outcome.{Outcome};
 ghost use Rattle.mt_types.specs.Limited.{AnswerIsLimited, OutcomeIsLimited};
 ghost use Rattle.mt_shared.specs.Passes.{PassView, IsTold};
 ghost use Rattle.mt_shared.specs.Changes.{ChangeIsLimited, IsChanged};
+ghost use Rattle.mt_shared.specs.Reads.{IsReadAnswer};
 ghost use Rattle.mt_shared.specs.Drives.{Finishes, HasGone, IsReplyTo, IsDriven, IsRefused, IsStarted, StartIsLimited, Ends};
 
 use crate::changing::Changed;
@@ -90,6 +91,7 @@ pub trait Shared {
         request: &Request,
     ) -> Option<Result<(u64, Answer), Refusal>>
         ensures shows { shows self.now pass request.now result }
+        ensures answer { IfSome result (λ read. IfOk read (λ now. IsReadAnswer now.1)) }
         ensures limited { IfSome result (λ read. IfOk read (λ now. AnswerIsLimited now.1)) };
 }
 

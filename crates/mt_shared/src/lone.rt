@@ -4,11 +4,12 @@ ghost use Rattle.std.specs.Prelude.{false, IfOk, IfSome};
 ghost use Rattle.mt_types.specs.Limited.{AnswerIsLimited, OutcomeIsLimited};
 ghost use Rattle.mt_types.specs.Limits.{open_fault};
 ghost use Rattle.mt_shared.specs.Passes.{IsNewPass};
+ghost use Rattle.mt_shared.specs.Traces.{IsNewTrace};
 ghost use Rattle.mt_shared.specs.Kept.{Does, IsKept, IsFresh, IsRefusedBy};
 ghost use Rattle.mt_shared.specs.Feeds.{Feeds, Copies};
 ghost use Rattle.mt_shared.specs.Changes.{ChangeIsLimited, IsChanged};
 ghost use Rattle.mt_shared.specs.Drives.{HasGone, IsStarted, StartIsLimited};
-ghost use Rattle.mt_shared.specs.Reads.{ReadsNow};
+ghost use Rattle.mt_shared.specs.Reads.{IsReadAnswer, ReadsNow};
 ghost use Rattle.mt_shared.specs.Passes.{IsTold};
 
 use crate::changing::Changed;
@@ -58,6 +59,7 @@ impl Lone {
     pub fn start(alloc: Global, options: Options) -> Result<(Lone, Pass), Refusal>
         ensures opened { IfOk result (λ r. IsFresh options 1 r.0) }
         ensures pass { IfOk result (λ r. IsNewPass false 1 r.1) }
+        ensures trace { IfOk result (λ r. IsNewTrace false r.0.trace) }
         ensures fault { IsRefusedBy (open_fault options.columns options.feed options.keep) result }
     {
         let kept = Kept::open(alloc, options, 1, false)?;
@@ -142,6 +144,7 @@ impl Shared for Lone {
         request: &Request,
     ) -> Option<Result<(u64, Answer), Refusal>>
         ensures shows { ReadsNow self.now pass request.now result }
+        ensures answer { IfSome result (λ read. IfOk read (λ now. IsReadAnswer now.1)) }
         ensures limited { IfSome result (λ read. IfOk read (λ now. AnswerIsLimited now.1)) }
         ensures kept { IsKept self.now }
     {

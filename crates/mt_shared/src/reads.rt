@@ -6,7 +6,7 @@ ghost use Rattle.mt_types.specs.Limits.{request_fault};
 ghost use Rattle.mt_types.specs.Limited.{AnswerIsLimited};
 ghost use Rattle.mt_index.specs.Alone.{IsQuiet};
 ghost use Rattle.mt_shared.specs.Kept.{IsKept, IsRefusedBy};
-ghost use Rattle.mt_shared.specs.Reads.{IsPlainNow, IsRead, MayRead, ReadsNow};
+ghost use Rattle.mt_shared.specs.Reads.{IsPlainNow, IsRead, IsReadAnswer, MayRead, ReadsNow};
 
 use crate::kept::Kept;
 use crate::trace::Trace;
@@ -31,7 +31,8 @@ fn get(
 ) -> Result<Answer, NoMemory>
     requires quiet { IsQuiet machine.now }
     requires within { request_fault machine.now.columns (Get key.now columns.now) ≡ None }
-    ensures { IfOk result (IsPlainNow machine.now (Get key.now columns.now)) }
+    ensures plain { IfOk result (IsPlainNow machine.now (Get key.now columns.now)) }
+    ensures read { IfOk result IsReadAnswer }
 {
     match machine.row(key.as_slice()) {
         Some(row) => Ok(Answer::Found(shown(alloc, columns, row)?)),
@@ -49,7 +50,8 @@ fn range(
 ) -> Result<Answer, NoMemory>
     requires quiet { IsQuiet machine.now }
     requires within { request_fault machine.now.columns (Range start.now limit columns.now) ≡ None }
-    ensures { IfOk result (IsPlainNow machine.now (Range start.now limit columns.now)) }
+    ensures plain { IfOk result (IsPlainNow machine.now (Range start.now limit columns.now)) }
+    ensures read { IfOk result IsReadAnswer }
 {
     let Ok(start) = Key::new(start.copy(alloc)?) else {
         unreachable!()
@@ -66,6 +68,7 @@ fn answer(machine: &Machine, alloc: Global, request: &Request) -> Result<Answer,
     requires quiet { IsQuiet machine.now }
     requires read { IsRead request.now }
     ensures answer { IfOk result (IsPlainNow machine.now request.now) }
+    ensures read { IfOk result IsReadAnswer }
     ensures fault { IsRefusedBy (request_fault machine.now.columns request.now) result }
 {
     if let Some(refusal) = request_fault(machine.columns(), request) {
@@ -107,6 +110,7 @@ impl Kept {
         request: &Request,
     ) -> Option<Result<(u64, Answer), Refusal>>
         ensures reads { ReadsNow self.now pass request.now result }
+        ensures answer { IfSome result (λ read. IfOk read (λ now. IsReadAnswer now.1)) }
         ensures limited { IfSome result (λ read. IfOk read (λ now. AnswerIsLimited now.1)) }
         ensures kept { IsKept self.now }
     {

@@ -26,7 +26,7 @@ use Rattle.mt_steps.specs.Step.{Changes}
 use Rattle.mt_steps.proofs.AgingLemmas.{AgesAt, age_one}
 use Rattle.mt_steps.proofs.FrameLemmas.{is_among, taken_back}
 use Rattle.mt_steps.proofs.AliveLemmas.{alive_node, alive_there}
-use Rattle.mt_steps.specs.World.{World, IsWorld, RowsAreOfKeys, IsLockedRoot, HeadsStand, IsLockedInterior, IsAliveIfFree, TwinsAreLocked, IsGone, RetiredAreGone, NotRetired, IsLocked, IsTaken, NotAmong, Goes}
+use Rattle.mt_steps.specs.World.{World, IsWorld, RowsAreOfKeys, IsLockedRoot, HeadsStand, IsLockedInterior, IsAliveIfFree, TwinsAreLocked, IsGone, RetiredAreGone, NotRetired, IsLocked, IsTaken, NotAmong, GoesBy}
 
 -- ---- rows of keys
 pub keys_same : (a after : ArenaView) → SameContent (arena_seen a) (arena_seen after) → RowsAreOfKeys a → RowsAreOfKeys after
@@ -190,10 +190,10 @@ module _ (a : ArenaView) (n : ℕ) (b : BorderView) (change : BorderView → Bor
   locked_may now w world locked free held = (locked_kept a now w.chart n (is_locked_node locked) world.retired, λ i. absurd (free i), alive_changed w.chart held)
 
   -- what the step leaves
-  pub goes_border : (now : ℕ) (w : World) (owned owns : List ℕ) (Then : World → Type 0) → IsWorld a now w → AgesAt w w.chart n b (change b) → IsIndexAt (with_border_changed a n change) now w.twins w.chart → RowsAreOfKeys (with_border_changed a n change)
+  pub goes_border : {commit : Option ℕ} (now : ℕ) (w : World) (owned owns : List ℕ) (Then : World → Type 0) → IsWorld a now w → AgesAt commit w w.chart n b (change b) → IsIndexAt (with_border_changed a n change) now w.twins w.chart → RowsAreOfKeys (with_border_changed a n change)
       → ((other : ℕ) → IsTaken a w other → NotAmong other owned → other ≢ n) → ((other : ℕ) → Among other owns → Among other owned ⊎ (other ≡ n))
       → ((other : ℕ) → other ≢ n → Among other owned → Among other owns) → (((change b).version.locked ≡ true) ⊎ (w.chart n ≡ None) → Among n owns) → MayChange w → Then w
-      → Goes now a (with_border_changed a n change) w owned owns Then
+      → GoesBy commit now a (with_border_changed a n change) w owned owns Then
   goes_border now w owned owns Then world ages index keys free fewer more mine may truth = record {
     next = w;
     world = record { index = index; keys = keys; heads = heads_changed w.chart may.1 world.heads; alive = alive_there a (with_border_changed a n change) w.chart n may.2 others_named world.alive; twins = twins_changed w.chart w.chart w.twins (evolves_same 0 w.chart) world.twins; retired = retired_kept a (with_border_changed a n change) now w.chart w.chart n (evolves_same 0 w.chart) may.0 others_named refl world.retired };

@@ -27,7 +27,7 @@ law_none a before now w world since = record {
   evolves = λ begun less. evolves_same begun w.chart;
   leaves = λ number taken. record { node = refl; spot = refl; twins = λ one other here. ((λ h. h), (λ h. h)); closing = λ i. i; retired = ((λ h. h), (λ h. h)) };
   takes = λ number taken. taken;
-  age = age_same;
+  age = (age_same {commit = None}).borders;
 }
 
 -- once one more is

@@ -18,7 +18,7 @@ use Rattle.mt_chart.specs.Steps.{SameContent}
 use Rattle.mt_chart.proofs.Basics.{same_number}
 use Rattle.mt_chart.proofs.HeldNodes.{evolves_same, evolves_again}
 use Rattle.mt_tree.specs.Seen.{arena_seen}
-use Rattle.mt_tree.specs.Fields.{BorderAges}
+use Rattle.mt_tree.specs.Fields.{BorderChanges}
 use Rattle.mt_tree.specs.Keeping.{KeepsTree, KeepsUnknown, IsUnknown, IsOnIn}
 use Rattle.mt_tree.specs.BorderSteps.{MakesLayerAt}
 use Rattle.mt_steps.specs.World.{World, IsWorld, HeadsStand, IsLockedInterior, IsAliveIfFree, FreeAreAlive, NotRetired, IsLocked, IsTaken, NotAmong, Goes}
@@ -174,7 +174,7 @@ layered w head root prefix = record { twins = w.twins; closing = w.closing; char
 -- owns the border alone.
 module _ (now : ℕ) (a : ArenaView) (w : World) (n head : ℕ) (root : NodeNo) (b root_b : BorderView) (prefix : List ℕ) (place : ℕ) (entry : Entry) (change : BorderView → BorderView)
     (named : border_at a.nodes n ≡ Some b) (stands : slice_get b.live place ≡ Some entry) (is_head : head_at a.nodes head ≡ Some (new_head root 0 false)) (is_root : border_at a.nodes root.0 ≡ Some root_b) (unlocked : root_b.version.locked ≡ false) (root_alive : root_b.version.deleted ≡ false)
-    (apart_head : n ≢ head) (apart_root : n ≢ root.0) (head_unknown : w.chart head ≡ None) (root_unknown : w.chart root.0 ≡ None) (ages : BorderAges b (change b)) (world : IsWorld a now w) (may : MayChange a n b change named w) where
+    (apart_head : n ≢ head) (apart_root : n ≢ root.0) (head_unknown : w.chart head ≡ None) (root_unknown : w.chart root.0 ≡ None) (ages : BorderChanges None b (change b)) (world : IsWorld a now w) (may : MayChange a n b change named w) where
   abbrev below : List ℕ
   below = entry.slice ∷ prefix
 

@@ -20,7 +20,7 @@ use Rattle.mt_tree.specs.Seen.{arena_seen, head_seen, interior_seen}
 use Rattle.mt_tree.specs.InteriorSteps.{IsInLayer}
 use Rattle.mt_tree.proofs.SeenLemmas.{changed-interior, seen-head, head-seen, seen-interior}
 use Rattle.mt_tree.proofs.InteriorPlaces.{stands_as}
-use Rattle.mt_steps.specs.World.{World, IsWorld, HeadsStand, IsLockedInterior, IsAliveIfFree, FreeAreAlive, TwinsAreLocked, NotRetired, IsLocked, IsTaken, HasSameTwins, NotAmong, BordersAge, Goes}
+use Rattle.mt_steps.specs.World.{World, IsWorld, HeadsStand, IsLockedInterior, IsAliveIfFree, FreeAreAlive, TwinsAreLocked, NotRetired, IsLocked, IsTaken, HasSameTwins, NotAmong, NodesAge, Goes}
 use Rattle.mt_steps.proofs.FrameLemmas.{is_among, taken_back, retired_same}
 use Rattle.mt_steps.proofs.AliveLemmas.{alive_node}
 use Rattle.mt_steps.proofs.BorderLemmas.{interior_kept, keys_same, twins_beside, retired_kept, no_root, roots_kept}
@@ -31,7 +31,7 @@ at_chart w chart = record { twins = w.twins; closing = w.closing; chart = chart 
 
 -- The node of one number changes, which no other call has taken, and the places and twins of own numbers: what the step leaves.
 pub goes_with : (now : ℕ) (a after : ArenaView) (w next : World) (n : ℕ) (owned owns : List ℕ) (Then : World → Type 0)
-    → IsWorld after now next → BordersAge a after w next → next.closing ≡ w.closing → after.retired ≡ a.retired → ((begun : ℕ) → begun ≤ now → Evolves begun w.chart next.chart)
+    → IsWorld after now next → NodesAge None a after w next → next.closing ≡ w.closing → after.retired ≡ a.retired → ((begun : ℕ) → begun ≤ now → Evolves begun w.chart next.chart)
     → ((other : ℕ) → other ≢ n → node_at after.nodes other ≡ node_at a.nodes other)
     → ((other : ℕ) → NotAmong other owned → next.chart other ≡ w.chart other)
     → ((other : ℕ) → NotAmong other owned → HasSameTwins w.twins next.twins other)
@@ -69,7 +69,7 @@ goes_with now a after w next n owned owns Then world age closing retired evolves
 
 -- the same, if the twins stay
 pub goes_kept : (now : ℕ) (a after : ArenaView) (w : World) (chart : Chart) (n : ℕ) (owned owns : List ℕ) (Then : World → Type 0)
-    → IsWorld a now w → BordersAge a after w (at_chart w chart) → Keeps now w.twins (arena_seen a) (arena_seen after) w.chart chart → after.retired ≡ a.retired → NotRetired a.retired n
+    → IsWorld a now w → NodesAge None a after w (at_chart w chart) → Keeps now w.twins (arena_seen a) (arena_seen after) w.chart chart → after.retired ≡ a.retired → NotRetired a.retired n
     → ((other : ℕ) → other ≢ n → node_at after.nodes other ≡ node_at a.nodes other)
     → ((other : ℕ) → NotAmong other owned → chart other ≡ w.chart other)
     → HeadsStand after w.closing chart
@@ -95,7 +95,7 @@ goes_kept now a after w chart n owned owns Then world age kept retired apart oth
 
 -- the same, if the number is no locked interior
 pub goes_at : (now : ℕ) (a after : ArenaView) (w : World) (chart : Chart) (n : ℕ) (owned owns : List ℕ) (Then : World → Type 0)
-    → IsWorld a now w → BordersAge a after w (at_chart w chart) → Keeps now w.twins (arena_seen a) (arena_seen after) w.chart chart → after.retired ≡ a.retired → NotRetired a.retired n
+    → IsWorld a now w → NodesAge None a after w (at_chart w chart) → Keeps now w.twins (arena_seen a) (arena_seen after) w.chart chart → after.retired ≡ a.retired → NotRetired a.retired n
     → ((other : ℕ) → other ≢ n → node_at after.nodes other ≡ node_at a.nodes other)
     → ((other : ℕ) → NotAmong other owned → chart other ≡ w.chart other)
     → HeadsStand after w.closing chart
@@ -122,7 +122,7 @@ twins_lone a after chart next twins n evolves lone others all = record {
 
 -- a node that nobody has taken changes, and the place of a number that the call owns
 pub goes_beside : (now : ℕ) (a after : ArenaView) (w : World) (chart : Chart) (n m : ℕ) (place : Option Spot) (Then : World → Type 0)
-    → IsWorld a now w → BordersAge a after w (at_chart w chart) → Keeps now w.twins (arena_seen a) (arena_seen after) w.chart chart → after.retired ≡ a.retired → NotRetired a.retired n
+    → IsWorld a now w → NodesAge None a after w (at_chart w chart) → Keeps now w.twins (arena_seen a) (arena_seen after) w.chart chart → after.retired ≡ a.retired → NotRetired a.retired n
     → ((other : ℕ) → other ≢ n → node_at after.nodes other ≡ node_at a.nodes other)
     → Changes w.chart chart m place
     → HeadsStand after w.closing chart

@@ -37,7 +37,7 @@ use Rattle.mt_chart.proofs.ScanLemmas.{of_keys}
 use Rattle.mt_tree.specs.Seen.{arena_seen, border_seen, entry_seen, content_seen, content_place, entry_place}
 use Rattle.mt_tree.specs.Descent.{MayVisit, MayVisitNode, LeadsOn as VisitLeads, TellsVisit, IsHere, node_visit}
 use Rattle.mt_tree.specs.declared.visit.Visit.{Visit}
-use Rattle.mt_tree.specs.declared.visit.Visit.TheVariants.{To as VisitTo, Below as VisitBelow, Here as VisitHere}
+use Rattle.mt_tree.specs.declared.visit.Visit.TheVariants.{Again as VisitAgain, To as VisitTo, Below as VisitBelow, Here as VisitHere}
 use Rattle.mt_tree.proofs.DescentLemmas.{slice_of_place, may_visit, leads_node, tells_node}
 use Rattle.mt_tree.proofs.HeldLemmas.{held_may_visit}
 use Rattle.mt_tree.proofs.SeenLemmas.{seen-border, among_map}
@@ -52,8 +52,6 @@ use Rattle.mt_steps.specs.Listing.{Listing}
 use Rattle.mt_steps.specs.declared.reader.Reader.TheVariants.{Begins as ListingBegins}
 use Rattle.mt_steps.specs.Listing.{ListingIsTrue}
 use Rattle.mt_steps.specs.declared.ranging.Range.{Range}
-use Rattle.mt_steps.specs.declared.ranging.Sought.{Sought}
-use Rattle.mt_steps.specs.declared.ranging.Sought.TheVariants.{Again, To, Here}
 use Rattle.mt_steps.specs.declared.progress.Progress.{Progress}
 use Rattle.mt_steps.specs.declared.progress.Progress.TheVariants.{Moved, Waits, Answered, Refused}
 use Rattle.mt_steps.specs.World.{World, IsWorld, AreOfKeys}
@@ -80,13 +78,13 @@ module _ (a : ArenaView) (number slice : ℕ) (rest : List ℕ) (same : slice_nu
   pub seeks-may : IsHeldFor a number slice → MayVisit a number (slice_number rest)
   seeks-may h = subst (λ (s : ℕ). MayVisit a number s) (sym same) (held_may_visit a h.now h.twins h.chart h.begun number slice h.prefix h.index h.holds)
 
-  pub seeks-to : (next : NodeNo) → VisitLeads a number rest (VisitTo next) → Seeks a number slice (To next)
+  pub seeks-to : (next : NodeNo) → VisitLeads a number rest (VisitTo next) → Seeks a number slice (VisitTo next)
   seeks-to next leads = record {
     leads = λ now twins chart begun prefix index held.
         subst (λ (s : ℕ). Holds chart begun next.0 prefix s) same (leads.leads now twins chart begun prefix index (subst (λ (s : ℕ). Holds chart begun number prefix s) (sym same) held));
   }
 
-  pub seeks-here : VisitLeads a number rest VisitHere → TellsVisit a number rest VisitHere → Seeks a number slice Here
+  pub seeks-here : VisitLeads a number rest VisitHere → TellsVisit a number rest VisitHere → Seeks a number slice VisitHere
   seeks-here leads tells = record {
     leads = λ now twins chart begun prefix index held.
         let here : IsHere a chart number prefix rest = leads.leads now twins chart begun prefix index (subst (λ (s : ℕ). Holds chart begun number prefix s) (sym same) held) in
@@ -98,10 +96,21 @@ module _ (a : ArenaView) (number slice : ℕ) (rest : List ℕ) (same : slice_nu
         };
   }
 
-pub seeks-again : (a : ArenaView) (number slice : ℕ) → Seeks a number slice Again
+pub seeks-again : (a : ArenaView) (number slice : ℕ) → Seeks a number slice VisitAgain
 seeks-again a number slice = record { leads = λ now twins chart begun prefix index held. tt }
 
--- ---- the visit of a node that is lent alone
+pub seeks_visit : (a : ArenaView) (number slice : ℕ) (rest : List ℕ) → slice_number rest ≡ slice → length rest ≡ 8 → (visit : Visit) → VisitLeads a number rest visit → TellsVisit a number rest visit → Seeks a number slice visit
+seeks_visit a number slice rest same eight VisitAgain leads tells = seeks-again a number slice
+seeks_visit a number slice rest same eight (VisitTo next) leads tells = seeks-to a number slice rest same next leads
+seeks_visit a number slice rest same eight (VisitBelow top) leads tells = record {
+  leads = λ now twins chart begun prefix index held.
+      let below = leads.leads now twins chart begun prefix index (subst (λ (s : ℕ). Holds chart begun number prefix s) (sym same) held) in
+      let long : 8 < length rest = below.0 in
+      omega (arith, long, eight);
+}
+seeks_visit a number slice rest same eight VisitHere leads tells = seeks-here a number slice rest same leads tells
+
+-- ---- the visit of a node that is borrowed alone
 module _ (node : Node) (slice : ℕ) (rest : List ℕ) (same : slice_number rest ≡ slice) (held : IsHeldNode node slice) where
   pub held_may : MayVisitNode node (slice_number rest)
   held_may = may_visit held.arena held.number rest node held.names.named (seeks-may held.arena held.number slice rest same held.held)
@@ -115,20 +124,9 @@ module _ (node : Node) (slice : ℕ) (rest : List ℕ) (same : slice_number rest
     node_tells a number names =
         subst (λ (v : Visit). TellsVisit a number rest v) (sym value) (tells_node a number rest node names.named sound (names_may a number node (slice_number rest) names held_may))
 
--- no link leads further from eight bytes
-pub no_link : (node : Node) (slice : ℕ) (rest : List ℕ) (same : slice_number rest ≡ slice) (held : IsHeldNode node slice) → IsNode node → (top : NodeNo) → VisitBelow top ≡ node_visit rest node → length rest ≡ 8 → ⊥
-no_link node slice rest same held sound top value eight =
-    let leads = node_leads node slice rest same held sound (VisitBelow top) value held.arena held.number held.names in
-    let h = held.held in
-    let below = leads.leads h.now h.twins h.chart h.begun h.prefix h.index (subst (λ (s : ℕ). Holds h.chart h.begun held.number h.prefix s) (sym same) h.holds) in
-    let long : 8 < length rest = below.0 in
-    omega (arith, long, eight)
-
 -- the node to which a visit leads
-pub seeks-moves : (a : ArenaView) (number : ℕ) (rest : List ℕ) (to next : NodeNo) → TellsVisit a number rest (VisitTo to) → ◌≡◌ {A = Sought} (To to) (To next) → Moves (arena_seen a) number next.0
-seeks-moves a number rest to next tells same =
-    let is : to ≡ next = cc in
-    subst (λ (n : NodeNo). Moves (arena_seen a) number n.0) is tells
+pub seeks-moves : (a : ArenaView) (number : ℕ) (rest : List ℕ) (visit : Visit) (next : NodeNo) → TellsVisit a number rest visit → visit ≡ VisitTo next → Moves (arena_seen a) number next.0
+seeks-moves a number rest visit next tells same = subst (λ (v : Visit). TellsVisit a number rest v) same tells
 
 -- ---- the rows of a border are those of keys
 pub all_from : {X : Type 0} (P : X → Type 0) (xs : List X) → ((x : X) → Among x xs → P x) → All P xs

@@ -13,7 +13,7 @@ use Rattle.mt_chart.proofs.Entries.{among_cases}
 use Rattle.mt_chart.proofs.HeldNodes.{evolves_same}
 use Rattle.mt_tree.specs.Seen.{arena_seen}
 use Rattle.mt_tree.specs.Keeping.{KeepsTree}
-use Rattle.mt_steps.specs.World.{World, IsWorld, HeadsStand, IsLockedInterior, TwinsAreLocked, IsGone, RetiredAreGone, NotRetired, IsLocked, IsTaken, IsSame, NotAmong, BordersAge, Goes}
+use Rattle.mt_steps.specs.World.{World, IsWorld, HeadsStand, IsLockedInterior, TwinsAreLocked, IsGone, RetiredAreGone, NotRetired, IsLocked, IsTaken, IsSame, NotAmong, NodesAge, Goes}
 use Rattle.mt_steps.proofs.FrameLemmas.{is_among, taken_back}
 use Rattle.mt_steps.proofs.AliveLemmas.{alive_gone, alive_there}
 use Rattle.mt_steps.proofs.BorderLemmas.{keys_same, retired_kept}
@@ -33,7 +33,7 @@ retired_now retired node h = (All-pop (λ (r : Retired). r.node.0 ≢ node.node.
 -- The node of a number that the call owns changes, is gone and no longer locked, and is retired now. The call owns it no more.
 module _ (now : ℕ) (a mid : ArenaView) (w : World) (number : NodeNo) (rest : List ℕ) (Then : World → Type 0) (role : Role) (prefix : List ℕ) (low epoch : ℕ) (world : IsWorld a now w) (kept : Keeps now w.twins (arena_seen a) (arena_seen mid) w.chart w.chart) (same : mid.retired ≡ a.retired)
     (others : (other : ℕ) → other ≢ number.0 → node_at mid.nodes other ≡ node_at a.nodes other) (place : w.chart number.0 ≡ Some (spot role prefix low (gone epoch))) (apart : NotRetired a.retired number.0) (unlocked : IsLocked (node_at mid.nodes number.0) → ⊥)
-    (age : BordersAge a mid w w) (heads : HeadsStand mid w.closing w.chart) (twins : TwinsAreLocked mid w.chart w.twins) (keeps : KeepsTree mid (with_retired mid number now)) where
+    (age : NodesAge None a mid w w) (heads : HeadsStand mid w.closing w.chart) (twins : TwinsAreLocked mid w.chart w.twins) (keeps : KeepsTree mid (with_retired mid number now)) where
   abbrev after : ArenaView
   after = with_retired mid number now
 
@@ -89,7 +89,10 @@ module _ (now : ℕ) (a mid : ArenaView) (w : World) (number : NodeNo) (rest : L
         ]
       ];
       spots = λ number out apart. refl;
-      age = record { ages = age.ages; rights = age.rights; one = age.one };
+      age = record {
+        borders = record { ages = age.borders.ages; rights = age.borders.rights };
+        one = record { number = age.one.number; border = age.one.border; others = age.one.others };
+      };
       true = truth;
     },
     content,

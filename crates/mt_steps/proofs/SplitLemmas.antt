@@ -18,7 +18,7 @@ use Rattle.std.specs.Option.{option_and_then}
 use Rattle.mt_chart.specs.Steps.{SameContent}
 use Rattle.mt_chart.proofs.Entries.{among_cases}
 use Rattle.mt_tree.specs.Seen.{arena_seen}
-use Rattle.mt_tree.specs.Fields.{BorderAges}
+use Rattle.mt_tree.specs.Fields.{BorderChanges}
 use Rattle.mt_tree.specs.Keeping.{KeepsTree, KeepsUnknown, IsUnknown, IsOnIn}
 use Rattle.mt_tree.specs.BorderSteps.{LinksHalfAt}
 use Rattle.mt_steps.specs.World.{World, IsWorld, HeadsStand, FreeAreAlive, IsLocked, IsTaken, NotAmong, Goes}
@@ -123,7 +123,7 @@ alive_linked a n half b upper change chart next place named filled still half_lo
 -- call's number changes its node or its place. What is to be true of the call is asked of that world.
 pub goes_linked : (now : ℕ) (a : ArenaView) (w : World) (n half : ℕ) (b upper : BorderView) (prefix : List ℕ) (change : BorderView → BorderView) (owned : List ℕ) (Then : World → Type 0)
     → border_at a.nodes n ≡ Some b → border_at a.nodes half ≡ Some upper → LinksHalfAt a (with_border_changed a n change) n half
-    → IsOnIn w.chart n prefix → w.chart half ≡ None → Among n owned → Among half owned → b.version.locked ≡ true → (change b).version.locked ≡ true → upper.version.locked ≡ true → NotAmong n w.closing → BorderAges b (change b) → IsWorld a now w
+    → IsOnIn w.chart n prefix → w.chart half ≡ None → Among n owned → Among half owned → b.version.locked ≡ true → (change b).version.locked ≡ true → upper.version.locked ≡ true → NotAmong n w.closing → BorderChanges None b (change b) → IsWorld a now w
     → Then (record { twins = w.twins; closing = w.closing; chart = with_spot w.chart half (spot (at_level 0) prefix upper.low (on false)) })
     → Goes now a (with_border_changed a n change) w owned owned Then × SameContent (arena_seen a) (arena_seen (with_border_changed a n change))
 goes_linked now a w n half b upper prefix change owned Then named filled links stands unknown mine spare locked still half_locked opened ages world truth =

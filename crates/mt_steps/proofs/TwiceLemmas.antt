@@ -46,9 +46,15 @@ goes_then now a mid after w owned has owns Then one still between then = record 
   ];
   spots = λ number out apart. two.spots number (λ i. elim (between number i) [ inl j ↦ out j | inr j ↦ apart j ]) apart;
   age = record {
-    ages = λ number b then known was is. two.age.ages number b then known (ap (option_and_then border_of) (still number known) ∙ was) is;
-    rights = λ number b then known was is. two.age.rights number b then known (ap (option_and_then border_of) (still number known) ∙ was) is;
-    one = (two.age.one.0, λ other b then differ known was is. two.age.one.1 other b then differ known (ap (option_and_then border_of) (still other known) ∙ was) is);
+    borders = record {
+      ages = λ number b then known was is. two.age.borders.ages number b then known (ap (option_and_then border_of) (still number known) ∙ was) is;
+      rights = λ number b then known was is. two.age.borders.rights number b then known (ap (option_and_then border_of) (still number known) ∙ was) is;
+    };
+    one = record {
+      number = two.age.one.number;
+      border = λ b known was. two.age.one.border b known (ap (option_and_then border_of) (still two.age.one.number known) ∙ was);
+      others = λ other differ known. two.age.one.others other differ known ∙ still other known;
+    };
   };
   true = two.true;
 }

@@ -1,4 +1,5 @@
 -- What the contracts cite: the world and the law of a step first, then each kind of call.
+pub mod OneNode
 pub mod World
 pub mod Step
 pub mod Way

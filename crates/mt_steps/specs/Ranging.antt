@@ -31,8 +31,8 @@ use Rattle.mt_steps.specs.declared.progress.Progress.TheVariants.{Moved, Waits, 
 use Rattle.mt_steps.specs.declared.reader.Reader.TheVariants.{Begins}
 use Rattle.mt_steps.specs.declared.reader.Reading.TheVariants.{Restarts, Repeats, GoesOn, To as ReadTo, Finds}
 use Rattle.mt_steps.specs.declared.ranging.Range.{Range}
-use Rattle.mt_steps.specs.declared.ranging.Sought.{Sought}
-use Rattle.mt_steps.specs.declared.ranging.Sought.TheVariants.{Again, To, Here}
+use Rattle.mt_tree.specs.declared.visit.Visit.{Visit}
+use Rattle.mt_tree.specs.declared.visit.Visit.TheVariants.{Again as VisitAgain, To as VisitTo, Below as VisitBelow, Here as VisitHere}
 use Rattle.mt_steps.specs.Causes.{KeepsSlot}
 use Rattle.mt_steps.specs.Way.{start, Names}
 use Rattle.mt_steps.specs.Standing.{Lends}
@@ -80,15 +80,16 @@ pub record IsAtSlice (a : ArenaView) (number slice : ℕ) : Type 0 where
   pub alive : border.version.deleted ≡ false
   pub to_right : Below slice (border_seen border).right
 
-abbrev pub KnowsOfSlice : ArenaView → Chart → ℕ → ℕ → List ℕ → ℕ → Sought → Type 0
-KnowsOfSlice a chart begun number prefix slice Again = Unit {0}
-KnowsOfSlice a chart begun number prefix slice (To next) = Holds chart begun next.0 prefix slice
-KnowsOfSlice a chart begun number prefix slice Here = IsAtSlice a number slice
+abbrev pub KnowsOfSlice : ArenaView → Chart → ℕ → ℕ → List ℕ → ℕ → Visit → Type 0
+KnowsOfSlice a chart begun number prefix slice VisitAgain = Unit {0}
+KnowsOfSlice a chart begun number prefix slice (VisitTo next) = Holds chart begun next.0 prefix slice
+KnowsOfSlice a chart begun number prefix slice (VisitBelow top) = ⊥
+KnowsOfSlice a chart begun number prefix slice VisitHere = IsAtSlice a number slice
 
--- a call that holds the node for a slice knows this after the visit
-pub record Seeks (a : ArenaView) (number slice : ℕ) (sought : Sought) : Type 0 where
+-- a call that holds the node for a slice knows this after the visit; no link leads further from a slice alone
+pub record Seeks (a : ArenaView) (number slice : ℕ) (visit : Visit) : Type 0 where
   pub leads : (now : ℕ) (twins : List Twin) (chart : Chart) (begun : ℕ) (prefix : List ℕ) → IsIndexAt a now twins chart
-      → Holds chart begun number prefix slice → KnowsOfSlice a chart begun number prefix slice sought
+      → Holds chart begun number prefix slice → KnowsOfSlice a chart begun number prefix slice visit
 
 -- a scan with this cursor advances toward the border of its cursor's slice, which is of 64 bits
 pub record SeeksOn (a : ArenaView) (number next : ℕ) (c : CursorView) : Type 0 where

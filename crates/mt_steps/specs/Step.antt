@@ -23,7 +23,7 @@ use Rattle.mt_chart.specs.Steps.{SameContent}
 use Rattle.mt_tree.specs.Seen.{arena_seen, HasRow}
 use Rattle.mt_steps.specs.declared.progress.Progress.{Progress}
 use Rattle.mt_steps.specs.declared.progress.Progress.TheVariants.{Moved, Waits, Committed, Answered, Refused}
-use Rattle.mt_steps.specs.World.{World, IsWorld, Goes}
+use Rattle.mt_steps.specs.World.{World, IsWorld, GoesBy}
 
 -- what a call has: the numbers that it owns, for how many deltas it has reserved room, and the number of its commit;
 -- and if it has failed for lack of room in the log, from which number the log was held
@@ -185,10 +185,15 @@ abbrev pub MayMove : Request → ℕ → Progress → Type 0
 MayMove request moves Moved = IsTrue (is_get request) → moves < MAX_READS * MAX_NODES
 MayMove request moves _ = Unit {0}
 
+-- the number of the commit that a step is, if it is one
+abbrev pub commit_of : Progress → Option ℕ
+commit_of (Committed number) = Some number
+commit_of _ = None
+
 -- a step of a call, in a world
 pub record Stepped (C now moves : ℕ) (past : List Arena) (a after : ArenaView) (log left : LogView) (w : World)
     (request : Request) (held : Held) (p : Progress) (then : Held) (True : ℕ → World → Type 0) : Type 0 where
-  pub goes : Goes now a after w held.owns (left_with p then).owns (ThenTrue p moves True)
+  pub goes : GoesBy (commit_of p) now a after w held.owns (left_with p then).owns (ThenTrue p moves True)
   pub does : Does C past a after log left request held.committed p then.committed
   pub reserved : left.reserved + held.reserves ≡ log.reserved + (left_with p then).reserves
   pub bounds : bounds left ≡ bounds log

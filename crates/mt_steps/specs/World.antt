@@ -20,6 +20,7 @@ use Rattle.mt_tree.specs.Fields.{BorderAges}
 use Rattle.mt_tree.specs.Keeping.{IsIndexAt}
 use Rattle.mt_tree.specs.InteriorSteps.{IsInLayer}
 use Rattle.mt_tree.specs.Descent.{is_marked}
+use Rattle.mt_steps.specs.OneNode.{ChangesOneNode}
 
 -- what the proofs know besides the arena: the place of each node, which interiors are being split, and which borders
 -- are the roots of layers that are being taken out
@@ -159,21 +160,26 @@ abbrev pub GoneSince : ℕ → World → List ℕ → Type 0
 GoneSince begun w numbers = (number : ℕ) → Among number numbers → (below : ℕ) (prefix : List ℕ) (low epoch : ℕ)
     → w.chart number ≡ Some (spot (at_level (suc below)) prefix low (gone epoch)) → begun ≤ epoch
 
--- each border that the chart knows has aged; its right link is as it was, unless it is on; and each but one is as it was
+-- each border that the chart knows has aged; its right link is as it was, unless it is on
 pub record BordersAge (a after : ArenaView) (w next : World) : Type 0 where
   pub ages : (number : ℕ) (b then : BorderView) → IsSome (w.chart number) → border_at a.nodes number ≡ Some b
       → border_at after.nodes number ≡ Some then → BorderAges b then
   pub rights : (number : ℕ) (b then : BorderView) → IsSome (w.chart number) → border_at a.nodes number ≡ Some b
       → border_at after.nodes number ≡ Some then → IsOn next.chart number ⊎ (then.right ≡ b.right)
-  pub one : (number : ℕ) × ((other : ℕ) (b then : BorderView) → other ≢ number → IsSome (w.chart other)
-      → border_at a.nodes other ≡ Some b → border_at after.nodes other ≡ Some then → then ≡ b)
 
--- what a step of one call leaves, which owned these numbers and then owns those: there is a next world in which the
--- tree is an index; all that calls rely on stays; each number that is taken by another call is as it was, and is not
--- this call's; and what is then to be true of this call is. And what is then taken is this call's, or was taken and was
--- not this call's: no call leaves a lock or a spare behind. The chart is changed at numbers of this call alone. Each
--- border that the chart knows ages.
-pub record Goes (now : ℕ) (a after : ArenaView) (w : World) (owned owns : List ℕ) (Then : World → Type 0) : Type 0 where
+-- and of what the chart knows at most one node changes, in a step that may be the commit of this number
+pub record NodesAge (commit : Option ℕ) (a after : ArenaView) (w next : World) : Type 0 where
+  pub borders : BordersAge a after w next
+  pub one : ChangesOneNode commit w.chart a after
+
+-- what a step of one call leaves, which owned these numbers and then owns those, and which may be the commit of this
+-- number: there is a next world in which the tree is an index; all that calls rely on stays; each number that is taken
+-- by another call is as it was, and is not this call's; and what is then to be true of this call is. And what is then
+-- taken is this call's, or was taken and was not this call's: no call leaves a lock or a spare after it. The chart is
+-- changed at numbers of this call alone. Each border that the chart knows ages, and at most one node that it knows
+-- changes.
+pub record GoesBy (commit : Option ℕ) (now : ℕ) (a after : ArenaView) (w : World) (owned owns : List ℕ)
+    (Then : World → Type 0) : Type 0 where
   pub next : World
   pub world : IsWorld after now next
   pub evolves : (begun : ℕ) → begun ≤ now → Evolves begun w.chart next.chart
@@ -182,5 +188,9 @@ pub record Goes (now : ℕ) (a after : ArenaView) (w : World) (owned owns : List
   pub takes : (number : ℕ) → IsTaken after next number → Among number owns
       ⊎ (IsTaken a w number × NotAmong number owned)
   pub spots : (number : ℕ) → NotAmong number owned → NotAmong number owns → next.chart number ≡ w.chart number
-  pub age : BordersAge a after w next
+  pub age : NodesAge commit a after w next
   pub true : Then next
+
+-- the same of a step that is no commit
+abbrev pub Goes : ℕ → ArenaView → ArenaView → World → List ℕ → List ℕ → (World → Type 0) → Type 0
+Goes = GoesBy None

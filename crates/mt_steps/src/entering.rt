@@ -1,4 +1,4 @@
-//! A border that a call has locked, read one field a step: its right link, its order, the key of each live slot in order,
+//! A border that a call has locked, read one field in each step: its right link, its order, the key of each live slot in order,
 //! and the value of the slot that has the slice and class of the key sought.
 
 ghost use Rattle.std.specs.Prelude.{◌≡◌, ◌+◌, ◌*◌, ◌≤◌, nat_lt, IfOk, IsSome};
@@ -6,6 +6,7 @@ ghost use Rattle.mt_arena.specs.Node.{border_at};
 ghost use Rattle.mt_arena.specs.Parts.{IsField};
 ghost use Rattle.mt_steps.specs.Entering.{part_key, match_of, sought_at, sought_then, noted, absent_there, keys_read, next_key, bounded, value_there, wants, IsEntering, WantsRight, WantsOrder, WantsKey, WantsValue, at_order, at_key, at_value, EnterReads, EnterLeads};
 
+use crate::finding::is_before;
 use crate::listing::{SlotKey, key_read};
 use mt_arena::{Field, Part};
 use mt_border::{KeyPart, Mark, RightLink, Suffix, ValuePart};
@@ -166,15 +167,6 @@ fn noted(alloc: Global, outline: Outline, part: &KeyPart<'_>) -> Result<Outline,
         order,
         keys: Items::from_vec(keys),
     })
-}
-
-// Whether a slice and the number of a class are before others.
-fn is_before(slice: u64, number: u8, other_slice: u64, other: u8) -> bool
-    requires own { number ≤ 9 }
-    requires other { other ≤ 9 }
-    ensures { result ≡ nat_lt (slice * 10 + number) (other_slice * 10 + other) }
-{
-    slice < other_slice || slice == other_slice && number < other
 }
 
 // What a key that has the slice and class sought is to the key sought, of which this follows the slice. No key is

@@ -1,6 +1,6 @@
 //! A get at a border: what it finds among the keys, and what the value of a slot leads to.
 
-ghost use Rattle.std.specs.Prelude.{◌≡◌, ◌⊎◌, IfOk, IsErr, IsSome};
+ghost use Rattle.std.specs.Prelude.{◌≡◌, ◌⊎◌, ◌+◌, ◌*◌, ◌≤◌, nat_lt, IfOk, IsErr, IsSome};
 ghost use Rattle.mt_slice.specs.Place.{slice_number};
 ghost use Rattle.mt_border.specs.declared.field.Mark.TheVariants.{Unstable};
 ghost use Rattle.mt_arena.specs.Node.{node_at};
@@ -78,8 +78,9 @@ fn found(notes: Notes<()>, mark: Mark, is_same: bool) -> FindReading
 }
 
 // Whether a slice and the number of a class are before others.
-fn is_before(slice: u64, number: u8, other_slice: u64, other: u8) -> bool
-    ensures { result ≡ is_before slice number other_slice other }
+pub(crate) fn is_before(slice: u64, number: u8, other_slice: u64, other: u8) -> bool
+    ensures value { result ≡ is_before slice number other_slice other }
+    ensures spelled { number ≤ 9 → other ≤ 9 → result ≡ nat_lt (slice * 10 + number) (other_slice * 10 + other) }
 {
     slice < other_slice || slice == other_slice && number < other
 }

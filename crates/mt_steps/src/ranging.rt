@@ -15,7 +15,7 @@ ghost use Rattle.mt_steps.specs.Way.{Names};
 ghost use Rattle.mt_steps.specs.Step.{StepLaw, MayStep, nothing};
 ghost use Rattle.mt_steps.specs.Causes.{IsMarkedAt, ReadFails};
 ghost use Rattle.mt_steps.specs.Reader.{FindsAt, FailsAt};
-ghost use Rattle.mt_steps.specs.Ranging.{range_request, RangeIsTrue, RangeScans, RangeDoes, ListHasKeys, RangeReads, RangeWaits, IsHeldFor, IsHeldNode, Seeks};
+ghost use Rattle.mt_steps.specs.Ranging.{range_request, RangeIsTrue, RangeScans, RangeDoes, ListHasKeys, RangeReads, RangeWaits, IsHeldFor, Seeks};
 
 use crate::listing::{ListReading, Listed, Listing, read};
 use crate::progress::Progress;
@@ -31,17 +31,6 @@ use mt_types::row::ColumnNumbers;
 use std::alloc::Global;
 use std::mem;
 
-/// What a visit on the way to a slice leads to.
-#[derive(Clone, Copy)]
-pub enum Sought {
-    /// The node is marked deleted.
-    Again,
-    /// To this node of the same layer.
-    To(NodeNo),
-    /// It is at the border in whose interval the slice is.
-    Here,
-}
-
 /// A range of the pairs from a key on, up to a limit.
 #[derive(Drop)]
 pub struct Range {
@@ -54,31 +43,14 @@ pub struct Range {
     pub listing: Listing,
 }
 
-// Visits a node on the way to a slice of its layer, and is lent no other. No link leads further from a slice alone.
-fn seek_node(node: &Node, slice: u64) -> Sought
-    requires { IsHeldNode node.now slice }
-    ensures seeks { (a : ArenaView) (number : ℕ) → Names a number node.now → Seeks a number slice result }
-    ensures again { result ≡ Sought.Again → is_marked node.now ≡ true }
-    ensures here { result ≡ Sought.Here → IsSome (border_of node.now) }
-    ensures moves { (a : ArenaView) (number : ℕ) (next : NodeNo) → Names a number node.now → result ≡ Sought.To next
-        → Moves (arena_seen a) number next.0 }
-{
-    match visit_node(node, &slice.to_be_bytes()) {
-        Visit::Again => Sought::Again,
-        Visit::To(next) => Sought::To(next),
-        Visit::Below(_) => unreachable!(),
-        Visit::Here => Sought::Here,
-    }
-}
-
-/// Visits the node of a number on the way to a slice of its layer.
-pub fn seek(tree: &Tree, number: NodeNo, slice: u64) -> Sought
+/// Visits the node of a number on the way to a slice of its layer. No link leads further from a slice alone.
+pub fn seek(tree: &Tree, number: NodeNo, slice: u64) -> Visit
     requires { IsHeldFor tree.now number.0 slice }
     ensures seeks { Seeks tree.now number.0 slice result }
-    ensures again { result ≡ Sought.Again → IsMarkedAt tree.now number.0 }
-    ensures moves { (next : NodeNo) → result ≡ Sought.To next → Moves (arena_seen tree.now) number.0 next.0 }
+    ensures again { result ≡ Visit.Again → IsMarkedAt tree.now number.0 }
+    ensures moves { (next : NodeNo) → result ≡ Visit.To next → Moves (arena_seen tree.now) number.0 next.0 }
 {
-    seek_node(tree.node(number), slice)
+    visit_node(tree.node(number), &slice.to_be_bytes())
 }
 
 impl Range {

@@ -78,16 +78,7 @@ impl Way {
         ensures visits { (a : ArenaView) → Names a self.now.node.0 node.now → Visits a key.now self.now result }
         ensures bytes { AreBytes key.now }
     {
-        let layer = self.layer;
-        match visit_node(node, rest_of(key, layer)) {
-            Visit::Again => Went::Again,
-            Visit::To(next) => Went::To(Way { node: next, layer }),
-            Visit::Below(top) => Went::To(Way {
-                node: top,
-                layer: layer + 1,
-            }),
-            Visit::Here => Went::Here,
-        }
+        led(*self, visit_node(node, rest_of(key, self.layer)))
     }
 
     /// Visits the node at which the call is.

@@ -1,7 +1,6 @@
--- What contracts see of readers and writers that count their calls, or that are made to fail.
+-- What contracts see of readers that count their calls.
 use Rattle.std.specs.Prelude.{ℕ, Bool}
 use Rattle.mt_streams.specs.declared.counted.Counted.{Counted}
-use Rattle.mt_streams.specs.declared.faulty.Faulty.{Faulty}
 
 -- the reader in it
 abbrev pub counted_reader : {R : Type 0} → Counted R → R
@@ -14,7 +13,3 @@ calls_left c = c.left
 -- whether its last read failed: its reader's own call, or one past the most
 abbrev pub has_failed : {R : Type 0} → Counted R → Bool
 has_failed c = c.failed
-
--- what is in a reader or writer that is made to fail
-abbrev pub faulty_inner : {T : Type 0} → Faulty T → T
-faulty_inner f = f.inner

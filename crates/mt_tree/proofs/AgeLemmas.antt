@@ -31,7 +31,7 @@ use Rattle.mt_chart.specs.Tree.{Among, first, later, Below, no_right, before_rig
 use Rattle.mt_chart.proofs.Basics.{same_number}
 use Rattle.mt_chart.specs.Noted.{SlotSeen, FieldsSeen, AreSlots, IsSameKey, KeepsSlot, StaysQuiet, Ages}
 use Rattle.mt_tree.specs.Seen.{entry_seen, entries_seen, right_seen}
-use Rattle.mt_tree.specs.Fields.{slot_seen, fields_seen, HasSlots, BorderAges}
+use Rattle.mt_tree.specs.Fields.{slot_seen, fields_seen, HasSlots, BorderChanges}
 use Rattle.mt_tree.proofs.OneFieldLemmas.{one_version, one_right, one_same, one_keyed, one_filled, one_shown, one_hidden, one_half_linked, one_unstable, one_written, one_value, one_link}
 
 -- ---- what is live stands in the border
@@ -276,52 +276,52 @@ module _ (b : BorderView) (h : IsBorder b) (place : ℕ) (within : place < lengt
       ages_changed (with_link head) (with_link_at b place head).live (key_with_link head (slot_at b n).entry.slice (slot_at b n).entry.content (subst (λ (o : Option (List ℕ)). IsSome o) suffix_read some))
 
 -- ---- and so the border ages
-pub ages_same : (b : BorderView) → BorderAges b b
-ages_same b = record { low = refl; one = one_same b; fields = fields_same (fields_seen b); slots = λ seen. seen }
+pub ages_same : {commit : Option ℕ} (b : BorderView) → BorderChanges commit b b
+ages_same b = record { ages = record { low = refl; fields = fields_same (fields_seen b); slots = λ seen. seen }; one = one_same b }
 
-pub ages_locked : (b : BorderView) → BorderAges b (with_locked b)
-ages_locked b = record { low = refl; one = one_version b _; fields = fields_locked b; slots = λ seen. seen }
+pub ages_locked : {commit : Option ℕ} (b : BorderView) → BorderChanges commit b (with_locked b)
+ages_locked b = record { ages = record { low = refl; fields = fields_locked b; slots = λ seen. seen }; one = one_version b _ }
 
-pub ages_unlocked : (b : BorderView) → BorderAges b (with_unlocked b)
-ages_unlocked b = record { low = refl; one = one_version b _; fields = fields_unlocked b; slots = λ seen. seen }
+pub ages_unlocked : {commit : Option ℕ} (b : BorderView) → BorderChanges commit b (with_unlocked b)
+ages_unlocked b = record { ages = record { low = refl; fields = fields_unlocked b; slots = λ seen. seen }; one = one_version b _ }
 
-pub ages_deleted : (b : BorderView) → BorderAges b (with_deleted b)
-ages_deleted b = record { low = refl; one = one_version b _; fields = fields_deleted b; slots = λ seen. seen }
+pub ages_deleted : {commit : Option ℕ} (b : BorderView) → BorderChanges commit b (with_deleted b)
+ages_deleted b = record { ages = record { low = refl; fields = fields_deleted b; slots = λ seen. seen }; one = one_version b _ }
 
-pub ages_right : (b : BorderView) (right : Option RightLink) → NotLower b.right right → BorderAges b (with_right b right)
-ages_right b right up = record { low = refl; one = one_right b right; fields = fields_right b right up; slots = λ seen. seen }
+pub ages_right : {commit : Option ℕ} (b : BorderView) (right : Option RightLink) → NotLower b.right right → BorderChanges commit b (with_right b right)
+ages_right b right up = record { ages = record { low = refl; fields = fields_right b right up; slots = λ seen. seen }; one = one_right b right }
 
-pub ages_inserting : (b : BorderView) → BorderAges b (with_inserting b)
-ages_inserting b = record { low = refl; one = one_version b (inserting_version (first_held b.unused) b.version); fields = fields_inserting b; slots = λ seen. seen }
+pub ages_inserting : {commit : Option ℕ} (b : BorderView) → BorderChanges commit b (with_inserting b)
+ages_inserting b = record { ages = record { low = refl; fields = fields_inserting b; slots = λ seen. seen }; one = one_version b (inserting_version (first_held b.unused) b.version) }
 
-pub ages_keyed : (b : BorderView) (key : SlotKey) → b.unwritten ≡ Nothing → BorderAges b (with_key b key)
-ages_keyed b key written = record { low = refl; one = one_keyed b key written; fields = fields_same (fields_seen b); slots = λ seen. seen }
+pub ages_keyed : {commit : Option ℕ} (b : BorderView) (key : SlotKey) → b.unwritten ≡ Nothing → BorderChanges commit b (with_key b key)
+ages_keyed b key written = record { ages = record { low = refl; fields = fields_same (fields_seen b); slots = λ seen. seen }; one = one_keyed b key written }
 
-pub ages_filled : (b : BorderView) → IsBorder b → (key : SlotKey) → b.unwritten ≡ Value key → (entry : Entry) → entry_key entry ≡ key_seen key → BorderAges b (with_filled b entry)
+pub ages_filled : {commit : Option ℕ} (b : BorderView) → IsBorder b → (key : SlotKey) → b.unwritten ≡ Value key → (entry : Entry) → entry_key entry ≡ key_seen key → BorderChanges commit b (with_filled b entry)
 ages_filled b h key is entry same =
     let await = awaits b key is h in
-    record { low = refl; one = one_filled b h await.room key is entry same; fields = fields_filled b h await.room key await entry; slots = λ seen. seen_filled b.live b.unused b.slots b.order seen entry await.room }
+    record { ages = record { low = refl; fields = fields_filled b h await.room key await entry; slots = λ seen. seen_filled b.live b.unused b.slots b.order seen entry await.room }; one = one_filled b h await.room key is entry same }
 
-pub ages_shown : (b : BorderView) → IsBorder b → length b.live < 15 → (place version : ℕ) → first_held b.unused ≡ false → b.unwritten ≡ Nothing → BorderAges b (with_shown b place version)
-ages_shown b h room place version fresh written = record { low = refl; one = one_shown b h room written fresh place version; fields = fields_shown b h room place version fresh; slots = λ seen. seen_shown b.live b.unused b.slots b.order place version seen room }
+pub ages_shown : (b : BorderView) → IsBorder b → length b.live < 15 → (place version : ℕ) → first_held b.unused ≡ false → b.unwritten ≡ Nothing → BorderChanges (Some version) b (with_shown b place version)
+ages_shown b h room place version fresh written = record { ages = record { low = refl; fields = fields_shown b h room place version fresh; slots = λ seen. seen_shown b.live b.unused b.slots b.order place version seen room }; one = one_shown b h room written fresh place version }
 
-pub ages_hidden : (b : BorderView) (place : ℕ) → b.unwritten ≡ Nothing → BorderAges b (with_hidden b place)
-ages_hidden b place written = record { low = refl; one = one_hidden b place written; fields = fields_hidden b place; slots = λ seen. seen_hidden b.live b.unused b.slots b.order seen place }
+pub ages_hidden : {commit : Option ℕ} (b : BorderView) (place : ℕ) → b.unwritten ≡ Nothing → BorderChanges commit b (with_hidden b place)
+ages_hidden b place written = record { ages = record { low = refl; fields = fields_hidden b place; slots = λ seen. seen_hidden b.live b.unused b.slots b.order seen place }; one = one_hidden b place written }
 
-pub ages_splitting : (b : BorderView) → BorderAges b (with_splitting b)
-ages_splitting b = record { low = refl; one = one_version b _; fields = fields_splitting b; slots = λ seen. seen }
+pub ages_splitting : {commit : Option ℕ} (b : BorderView) → BorderChanges commit b (with_splitting b)
+ages_splitting b = record { ages = record { low = refl; fields = fields_splitting b; slots = λ seen. seen }; one = one_version b _ }
 
-pub ages_half_linked : (b : BorderView) (keep : ℕ) (right : RightLink) → b.version.splitting ≡ true → b.unwritten ≡ Nothing → BorderAges b (with_half_linked b keep right)
-ages_half_linked b keep right flagged written = record { low = refl; one = one_half_linked b keep right written; fields = fields_half_linked b keep right flagged; slots = λ seen. seen_split b.live b.unused b.slots b.order seen keep }
+pub ages_half_linked : {commit : Option ℕ} (b : BorderView) (keep : ℕ) (right : RightLink) → b.version.splitting ≡ true → b.unwritten ≡ Nothing → BorderChanges commit b (with_half_linked b keep right)
+ages_half_linked b keep right flagged written = record { ages = record { low = refl; fields = fields_half_linked b keep right flagged; slots = λ seen. seen_split b.live b.unused b.slots b.order seen keep }; one = one_half_linked b keep right written }
 
-pub ages_unstable : (b : BorderView) (place : ℕ) → b.unwritten ≡ Nothing → BorderAges b (with_unstable b place)
-ages_unstable b place written = record { low = refl; one = one_unstable b place written; fields = fields_same (fields_seen b); slots = λ seen. seen }
+pub ages_unstable : {commit : Option ℕ} (b : BorderView) (place : ℕ) → b.unwritten ≡ Nothing → BorderChanges commit b (with_unstable b place)
+ages_unstable b place written = record { ages = record { low = refl; fields = fields_same (fields_seen b); slots = λ seen. seen }; one = one_unstable b place written }
 
-pub ages_written : (b : BorderView) → BorderAges b (with_written b)
-ages_written b = record { low = refl; one = one_written b; fields = fields_same (fields_seen b); slots = λ seen. seen }
+pub ages_written : {commit : Option ℕ} (b : BorderView) → BorderChanges commit b (with_written b)
+ages_written b = record { ages = record { low = refl; fields = fields_same (fields_seen b); slots = λ seen. seen }; one = one_written b }
 
-pub ages_value : (b : BorderView) → IsBorder b → (place : ℕ) → place < length b.live → (row : Row) → BorderAges b (with_value b place row)
-ages_value b h place within row = record { low = refl; one = one_value b h place within row; fields = fields_value b h place within row; slots = λ seen. seen_changed b.live b.unused b.slots b.order seen place (with_row row) within }
+pub ages_value : {commit : Option ℕ} (b : BorderView) → IsBorder b → (place : ℕ) → place < length b.live → (row : Row) → BorderChanges commit b (with_value b place row)
+ages_value b h place within row = record { ages = record { low = refl; fields = fields_value b h place within row; slots = λ seen. seen_changed b.live b.unused b.slots b.order seen place (with_row row) within }; one = one_value b h place within row }
 
-pub ages_link : (b : BorderView) → IsBorder b → (place : ℕ) → place < length b.live → (head : NodeNo) → IsSome (suffix_at place b.live) → b.unwritten ≡ LinkAt (number_at place b.order) → BorderAges b (with_link_at b place head)
-ages_link b h place within head some unstable = record { low = refl; one = one_link b h place within head (suffix_read b h place within) some unstable; fields = fields_link b h place within head some; slots = λ seen. seen_changed b.live b.unused b.slots b.order seen place (with_link head) within }
+pub ages_link : {commit : Option ℕ} (b : BorderView) → IsBorder b → (place : ℕ) → place < length b.live → (head : NodeNo) → IsSome (suffix_at place b.live) → b.unwritten ≡ LinkAt (number_at place b.order) → BorderChanges commit b (with_link_at b place head)
+ages_link b h place within head some unstable = record { ages = record { low = refl; fields = fields_link b h place within head some; slots = λ seen. seen_changed b.live b.unused b.slots b.order seen place (with_link head) within }; one = one_link b h place within head (suffix_read b h place within) some unstable }

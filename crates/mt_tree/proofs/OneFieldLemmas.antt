@@ -1,8 +1,11 @@
 -- Each change of a border changes at most one field of it.
-use Rattle.std.proofs.Common.{ℕ, ◌≡◌, ◌≢◌, ◌<◌, inl, inr, List, [], length, Option, IsSome, Bool, true, false, if◌then◌else◌, nat_eq, unwrap_or, refl, ap, sym, subst, ◌∙◌, arith}
+use Rattle.std.proofs.Common.{ℕ, ◌≡◌, ◌≢◌, ◌<◌, inl, inr, List, [], ◌++◌, ◌∷◌, length, take, drop, Option, Some, IsSome, Bool, true, false, ◌||◌, if◌then◌else◌, nat_eq, slice_index, unwrap_or, refl, ap, sym, subst, ◌∙◌, arith}
+use Rattle.std.specs.List.{list_any}
 use Rattle.std.proofs.lemmas.Bool.Decides.{eqb_tells}
+use Rattle.std.proofs.lemmas.List.Folds.{list_any-append}
 use Rattle.mt_types.specs.declared.row.Row.{Row}
 use Rattle.mt_types.specs.declared.numbers.NodeNo.{NodeNo}
+use Rattle.mt_word.specs.Slots.{Slots, with_first_unused_at}
 use Rattle.mt_word.specs.Version.{VersionView}
 use Rattle.mt_border.specs.Entry.{content_with, entry_with, content_with_row, content_at_version, entry_suffix, with_row, with_link}
 use Rattle.mt_border.specs.Table.{number_at, next_number, with_entry, filled, shown}
@@ -58,20 +61,21 @@ order_read : (b : BorderView) (u : Unwritten) → b.unwritten ≡ u → order_sh
 order_read b u is = ap (λ (v : Unwritten). order_in v b.order) is
 
 -- ---- THE VERSION, or the right link
-pub one_version : (b : BorderView) (version : VersionView) → ChangesOneField b (record b { version = version })
-one_version b version = inl (Version, record { version = λ ne. absurd (ne refl); right = λ ne. refl; order = λ ne. refl; keys = λ k ne. refl; values = λ k ne. refl })
+pub one_version : {commit : Option ℕ} (b : BorderView) (version : VersionView) → ChangesOneField commit b (record b { version = version })
+one_version b version = inl (Version, record { layer = refl; version = λ ne. absurd (ne refl); right = λ ne. refl; order = λ ne. refl; keys = λ k ne. refl; values = λ k ne. refl })
 
-pub one_right : (b : BorderView) (right : Option RightLink) → ChangesOneField b (with_right b right)
-one_right b right = inl (Right, record { version = λ ne. refl; right = λ ne. absurd (ne refl); order = λ ne. refl; keys = λ k ne. refl; values = λ k ne. refl })
+pub one_right : {commit : Option ℕ} (b : BorderView) (right : Option RightLink) → ChangesOneField commit b (with_right b right)
+one_right b right = inl (Right, record { layer = refl; version = λ ne. refl; right = λ ne. absurd (ne refl); order = λ ne. refl; keys = λ k ne. refl; values = λ k ne. refl })
 
-pub one_same : (b : BorderView) → ChangesOneField b b
+pub one_same : {commit : Option ℕ} (b : BorderView) → ChangesOneField commit b b
 one_same b = one_version b b.version
 
 -- THE RIGHT LINK of a border whose upper entries move to the right: others read the old order still
-pub one_half_linked : (b : BorderView) (keep : ℕ) (right : RightLink) → b.unwritten ≡ Nothing → ChangesOneField b (with_half_linked b keep right)
+pub one_half_linked : {commit : Option ℕ} (b : BorderView) (keep : ℕ) (right : RightLink) → b.unwritten ≡ Nothing → ChangesOneField commit b (with_half_linked b keep right)
 one_half_linked b keep right written = inl (
   Right,
   record {
+    layer = refl;
     version = λ ne. refl;
     right = λ ne. absurd (ne refl);
     order = λ ne. sym (order_read b Nothing written);
@@ -81,10 +85,11 @@ one_half_linked b keep right written = inl (
 )
 
 -- ---- THE KEY of the first unused slot, or the mark of one
-one_key : (b new : BorderView) (n : ℕ) → new.version ≡ b.version → new.right ≡ b.right → order_shown new ≡ order_shown b → ((k : ℕ) → k ≢ n → key_at new k ≡ key_at b k) → ((k : ℕ) → slot_at new k ≡ slot_at b k) → ChangesOneField b new
-one_key b new n version right order keys slots = inl (
+one_key : {commit : Option ℕ} (b new : BorderView) (n : ℕ) → new.layer ≡ b.layer → new.version ≡ b.version → new.right ≡ b.right → order_shown new ≡ order_shown b → ((k : ℕ) → k ≢ n → key_at new k ≡ key_at b k) → ((k : ℕ) → slot_at new k ≡ slot_at b k) → ChangesOneField commit b new
+one_key b new n layer version right order keys slots = inl (
   Key n,
   record {
+    layer = layer;
     version = λ ne. version;
     right = λ ne. right;
     order = λ ne. order;
@@ -93,31 +98,32 @@ one_key b new n version right order keys slots = inl (
   },
 )
 
-pub one_keyed : (b : BorderView) (key : SlotKey) → b.unwritten ≡ Nothing → ChangesOneField b (with_key b key)
+pub one_keyed : {commit : Option ℕ} (b : BorderView) (key : SlotKey) → b.unwritten ≡ Nothing → ChangesOneField commit b (with_key b key)
 one_keyed b key written =
-    one_key b (with_key b key) (next_number b.order) refl refl (sym (order_read b Nothing written))
+    one_key b (with_key b key) (next_number b.order) refl refl refl (sym (order_read b Nothing written))
     (λ k differ. picks k (next_number b.order) differ (key_seen key) (own_at b k) ∙ sym (key_read b Nothing written k))
     (λ k. refl)
 
-pub one_unstable : (b : BorderView) (place : ℕ) → b.unwritten ≡ Nothing → ChangesOneField b (with_unstable b place)
+pub one_unstable : {commit : Option ℕ} (b : BorderView) (place : ℕ) → b.unwritten ≡ Nothing → ChangesOneField commit b (with_unstable b place)
 one_unstable b place written =
-    one_key b (with_unstable b place) (number_at place b.order) refl refl (sym (order_read b Nothing written))
+    one_key b (with_unstable b place) (number_at place b.order) refl refl refl (sym (order_read b Nothing written))
     (λ k differ. picks k (number_at place b.order) differ (unstable (own_at b k)) (own_at b k) ∙ sym (key_read b Nothing written k))
     (λ k. refl)
 
 -- ---- what was unwritten IS WRITTEN
-pub one_written : (b : BorderView) → ChangesOneField b (with_written b)
-one_written b = left b.unwritten refl
+pub one_written : {commit : Option ℕ} (b : BorderView) → ChangesOneField commit b (with_written b)
+one_written {commit = commit} b = left b.unwritten refl
   where
-    left : (u : Unwritten) → b.unwritten ≡ u → ChangesOneField b (with_written b)
-    left Nothing is = one_key b (with_written b) 0 refl refl (sym (order_read b Nothing is)) (λ k differ. sym (key_read b Nothing is k)) (λ k. refl)
+    left : (u : Unwritten) → b.unwritten ≡ u → ChangesOneField commit b (with_written b)
+    left Nothing is = one_key b (with_written b) 0 refl refl refl (sym (order_read b Nothing is)) (λ k differ. sym (key_read b Nothing is k)) (λ k. refl)
     left (Value key) is =
-        one_key b (with_written b) (next_number b.order) refl refl (sym (order_read b (Value key) is))
+        one_key b (with_written b) (next_number b.order) refl refl refl (sym (order_read b (Value key) is))
         (λ k differ. sym (key_read b (Value key) is k ∙ picks k (next_number b.order) differ (key_seen key) (own_at b k)))
         (λ k. refl)
     left (Order shows) is = inl (
       OrderField,
       record {
+        layer = refl;
         version = λ ne. refl;
         right = λ ne. refl;
         order = λ ne. absurd (ne refl);
@@ -126,19 +132,20 @@ one_written b = left b.unwritten refl
       },
     )
     left (LinkAt n) is =
-        one_key b (with_written b) n refl refl (sym (order_read b (LinkAt n) is))
+        one_key b (with_written b) n refl refl refl (sym (order_read b (LinkAt n) is))
         (λ k differ. sym (key_read b (LinkAt n) is k ∙ picks k n differ (unstable (own_at b k)) (own_at b k)))
         (λ k. refl)
     left (MarkAt n suffix) is =
-        one_key b (with_written b) n refl refl (sym (order_read b (MarkAt n suffix) is))
+        one_key b (with_written b) n refl refl refl (sym (order_read b (MarkAt n suffix) is))
         (λ k differ. sym (key_read b (MarkAt n suffix) is k ∙ picks k n differ (unstable_with (own_at b k).slice suffix) (own_at b k)))
         (λ k. refl)
 
 -- ---- THE ORDER, when a slot is hidden
-pub one_hidden : (b : BorderView) (place : ℕ) → b.unwritten ≡ Nothing → ChangesOneField b (with_hidden b place)
+pub one_hidden : {commit : Option ℕ} (b : BorderView) (place : ℕ) → b.unwritten ≡ Nothing → ChangesOneField commit b (with_hidden b place)
 one_hidden b place written = inl (
   OrderField,
   record {
+    layer = refl;
     version = λ ne. refl;
     right = λ ne. refl;
     order = λ ne. absurd (ne refl);
@@ -172,6 +179,21 @@ key_with_link slice (Short bytes row) some = absurd (cc)
 key_with_link slice (Long suffix row) some = refl
 key_with_link slice (Link head) some = absurd (cc)
 
+-- ---- the first unused slot is live once it is shown
+true_within : (before after : Bool) → (before || (true || after)) ≡ true
+true_within true after = refl
+true_within false after = refl
+
+next_is_live : (s : Slots) (place : ℕ) → 0 < length s.unused → list_any (nat_eq (next_number s)) (with_first_unused_at s place).live ≡ true
+next_is_live s place some = go s.unused some
+  where
+    go : (unused : List ℕ) → 0 < length unused → list_any (nat_eq (slice_index unused 0)) (take place s.live ++ (take 1 unused ++ drop place s.live)) ≡ true
+    go [] none = absurd (omega (arith, none))
+    go (n ∷ unused) some =
+        let p : ℕ → Bool = nat_eq n in
+        list_any-append p (take place s.live) (n ∷ drop place s.live)
+        ∙ (ap (λ (x : Bool). list_any p (take place s.live) || (x || list_any p (drop place s.live))) (itself n) ∙ true_within (list_any p (take place s.live)) (list_any p (drop place s.live)))
+
 -- ---- THE VALUE of the first unused slot
 module _ (b : BorderView) (h : IsBorder b) (room : length b.live < 15) where
   abbrev next : ℕ
@@ -180,10 +202,11 @@ module _ (b : BorderView) (h : IsBorder b) (room : length b.live < 15) where
   next_within : next < length b.slots
   next_within = let below = next_below b.order h.seen.table.arranged (unused_there b.live b.unused b.slots b.order h.seen room) in omega (arith, below, h.seen.table.fifteen)
 
-  pub one_filled : (key : SlotKey) → b.unwritten ≡ Value key → (entry : Entry) → entry_key entry ≡ key_seen key → ChangesOneField b (with_filled b entry)
+  pub one_filled : {commit : Option ℕ} (key : SlotKey) → b.unwritten ≡ Value key → (entry : Entry) → entry_key entry ≡ key_seen key → ChangesOneField commit b (with_filled b entry)
   one_filled key is entry same = inl (
     ValueField next,
     record {
+      layer = refl;
       version = λ ne. refl;
       right = λ ne. refl;
       order = λ ne. sym (order_read b (Value key) is);
@@ -197,17 +220,22 @@ module _ (b : BorderView) (h : IsBorder b) (room : length b.live < 15) where
   )
 
   -- THE ORDER, when that slot is shown, whose row is stamped
-  pub one_shown : b.unwritten ≡ Nothing → first_held b.unused ≡ false → (place version : ℕ) → ChangesOneField b (with_shown b place version)
-  one_shown written fresh place version = inr (record {
-    slot = next;
-    commit = version;
-    hidden = hidden (is_live b next) refl;
-    version = refl;
-    right = refl;
-    keys = λ k. key_read (with_shown b place version) Nothing written k ∙ (own_key k ∙ sym (key_read b Nothing written k));
-    values = λ k differ. ap (λ (s : Slot). s.entry.content) (changed_elsewhere b.slots next k (shown version) differ);
-    stamped = ap (λ (s : Slot). s.entry.content) there;
-  })
+  pub one_shown : b.unwritten ≡ Nothing → first_held b.unused ≡ false → (place version : ℕ) → ChangesOneField (Some version) b (with_shown b place version)
+  one_shown written fresh place version = inr (
+    version,
+    refl,
+    record {
+      slot = next;
+      hidden = ap (λ (s : Slots). list_any (nat_eq next) s.live) (order_read b Nothing written) ∙ hidden (is_live b next) refl;
+      shows = ap (λ (s : Slots). list_any (nat_eq next) s.live) (order_read (with_shown b place version) Nothing written) ∙ next_is_live b.order place (unused_there b.live b.unused b.slots b.order h.seen room);
+      layer = refl;
+      version = refl;
+      right = refl;
+      keys = λ k. key_read (with_shown b place version) Nothing written k ∙ (own_key k ∙ sym (key_read b Nothing written k));
+      values = λ k differ. ap (λ (s : Slot). s.entry.content) (changed_elsewhere b.slots next k (shown version) differ);
+      stamped = ap (λ (s : Slot). s.entry.content) there;
+    },
+  )
     where
       there : slot_at (with_shown b place version) next ≡ shown version (slot_at b next)
       there = changed_there b.slots next (shown version) next_within
@@ -227,10 +255,11 @@ module _ (b : BorderView) (h : IsBorder b) (place : ℕ) (within : place < lengt
   abbrev n : ℕ
   n = number_at place b.order
 
-  pub one_value : (row : Row) → ChangesOneField b (with_value b place row)
+  pub one_value : {commit : Option ℕ} (row : Row) → ChangesOneField commit b (with_value b place row)
   one_value row = inl (
     ValueField n,
     record {
+      layer = refl;
       version = λ ne. refl;
       right = λ ne. refl;
       order = λ ne. refl;
@@ -246,10 +275,11 @@ module _ (b : BorderView) (h : IsBorder b) (place : ℕ) (within : place < lengt
         | inr differ ↦ ap (λ (s : Slot). entry_key s.entry) (changed_elsewhere b.slots n k (with_entry (with_row row)) differ)
       ]
 
-  pub one_link : (head : NodeNo) → suffix_at place b.live ≡ entry_suffix (slot_at b n).entry → IsSome (suffix_at place b.live) → b.unwritten ≡ LinkAt n → ChangesOneField b (with_link_at b place head)
+  pub one_link : {commit : Option ℕ} (head : NodeNo) → suffix_at place b.live ≡ entry_suffix (slot_at b n).entry → IsSome (suffix_at place b.live) → b.unwritten ≡ LinkAt n → ChangesOneField commit b (with_link_at b place head)
   one_link head read some unstably = inl (
     ValueField n,
     record {
+      layer = refl;
       version = λ ne. refl;
       right = λ ne. refl;
       order = λ ne. sym (order_read b (LinkAt n) unstably);

@@ -1,5 +1,5 @@
 -- What a caller must know of a border before it changes it, and what the change then is to the tree.
-use Rattle.std.specs.Prelude.{ℕ, ◌≡◌, ◌≢◌, ◌<◌, ◌≤◌, length, take, drop, slice_get, IsSome, Some, None, List, [], ◌∷◌, true, false}
+use Rattle.std.specs.Prelude.{ℕ, ◌≡◌, ◌≢◌, ◌<◌, ◌≤◌, length, take, drop, slice_get, IsSome, IsSomeAnd, Option, Some, None, List, [], ◌∷◌, true, false}
 use Rattle.mt_slice.specs.Place.{place_of}
 use Rattle.mt_types.specs.declared.row.Row.{Row}
 use Rattle.mt_types.specs.declared.numbers.NodeNo.{NodeNo}
@@ -7,10 +7,11 @@ use Rattle.mt_word.specs.declared.permutation_word.TheConstants.{SLOTS}
 use Rattle.mt_word.specs.Slots.{Slots}
 use Rattle.mt_border.specs.Entry.{entry_row}
 use Rattle.mt_border.specs.Border.{BorderView, first_held, next_row, row_at, suffix_at, with_shown}
-use Rattle.mt_border.specs.Order.{IsBorder, AreBelow}
+use Rattle.mt_border.specs.Order.{IsBorder, IsLeftOf, AreBelow}
 use Rattle.mt_border.specs.Table.{number_at}
 use Rattle.mt_border.specs.declared.entry.Content.TheVariants.{Long, Link}
 use Rattle.mt_border.specs.declared.entry.Entry.{Entry}
+use Rattle.mt_border.specs.declared.entry.RightLink.{RightLink}
 use Rattle.mt_border.specs.declared.slot_table.Slot.{Slot}
 use Rattle.mt_border.specs.declared.unwritten.Unwritten.TheVariants.{Nothing, Value, Order, LinkAt, MarkAt}
 use Rattle.mt_border.specs.declared.unwritten.SlotKey.{SlotKey}
@@ -146,10 +147,17 @@ pub record MakesLayerAt (a after : ArenaView) (number place head : ℕ) : Type 0
       slice_get b.live place ≡ Some entry → head_at a.nodes head ≡ Some layer_head →
       KeepsAlong a after (λ now twins chart next. ChartsLayer number head layer_head.root.0 entry.slice chart next)
 
--- A BORDER IS UNLINKED. The first border's right link names the second, which is marked deleted.
-pub record IsMarkedRight (b right : BorderView) (number : NodeNo) : Type 0 where
+-- A BORDER IS UNLINKED. The first border's right link names the second, which is marked deleted, and whose right link
+-- this is.
+pub record IsMarkedRight (b right : BorderView) (number : NodeNo) (next : Option RightLink) : Type 0 where
   pub named : b.right ≡ Some (record { low = right.low; node = number })
   pub marked : right.version.deleted ≡ true
+  pub noted : right.right ≡ next
+  pub above : IsLeftOf right.low right.live next
+
+abbrev pub MayUnlink : ArenaView → ℕ → NodeNo → Option RightLink → Type 0
+MayUnlink a number other next = IsSomeAnd (border_at a.nodes number) (λ b.
+    IsSomeAnd (border_at a.nodes other.0) (λ right. IsMarkedRight b right other next))
 
 -- the chart then: the border is on, in some layer; the other, of this low, was in that layer, no head or interior might
 -- name it, and it goes now

@@ -1,5 +1,5 @@
 -- The fields of a border as the theory of one field at a time sees them.
-use Rattle.std.specs.Prelude.{◌≡◌}
+use Rattle.std.specs.Prelude.{ℕ, ◌≡◌, Option}
 use Rattle.mt_border.specs.Border.{BorderView}
 use Rattle.mt_border.specs.Order.{AreInSlots}
 use Rattle.mt_border.specs.Slots.{slot_at, is_live, held_at}
@@ -38,9 +38,13 @@ fields_seen b =
 abbrev pub HasSlots : BorderView → Type 0
 HasSlots b = AreInSlots b.live b.unused b.slots b.order
 
--- a border ages in a step: its low stays, one field changes at most, its fields age, and its slots still hold what is live and unused
+-- a border ages in a step: its low stays, its fields age, and its slots still hold what is live and unused
 pub record BorderAges (b then : BorderView) : Type 0 where
   pub low : then.low ≡ b.low
-  pub one : ChangesOneField b then
   pub fields : Ages (fields_seen b) (fields_seen then)
   pub slots : HasSlots b → HasSlots then
+
+-- a border changes in a step, which may be the commit of this number: it ages, and one field changes at most
+pub record BorderChanges (commit : Option ℕ) (b then : BorderView) : Type 0 where
+  pub ages : BorderAges b then
+  pub one : ChangesOneField commit b then

@@ -10,15 +10,15 @@ ghost use Rattle.mt_border.specs.Entry.{entry_with};
 ghost use Rattle.mt_arena.specs.Node.{border_at};
 ghost use Rattle.mt_arena.specs.Arena.{with_border_changed};
 ghost use Rattle.mt_tree.specs.Keeping.{KeepsTree};
-ghost use Rattle.mt_tree.specs.BorderSteps.{MayWriteKey, AwaitsSome, MayShowAt, ShowsNext, HasRowAt, HidesRowAt, SetsRowAt, IsMarkedRight, UnlinksAt};
+ghost use Rattle.mt_tree.specs.BorderSteps.{MayWriteKey, AwaitsSome, MayShowAt, ShowsNext, HasRowAt, HidesRowAt, SetsRowAt, MayUnlink, UnlinksAt};
 
 use crate::tree::Tree;
-use mt_border::SlotKey;
+use mt_border::{RightLink, SlotKey};
 use mt_types::numbers::NodeNo;
 use mt_types::refusal::Refusal;
 use mt_types::row::Row;
 
-#[tactic(auto, using(crate::proofs::SeenLemmas::sound_border, crate::proofs::BorderMarks::lock_keeps, crate::proofs::BorderMarks::unlock_keeps, crate::proofs::BorderMarks::mark_keeps, crate::proofs::BorderMarks::key_keeps, crate::proofs::BorderRows::shows_next, crate::proofs::BorderRows::hides_at, crate::proofs::BorderRows::sets_at, crate::proofs::UnlinkSteps::may_take_right))]
+#[tactic(auto, using(crate::proofs::SeenLemmas::sound_border, crate::proofs::BorderMarks::lock_keeps, crate::proofs::BorderMarks::unlock_keeps, crate::proofs::BorderMarks::mark_keeps, crate::proofs::BorderMarks::key_keeps, crate::proofs::BorderRows::shows_next, crate::proofs::BorderRows::hides_at, crate::proofs::BorderRows::sets_at))]
 impl Tree {
     /// Locks a border. Constant cost.
     pub fn lock_border(&mut self, number: NodeNo)
@@ -131,15 +131,13 @@ impl Tree {
 
     /// Takes a border that is marked deleted out of its chain: the border before it takes its right link. Constant
     /// cost.
-    pub fn unlink(&mut self, number: NodeNo, gone: NodeNo)
-        requires { IsSomeAnd (border_at self.old.nodes number.0) (λ b.
-            IsSomeAnd (border_at self.old.nodes gone.0) (λ right. IsMarkedRight b right gone)) }
-        ensures value { IsSomeAnd (border_at self.old.nodes gone.0) (λ right.
-            self.new ≡ with_border_changed self.old number.0 (λ b. with_right b right.right)) }
+    pub fn unlink(&mut self, number: NodeNo, right: Option<RightLink>)
+        requires may { (other : NodeNo) × MayUnlink self.old number.0 other right }
+        ensures value { self.new ≡ with_border_changed self.old number.0 (λ b. with_right b right) }
         ensures sound { IsSomeAnd (border_at self.new.nodes number.0) IsBorder }
-        ensures unlinks { UnlinksAt self.old self.new number.0 gone.0 }
+        ensures unlinks { (other : NodeNo) → MayUnlink self.old number.0 other right
+            → UnlinksAt self.old self.new number.0 other.0 }
     {
-        let right = self.border(gone).right();
         self.arena.border_mut(number).set_right(right);
     }
 }

@@ -53,8 +53,8 @@ pub enum Request {
     },
 }
 
-/// One event. A call advances by steps. A step visits one node; at a border, a step of a get, range or build reads one
-/// field only. After its scan, a build takes one delta of the log a step.
+/// One event. A call advances by steps. A step reads at most one node, and at most one field of a border. After its
+/// scan, a build takes one delta of the log in each step.
 #[derive(Debug, PartialEq, Eq, Drop)]
 pub enum Event {
     /// A pass begins a call.

@@ -1,5 +1,6 @@
 //! The limits of an index, each with the refusal that guards it, and the tests of requests and options against them.
-//! Later crates rely on these tests, and do not repeat them.
+//! A call is tested when it begins, and its steps rely on that. `rowanspan_c` has tests of its own with the same
+//! results: it tests the bytes of a caller in C before it copies them.
 
 ghost use Rattle.std.specs.Prelude.{◌≡◌, ◌==◌, Some, nat_lt, length, map};
 ghost use Rattle.std.specs.List.{list_any};

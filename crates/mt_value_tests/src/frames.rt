@@ -1,4 +1,5 @@
-//! The frames of the wire: the worked sessions, each kind of message both ways and in both versions, and each fault.
+//! The frames of the wire: the worked sessions, each kind of query both ways and each kind of answer written, in both
+//! versions, and each fault.
 
 use bytes::Bytes;
 use mt_types::event::{Answer, Reply, Request, TidyRule};
@@ -9,13 +10,13 @@ use mt_types::refusal::Refusal;
 use mt_types::row::{Columns, Row};
 use mt_types::view::{Page, RowTest, ViewSpec};
 use mt_wire::decoder::Decoder;
-use mt_wire::encode::{encode_replies, encode_requests, replies_fit, requests_fit};
+use mt_wire::encode::{
+    encode_replies, encode_replies_into, encode_requests, replies_fit, requests_fit,
+};
 use mt_wire::fault::WireFault;
 use mt_wire::frame::Frame;
 use mt_wire::query::Query;
-use mt_wire::replies::decode_replies;
 use mt_wire::response::{End, Response};
-use mt_wire::stream::decode_requests;
 use mt_wire::version::WireVersion;
 use std::alloc::Global;
 use std::test::Fail;
@@ -115,7 +116,7 @@ fn ask(alloc: Global, queries: &[Query], frame: &[u8]) -> Result<bool, Fail> {
     )
 }
 
-// Whether the answers are written as this frame, and read from it.
+// Whether the answers are written as this frame, also over other bytes.
 fn answer_in(
     alloc: Global,
     version: WireVersion,
@@ -126,9 +127,9 @@ fn answer_in(
         return Ok(false);
     }
     let written = encode_replies(alloc, version, responses)?;
-    let read = decode_replies(alloc, &Bytes::copy_from_slice(alloc, frame)?)?;
-    let same = read.version == version && read.messages.as_slice() == responses;
-    Ok(written.as_slice() == frame && same)
+    let mut out = Vec::from_slice(alloc, ASKED)?;
+    encode_replies_into(&mut out, version, responses)?;
+    Ok(written.as_slice() == frame && out.as_slice() == frame)
 }
 
 // The same of this frame of version 1, and of the one in version 2 that is like it.
@@ -307,21 +308,35 @@ fn other_answers(rt: HostRuntime) -> Result<(), Fail> {
     Ok(())
 }
 
+// The frames of a stream that comes in pieces of seven bytes: less than any frame of it, so a piece ends at most one.
+fn frames_of(
+    alloc: Global,
+    decoder: &mut Decoder,
+    stream: &[u8],
+) -> Result<Vec<Frame<Query>>, Fail> {
+    let mut frames = Vec::new(alloc);
+    for piece in stream.chunks(7) {
+        decoder.feed(piece)?;
+        if let Some(frame) = decoder.next()? {
+            frames.push(frame)?;
+        }
+    }
+    Ok(frames)
+}
+
 // Whether this frame of version 1 and the one in version 2 that is like it, with five bytes of a third, cut into pieces
-// of seven bytes, are read as these queries.
+// of seven bytes, are read as these queries, and the rest as none.
 fn ask_in_pieces(alloc: Global, queries: &[Query], frame: &[u8]) -> Result<bool, Fail> {
     let mut stream = Vec::new(alloc);
     stream.extend_from_slice(frame)?;
     stream.extend_from_slice(&in_version_two(alloc, frame)?)?;
     stream.extend_from_slice(&[0, 0, 0, 9, 1])?;
-    let mut pieces = Vec::new(alloc);
-    for piece in stream.as_slice().chunks(7) {
-        pieces.push(Vec::from_slice(alloc, piece)?)?;
-    }
-    let frames = decode_requests(alloc, &pieces)?;
+    let mut decoder = Decoder::new(alloc);
+    let frames = frames_of(alloc, &mut decoder, stream.as_slice())?;
+    let rest = decoder.next()?.is_none() && !decoder.is_between_frames();
     Ok(match frames.as_slice() {
         [first, second] => {
-            are_asked(first, WireVersion::One, queries)
+            rest && are_asked(first, WireVersion::One, queries)
                 && are_asked(second, WireVersion::Two, queries)
         }
         _ => false,

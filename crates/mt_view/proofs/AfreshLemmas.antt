@@ -15,7 +15,7 @@ use Rattle.mt_commit.specs.Deltas.{redo}
 use Rattle.mt_commit.proofs.RowLemmas.{get-with_row}
 use Rattle.mt_view.specs.State.{StateView, IsAfresh, belonging, applied}
 use Rattle.mt_view.specs.Laws.{AppliedIsAfresh}
-use Rattle.mt_rows.proofs.MapLemmas.{Entries, key_order, key_apart}
+use Rattle.mt_types.proofs.MapLemmas.{Entries, key_order, key_apart}
 
 both : (a b : Bool) → T a → T b → T (a && b)
 both true b p q = q

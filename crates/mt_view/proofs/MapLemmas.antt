@@ -11,7 +11,7 @@ use Rattle.std.specs.BTreeMap as tree
 use Rattle.std.specs.FinMap as map
 use Rattle.mt_types.specs.Keys.{key_cmp}
 use Rattle.mt_types.specs.declared.row.Row.{Row}
-use Rattle.mt_rows.proofs.MapLemmas.{Entries, Tree, key_order, seen, seen-insert}
+use Rattle.mt_types.proofs.MapLemmas.{Entries, Tree, key_order, seen, seen-insert}
 
 -- a row that is put under a key, if the map takes copies of both
 pub seen-put : (m n : Tree) (k key : List ℕ) (v row : Row) → tree.IsOrdered key_cmp m → tree.IsOrdered key_cmp n → tree.Updates key_cmp m n k (Some v)

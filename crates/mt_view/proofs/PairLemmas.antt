@@ -12,7 +12,7 @@ use Rattle.mt_types.specs.declared.row.Row.{Row}
 use Rattle.mt_view.specs.State.{StateView, IsAfresh, belonging, with_pairs}
 use Rattle.mt_view.specs.Laws.{SortedPairsAreRows}
 use Rattle.mt_commit.specs.Deltas.{with_row}
-use Rattle.mt_rows.proofs.MapLemmas.{Entries, key_order, key_apart}
+use Rattle.mt_types.proofs.MapLemmas.{Entries, key_order, key_apart}
 use Rattle.mt_view.proofs.AfreshLemmas.{applied_is_afresh, below_none, same_key, first, second}
 
 -- one pair more

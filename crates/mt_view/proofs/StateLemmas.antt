@@ -12,7 +12,7 @@ use Rattle.mt_types.specs.declared.row.Row.{Row}
 use Rattle.mt_view.specs.State.{StateView}
 use Rattle.mt_view.specs.StateFields.{state_of, IsKept}
 use Rattle.mt_view.specs.declared.state.ViewState.TheInside.{Inside}
-use Rattle.mt_rows.proofs.MapLemmas.{Tree, seen-remove}
+use Rattle.mt_types.proofs.MapLemmas.{Tree, seen-remove}
 use Rattle.mt_view.proofs.MapLemmas.{seen-put}
 use Rattle.mt_view.proofs.SumLemmas.{IsSummed, covered, room, summed_new, summed_replaced, summed_removed, small_inserted, small_removed}
 

@@ -12,7 +12,7 @@ use Rattle.std.proofs.lemmas.Map.Views.{All-values-insert_entry, All-map-remove_
 use Rattle.mt_types.specs.Keys.{key_cmp}
 use Rattle.mt_types.specs.Views.{amount, column_of, column_sum, column_sums}
 use Rattle.mt_types.specs.declared.row.Row.{Row}
-use Rattle.mt_rows.proofs.MapLemmas.{Entries, key_order}
+use Rattle.mt_types.proofs.MapLemmas.{Entries, key_order}
 
 abbrev pub amount_in : ℕ → Row → ℕ
 amount_in column row = amount (column_of column row)

@@ -1,5 +1,6 @@
 -- The way down a layer, in a tree in which no change is under way: what is held now is on, and with each node less is left.
 use Rattle.std.proofs.Common.{ℕ, suc, ◌≡◌, ◌<◌, ◌≤◌, ◌^◌, inl, List, Some, refl, arith}
+use Rattle.mt_types.specs.declared.numbers.NodeNo.{NodeNo}
 use Rattle.mt_slice.specs.Place.{last}
 use Rattle.mt_arena.specs.Arena.{ArenaView}
 use Rattle.mt_chart.specs.Chart.{Standing, on, gone, spot}
@@ -9,7 +10,7 @@ use Rattle.mt_scan.specs.Cursor.{CursorView}
 use Rattle.mt_steps.specs.Causes.{IsMarkedAt}
 use Rattle.mt_steps.specs.Lone.{IsLoneTree}
 use Rattle.mt_steps.specs.Ranging.{IsHeldFor, Seeks}
-use Rattle.mt_steps.specs.declared.ranging.Sought.TheVariants.{To, Here}
+use Rattle.mt_tree.specs.declared.visit.Visit.TheVariants.{To, Below, Here}
 use Rattle.mt_steps.proofs.LoneRange.{ScanStands, scan_nearer}
 use Rattle.mt_steps.proofs.LoneWay.{way_left, not_marked}
 use Rattle.mt_walk.specs.Descent.{HoldsNow, MaySeek, SeeksBorder}
@@ -68,6 +69,10 @@ seeking_goes a from slice node next fits s seeks moves =
       },
       nearer a lone node next slice s.may.prefix fits s.may.held moves to,
     )
+
+-- no link leads further from a slice
+pub never_below : (a : ArenaView) (slice node : ℕ) (top : NodeNo) → MaySeek a node slice → Seeks a node slice (Below top) → ⊥
+never_below a slice node top may seeks = seeks.leads may.lone.now may.lone.w.twins may.lone.w.chart (suc may.lone.now) may.prefix may.lone.world.index may.held
 
 pub seeking_ends : (a : ArenaView) (from slice node : ℕ) → IsSeeking a from slice node → Seeks a node slice Here → SeeksBorder a from slice node
 seeking_ends a from slice node s seeks =

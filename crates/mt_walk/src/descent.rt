@@ -2,8 +2,8 @@
 
 ghost use Rattle.mt_walk.specs.Descent.{MaySeek, SeeksBorder};
 
-use mt_steps::ranging::{Sought, seek};
-use mt_tree::Tree;
+use mt_steps::ranging::seek;
+use mt_tree::{Tree, Visit};
 use mt_types::numbers::NodeNo;
 
 /// Returns the border in whose interval a slice is, down from a node of the layer. Costs the visit of each node on the
@@ -15,9 +15,10 @@ pub(crate) fn border_for(tree: &Tree, from: NodeNo, slice: u64) -> NodeNo
     let mut node = from;
     loop {
         match seek(tree, node, slice) {
-            Sought::To(next) => node = next,
-            Sought::Here => return node,
-            Sought::Again => unreachable!(),
+            Visit::To(next) => node = next,
+            Visit::Here => return node,
+            Visit::Again => unreachable!(),
+            Visit::Below(_) => unreachable!(),
         }
     }
 }

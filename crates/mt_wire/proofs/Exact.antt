@@ -9,7 +9,8 @@ use Rattle.std.proofs.lemmas.List.Concat.{flat_map-cons}
 use Rattle.std.proofs.lemmas.Nat.{be_bytes_2, be_bytes_8, from_be_bytes-to_be_bytes_2, from_be_bytes-to_be_bytes_8}
 use Rattle.mt_wire.specs.Spelling.{key_spelling, short_spelling, counted}
 use Rattle.mt_wire.specs.Fits.{KeyFits, ShortFits, CountedFits}
-use Rattle.mt_wire.specs.Reading.{Reader, ◌>>=◌, both, made, nothing_at, bytes_at, number_at, byte_at, key_at, short_at, times_at, counted_at, counted16_at, kind_at}
+use Rattle.mt_wire.specs.Reading.{Reader, ◌>>=◌, both, made, nothing_at, bytes_at, number_at, byte_at, key_at, short_at, times_at, counted_at, kind_at}
+use Rattle.mt_wire.proofs.ResponseReading.{counted16_at}
 
 abbrev pub IsBytes : List ℕ → Type 0
 IsBytes bytes = (i : ℕ) → get_or bytes i 0 < 256

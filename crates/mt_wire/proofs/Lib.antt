@@ -1,3 +1,4 @@
+pub mod ResponseReading
 pub mod Loop
 pub mod Exact
 pub mod QueryLaws
@@ -5,5 +6,4 @@ pub mod ResponseLaws
 pub mod Joined
 pub mod FrameLaws
 pub mod ReadingLaws
-pub mod StreamLaws
 pub mod Lengths

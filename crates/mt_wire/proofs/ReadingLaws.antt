@@ -1,32 +1,27 @@
 -- Messages and frames are read one way.
-use Rattle.std.proofs.Common.{◌≡◌, ◌≢◌, ℕ, ◌+◌, ◌^◌, ◌<◌, ◌≤◌, List, ◌++◌, [], ◌∷◌, length, get_or, take, drop, Option, Some, None, Result, Ok, Err, refl, sym, ap, subst, ◌∙◌, append_assoc, arith, inl, inr}
+use Rattle.std.proofs.Common.{◌≡◌, ◌≢◌, ℕ, ◌+◌, ◌^◌, ◌<◌, ◌≤◌, List, ◌++◌, length, get_or, take, drop, Option, Some, None, Result, Ok, Err, refl, sym, ap, subst, ◌∙◌, arith, inl, inr}
 use Rattle.std.specs.Prelude.{IfOk, IfErr, IfSome, IfNone, IsSome, IsSomeAnd, MatchResult}
-use Rattle.std.specs.Global.{Vec}
 use Rattle.std.specs.Int.{w32, to_be_bytes}
 use Rattle.std.proofs.lemmas.Option.{some_pair_parts}
-use Rattle.std.proofs.lemmas.List.{take_at, drop_at, length-append, length-drop, get_or-drop, get_or_append_left, take-append-le, take-append-drop}
-use Rattle.std.proofs.lemmas.List.Concat.{flat_map-cons}
-use Rattle.std.specs.List.{AllByRecursion, flat_map}
-use Rattle.mt_wire.specs.Streams.{stream_of, IsStream, HasFault}
+use Rattle.std.proofs.lemmas.List.{take_at, drop_at, length-append, get_or_append_left, take-append-le, take-append-drop}
 use Rattle.mt_types.specs.declared.limits.TheConstants.{MAX_REQUEST_BODY}
 use Rattle.mt_wire.specs.declared.limits.TheConstants.{MAX_REPLY_BODY}
 use Rattle.mt_wire.specs.declared.query.Query.{Query}
-use Rattle.mt_wire.specs.declared.response.Response.{Response}
 use Rattle.mt_wire.specs.declared.fault.WireFault.{WireFault}
 use Rattle.mt_wire.specs.declared.fault.WireFault.TheVariants as faults
 use Rattle.mt_wire.specs.declared.version.WireVersion.{WireVersion}
 use Rattle.mt_wire.specs.declared.version.WireVersion.TheVariants.{One, Two}
 use Rattle.mt_wire.specs.declared.frame.Frame.{Frame}
 use Rattle.mt_wire.specs.Versions.{version_byte, version_of}
-use Rattle.mt_wire.specs.Spelling.{query_spelling, response_spelling, body_of, frame_of}
-use Rattle.mt_wire.specs.Frames.{Holds, RequestsFit, RepliesFit, request_frame, reply_frame, announced, LengthFits, IsBegun, IsWhole, FaultStands, Kept, IsOneFrame, ReplyFaultStands}
-use Rattle.mt_wire.specs.Reading.{Reader, kind_at, response_rest}
-use Rattle.mt_wire.specs.Bodies.{IsBytes, Reads, body_at}
+use Rattle.mt_wire.specs.Spelling.{query_spelling, body_of, frame_of}
+use Rattle.mt_wire.specs.Frames.{Holds, RequestsFit, request_frame, announced, LengthFits, IsBegun, IsWhole, FaultStands, Kept}
+use Rattle.mt_wire.specs.Reading.{Reader}
+use Rattle.mt_wire.specs.Bodies.{body_at}
 use Rattle.mt_wire.specs.Laws.{ReadOneWay, QueriesReadOneWay, ResponsesReadOneWay, RequestFramesReadOneWay, ReplyFramesReadOneWay, FrameStandsAlone, BegunHasNoFault, FaultStays}
-use Rattle.mt_wire.proofs.Exact.{IsExact, IsBytes-drop}
+use Rattle.mt_wire.proofs.Exact.{IsExact}
 use Rattle.mt_wire.proofs.QueryLaws.{query_exact}
 use Rattle.mt_wire.proofs.ResponseLaws.{response_exact}
-use Rattle.mt_wire.proofs.FrameLaws.{body_takes, body_again, spelled_length, frame_of_body, announced_by, length_is_good, version_differs, version_is_told, done, same_done, no_two_faults}
+use Rattle.mt_wire.proofs.FrameLaws.{body_again, spelled_length, announced_by, same_done}
 
 read_one_way : {A : Type 0} {F : A → Type 0} {spell : A → List ℕ} {item : Reader A} → IsExact A F spell item → ReadOneWay F spell
 read_one_way {A} {F} {spell} {item} exact x y a b fx fy e =
@@ -104,45 +99,6 @@ only_next (Err faults.BadLength) old new whole begun fault frame rest fits e = a
 only_next (Err faults.BadVersion) old new whole begun fault frame rest fits e = absurd (no_fault frame rest fits faults.BadVersion (subst (λ (bytes : List ℕ). FaultStands faults.BadVersion bytes) e (fault (λ k. cc)).0))
 only_next (Err faults.BadBody) old new whole begun fault frame rest fits e = absurd (no_fault frame rest fits faults.BadBody (subst (λ (bytes : List ℕ). FaultStands faults.BadBody bytes) e (fault (λ k. cc)).0))
 
--- ---- replies
-pub found_replies : (bytes : List ℕ) (r : Result (Frame Response) WireFault) → IsBytes bytes → IsOneFrame MAX_REPLY_BODY bytes → Reads (λ frame. frame) r (body_at (kind_at response_rest) (drop 4 bytes))
-    → IfOk r (λ frame. RepliesFit frame × (bytes ≡ reply_frame frame))
-found_replies bytes (Err fault) are is h = tt
-found_replies bytes (Ok frame) are is h =
-    let t = body_takes response_exact (drop 4 bytes) frame (IsBytes-drop 4 bytes are) h in
-    let spelled = frame_of_body MAX_REPLY_BODY bytes (body_of response_spelling frame) are is t.0 in
-    ((t.1, omega (arith, length-drop 4 bytes, is.whole, is.fits, ap length t.0)), spelled)
-
-reads_again : (r read : Result (Frame Response) WireFault) (frame : Frame Response) → Reads (λ frame. frame) r read → read ≡ Ok frame
-    → MatchResult r (λ found. found ≡ frame) (λ fault. fault ≡ faults.NoMemory)
-reads_again (Ok found) read frame h e = same_done found frame (sym h ∙ e)
-reads_again (Err faults.NoMemory) read frame h e = refl
-reads_again _ read frame h e = absurd cc
-
-pub only_replies : (bytes : List ℕ) (r : Result (Frame Response) WireFault) → Reads (λ frame. frame) r (body_at (kind_at response_rest) (drop 4 bytes))
-    → (frame : Frame Response) → RepliesFit frame → bytes ≡ reply_frame frame → MatchResult r (λ found. found ≡ frame) (λ fault. fault ≡ faults.NoMemory)
-only_replies bytes r h frame fits e =
-    reads_again r (body_at (kind_at response_rest) (drop 4 bytes)) frame h (ap (λ (x : List ℕ). body_at (kind_at response_rest) (drop 4 x)) e ∙ body_again response_exact frame fits.0)
-
-abbrev failed : Result (Frame Response) WireFault
-failed = Err faults.BadBody
-
-no_replies : (frame : Frame Response) → RepliesFit frame → failed ≡ done frame → ⊥
-no_replies frame fits e = cc
-
--- the first byte of the body tells which fault it is
-pub reply_fault : (bytes : List ℕ) (r : Result (Frame Response) WireFault) → IsOneFrame MAX_REPLY_BODY bytes → Reads (λ frame. frame) r (body_at (kind_at response_rest) (drop 4 bytes))
-    → IfErr r (λ fault. fault ≢ faults.NoMemory → ReplyFaultStands fault bytes)
-reply_fault bytes (Ok found) is h = tt
-reply_fault bytes (Err faults.NoMemory) is h = λ other. absurd (other refl)
-reply_fault bytes (Err faults.BadLength) is h = λ other. absurd (length_is_good (kind_at response_rest) (drop 4 bytes) h)
-reply_fault bytes (Err faults.BadVersion) is h = λ other. (is, ap version_of (sym (get_or-drop {A = ℕ} 4 bytes 0 0)) ∙ version_differs (kind_at response_rest) (drop 4 bytes) h)
-reply_fault bytes (Err faults.BadBody) is h = λ other. (
-  is,
-  subst (λ (byte : ℕ). IsSome (version_of byte)) (get_or-drop {A = ℕ} 4 bytes 0 0) (version_is_told (kind_at response_rest) (drop 4 bytes) (omega (arith, length-drop 4 bytes, is.whole, is.fits)) (λ e. no_two_faults _ h e)),
-  λ frame fits e. no_replies frame fits (sym h ∙ ap (λ (x : List ℕ). body_at (kind_at response_rest) (drop 4 x)) e ∙ body_again response_exact frame fits.0),
-)
-
 -- ---- a fault stays
 
 whole_stays : (bytes more : List ℕ) → IsWhole MAX_REQUEST_BODY bytes → IsWhole MAX_REQUEST_BODY (bytes ++ more)
@@ -180,44 +136,3 @@ begun_has_no_fault faults.NoMemory bytes h begun = h
 begun_has_no_fault faults.BadLength bytes h begun = elim begun [ inl short ↦ omega (arith, h.0, short) | inr more ↦ h.1 more.0 ]
 begun_has_no_fault faults.BadVersion bytes h begun = whole_not_begun bytes h.0 begun
 begun_has_no_fault faults.BadBody bytes h begun = whole_not_begun bytes h.0 begun
-
--- ---- streams
-
-front_of : (frame : Frame Query) (frames : List (Frame Query)) (rest : List ℕ) → stream_of (frame ∷ frames) rest ≡ request_frame frame ++ stream_of frames rest
-front_of frame frames rest = ap (λ (w : List ℕ). w ++ rest) (flat_map-cons request_frame frame frames) ∙ append_assoc (request_frame frame) (flat_map request_frame frames) rest
-
-streams_read_one_way : (a b : List (Frame Query)) (x y : List ℕ) → AllByRecursion RequestsFit a → AllByRecursion RequestsFit b → IsBegun MAX_REQUEST_BODY x → IsBegun MAX_REQUEST_BODY y
-    → stream_of a x ≡ stream_of b y → a ≡ b
-streams_read_one_way [] [] x y fa fb hx hy e = refl
-streams_read_one_way [] (q ∷ b) x y fa fb hx hy e =
-    absurd (not_begun q (stream_of b y) fb.0 (subst (λ (w : List ℕ). IsBegun MAX_REQUEST_BODY w) (e ∙ front_of q b y) hx))
-streams_read_one_way (p ∷ a) [] x y fa fb hx hy e =
-    absurd (not_begun p (stream_of a x) fa.0 (subst (λ (w : List ℕ). IsBegun MAX_REQUEST_BODY w) (sym e ∙ front_of p a x) hy))
-streams_read_one_way (p ∷ a) (q ∷ b) x y fa fb hx hy e =
-    let same = request_frames_read_one_way p q (stream_of a x) (stream_of b y) fa.0 fb.0 (sym (front_of p a x) ∙ e ∙ front_of q b y) in
-    let others = streams_read_one_way a b x y fa.1 fb.1 hx hy same.1 in
-    ap (λ (r : Frame Query). r ∷ a) same.0 ∙ ap (λ (rs : List (Frame Query)). q ∷ rs) others
-
-stream_has_no_fault : (a b : List (Frame Query)) (x y : List ℕ) (fault : WireFault) → AllByRecursion RequestsFit a → AllByRecursion RequestsFit b → IsBegun MAX_REQUEST_BODY x → FaultStands fault y
-    → stream_of a x ≡ stream_of b y → ⊥
-stream_has_no_fault [] [] x y fault fa fb hx hy e = begun_has_no_fault fault y hy (subst (λ (w : List ℕ). IsBegun MAX_REQUEST_BODY w) e hx)
-stream_has_no_fault [] (q ∷ b) x y fault fa fb hx hy e =
-    not_begun q (stream_of b y) fb.0 (subst (λ (w : List ℕ). IsBegun MAX_REQUEST_BODY w) (e ∙ front_of q b y) hx)
-stream_has_no_fault (p ∷ a) [] x y fault fa fb hx hy e =
-    no_fault p (stream_of a x) fa.0 fault (subst (λ (w : List ℕ). FaultStands fault w) (sym e ∙ front_of p a x) hy)
-stream_has_no_fault (p ∷ a) (q ∷ b) x y fault fa fb hx hy e =
-    let same = request_frames_read_one_way p q (stream_of a x) (stream_of b y) fa.0 fb.0 (sym (front_of p a x) ∙ e ∙ front_of q b y) in
-    stream_has_no_fault a b x y fault fa.1 fb.1 hx hy same.1
-
-no_fault_in : (stream : List ℕ) (frames : List (Frame Query)) (fault : WireFault) → IsStream stream frames → HasFault fault stream → ⊥
-no_fault_in stream frames fault is has =
-    stream_has_no_fault frames has.0 is.0 (has.1 ++ has.2) fault is.2 has.4 is.3 (fault_stays fault has.1 has.2 has.5) (sym is.1 ∙ has.3 ∙ append_assoc (flat_map request_frame has.0) has.1 has.2)
-
-pub only_stream : (stream : List ℕ) (r : Result (Vec (Frame Query)) WireFault)
-    → IfOk r (λ frames. IsStream stream frames.items) → IfErr r (λ fault. fault ≢ faults.NoMemory → HasFault fault stream)
-    → (frames : List (Frame Query)) → IsStream stream frames → MatchResult r (λ found. found.items ≡ frames) (λ fault. fault ≡ faults.NoMemory)
-only_stream stream (Ok found) ok err frames is = streams_read_one_way found.items frames ok.0 is.0 ok.2 is.2 ok.3 is.3 (sym ok.1 ∙ is.1)
-only_stream stream (Err faults.NoMemory) ok err frames is = refl
-only_stream stream (Err faults.BadLength) ok err frames is = absurd (no_fault_in stream frames faults.BadLength is (err (λ k. cc)))
-only_stream stream (Err faults.BadVersion) ok err frames is = absurd (no_fault_in stream frames faults.BadVersion is (err (λ k. cc)))
-only_stream stream (Err faults.BadBody) ok err frames is = absurd (no_fault_in stream frames faults.BadBody is (err (λ k. cc)))

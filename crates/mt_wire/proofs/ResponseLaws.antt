@@ -17,7 +17,8 @@ use Rattle.mt_wire.specs.declared.response.Response.TheVariants.{Refused, Done, 
 use Rattle.mt_wire.specs.declared.response.End.TheVariants.{Absent, Found, Committed, Rows, Tidied, Built}
 use Rattle.mt_wire.specs.Spelling.{key_spelling, sum_spelling, row_spelling, pair_spelling, pairs_spelling, refusal_spelling, rule_spelling, span_spelling, response_spelling}
 use Rattle.mt_wire.specs.Fits.{RowLengths, RefusalNumbers, PairNumbers, ResponseFits}
-use Rattle.mt_wire.specs.Reading.{◌>>=◌, byte_at, number_at, key_at, counted16_at, kind_at, sum_at, row_at, index_key_at, pair_at, refusal_rest, rule_rest, response_rest, span_at, absent_at, found_at, committed_at, rows_at, tidied_at, built_at, view_at}
+use Rattle.mt_wire.specs.Reading.{◌>>=◌, byte_at, number_at, key_at, kind_at}
+use Rattle.mt_wire.proofs.ResponseReading.{counted16_at, sum_at, row_at, index_key_at, pair_at, refusal_rest, rule_rest, response_rest, span_at, absent_at, found_at, committed_at, rows_at, tidied_at, built_at, view_at}
 use Rattle.mt_wire.proofs.Exact.{IsBytes, Takes, IsExact, bind_some, some_is, wide64, both_exact, made_takes, made_again, made_exact, kind_exact, nothing_exact, number_exact, key_exact, short_exact, counted_exact, counted16_exact}
 
 abbrev n64 : IsExact ℕ (λ n. n < 2 ^ 64) (λ n. to_be_bytes w64 n) (number_at w64)

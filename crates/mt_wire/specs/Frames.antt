@@ -82,15 +82,6 @@ FaultStands faults.BadBody bytes =
     × ((frame : Frame Query) (rest : List ℕ) → RequestsFit frame → bytes ≡ request_frame frame ++ rest → ⊥)
 FaultStands faults.NoMemory bytes = ⊥
 
--- the fault of bytes that are no frame of replies
-abbrev pub ReplyFaultStands : WireFault → List ℕ → Type 0
-ReplyFaultStands faults.BadLength bytes = ¬ IsOneFrame MAX_REPLY_BODY bytes
-ReplyFaultStands faults.BadVersion bytes = IsOneFrame MAX_REPLY_BODY bytes × (told_version bytes ≡ None)
-ReplyFaultStands faults.BadBody bytes =
-    IsOneFrame MAX_REPLY_BODY bytes × IsSome (told_version bytes)
-    × ((frame : Frame Response) → RepliesFit frame → bytes ≡ reply_frame frame → ⊥)
-ReplyFaultStands faults.NoMemory bytes = ⊥
-
 -- what a decoder keeps: the bytes that are not read yet, and the fault at which it has stopped
 pub record Kept : Type 0 where
   pub bytes : List ℕ

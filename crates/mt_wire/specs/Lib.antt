@@ -10,4 +10,3 @@ pub mod Reading
 pub mod Bodies
 pub mod KeptFields
 pub mod Laws
-pub mod Streams

@@ -40,7 +40,7 @@ impl Model for Decoder {
 }
 
 // The length that the first four bytes announce.
-pub(crate) fn announced_in(bytes: &[u8]) -> usize
+fn announced_in(bytes: &[u8]) -> usize
     requires { 4 ≤ length bytes.now }
     ensures { result ≡ announced bytes.now }
 {

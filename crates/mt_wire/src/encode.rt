@@ -32,7 +32,7 @@ fn put_length(out: &mut Vec<u8>, len: u32)
     out[3] = fourth;
 }
 
-// A body behind four bytes, over what was there.
+// A body after four bytes, over what was there.
 fn body<T: Writable>(
     out: &mut Vec<u8>,
     version: WireVersion,

@@ -14,10 +14,10 @@ pub enum WireFault {
     #[error("the length of a frame is out of its bounds")]
     BadLength,
     /// The first byte of a frame's body is not a version.
-    #[error("a frame has another version")]
+    #[error("a frame has an unknown version")]
     BadVersion,
     /// A frame's body does not spell messages of its version.
-    #[error("a frame spells no messages")]
+    #[error("the body of a frame is not a list of messages")]
     BadBody,
     /// A growth was refused.
     #[error("out of memory")]

@@ -1,4 +1,4 @@
-//! The wire: frames of queries and of answers as bytes, both ways.
+//! The wire: frames of queries, read from bytes and written, and frames of answers, written.
 //!
 //! A call costs O(n) in the bytes that it reads or writes.
 #![tactic(auto)]
@@ -14,10 +14,7 @@ pub mod query;
 mod query_reading;
 mod query_writing;
 mod reading;
-pub mod replies;
 pub mod response;
-mod response_reading;
 mod response_writing;
-pub mod stream;
 pub mod version;
 mod writing;

@@ -18,8 +18,8 @@ use Rattle.mt_scan.specs.Listed.{list_of}
 use Rattle.mt_scan.specs.Onward.{GoesFrom, GoesOnward, all_cursors, cursor_of}
 use Rattle.mt_scan.specs.declared.scan.ScanMove.{ScanMove}
 use Rattle.mt_scan.specs.declared.scan.ScanMove.TheVariants.{Done, To as VisitedTo, Top}
-use Rattle.mt_build.specs.Build.{BuildView, build_cursor, ComesTo, VisitsOn}
-use Rattle.mt_build.proofs.ReadLemmas.{restarts_keep, ways_keep}
+use Rattle.mt_works.specs.Build.{BuildView, build_cursor, ComesTo, VisitsOn}
+use Rattle.mt_works.proofs.ReadLemmas.{restarts_keep, ways_keep}
 use Rattle.mt_steps.specs.Reader.{MayRead, IsReader, wants}
 use Rattle.mt_steps.specs.Listing.{Listing}
 use Rattle.mt_steps.specs.declared.reader.Reader.TheVariants.{Begins}

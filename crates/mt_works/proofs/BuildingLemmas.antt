@@ -6,8 +6,8 @@ use Rattle.mt_arena.specs.Arena.{ArenaView}
 use Rattle.mt_chart.specs.Tree.{Arena}
 use Rattle.mt_chart.proofs.HeldNodes.{evolves_same}
 use Rattle.mt_tree.specs.Seen.{arena_seen}
-use Rattle.mt_build.specs.Build.{BuildView, IsScanning}
-use Rattle.mt_build.proofs.ReadLemmas.{others_keep}
+use Rattle.mt_works.specs.Build.{BuildView, IsScanning}
+use Rattle.mt_works.proofs.ReadLemmas.{others_keep}
 use Rattle.mt_steps.specs.declared.progress.Progress.TheVariants.{Moved, Waits, Refused}
 use Rattle.mt_steps.specs.declared.reader.Reader.TheVariants.{Begins}
 use Rattle.mt_steps.specs.World.{World, IsWorld, AreOfKeys}

@@ -1,3 +1,7 @@
+-- Lemmas on what a build reads, by rows, by the tree, and of the keys of a view; then on the calls.
+pub mod HistoryLemmas
+pub mod PrefixLemmas
+pub mod ReadLemmas
 pub mod BuildingLemmas
 pub mod BuildSteps
 pub mod WorkLemmas

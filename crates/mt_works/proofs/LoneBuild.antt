@@ -14,7 +14,7 @@ use Rattle.mt_scan.specs.Listed.{list_of}
 use Rattle.mt_scan.specs.Onward.{LeadsOn}
 use Rattle.mt_scan.specs.declared.scan.ScanMove.{ScanMove}
 use Rattle.mt_scan.specs.declared.scan.ScanMove.TheVariants.{Done, To, Top}
-use Rattle.mt_build.specs.Build.{BuildView, build_cursor}
+use Rattle.mt_works.specs.Build.{BuildView, build_cursor}
 use Rattle.mt_view.specs.State.{StateView}
 use Rattle.mt_steps.specs.declared.progress.Progress.{Progress}
 use Rattle.mt_steps.specs.declared.progress.Progress.TheVariants.{Moved, Waits, Refused}

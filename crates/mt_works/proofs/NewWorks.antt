@@ -5,7 +5,7 @@ use Rattle.mt_tree.specs.Seen.{arena_seen}
 use Rattle.mt_works.specs.declared.work.Work.TheVariants.{Get as GetWork, Range as RangeWork, Tidy as TidyWork, Build as BuildWork}
 use Rattle.mt_chart.specs.Tree.{Arena}
 use Rattle.mt_chart.specs.Chart.{Chart, IsTree}
-use Rattle.mt_build.specs.Build.{BuildView, IsScanning}
+use Rattle.mt_works.specs.Build.{BuildView, IsScanning}
 use Rattle.mt_types.specs.Rows.{shown}
 use Rattle.mt_slice.specs.Place.{place_of}
 use Rattle.mt_chart.specs.ScanRun.{Stood, AllHave}

@@ -9,8 +9,8 @@ use Rattle.mt_arena.specs.Arena.{ArenaView}
 use Rattle.mt_chart.specs.Tree.{Arena, Among}
 use Rattle.mt_chart.specs.Chart.{Evolves}
 use Rattle.mt_tree.specs.Seen.{arena_seen}
-use Rattle.mt_build.specs.Build.{BuildView}
-use Rattle.mt_build.proofs.ReadLemmas.{others_keep}
+use Rattle.mt_works.specs.Build.{BuildView}
+use Rattle.mt_works.proofs.ReadLemmas.{others_keep}
 use Rattle.mt_steps.specs.declared.getting.Get.{Get}
 use Rattle.mt_steps.proofs.GetStays.{get_stays}
 use Rattle.mt_steps.proofs.ListStays.{keys_later, listing_stays, range_stays}

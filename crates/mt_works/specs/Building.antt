@@ -18,7 +18,7 @@ use Rattle.mt_scan.specs.Onward.{GoesFrom, GoesOnward, all_cursors, cursor_of}
 use Rattle.mt_scan.specs.Scan.{HoldsKeys}
 use Rattle.mt_scan.specs.declared.scan.ScanMove.{ScanMove}
 use Rattle.mt_scan.specs.declared.scan.ScanMove.TheVariants.{Done as VisitDone, To as VisitTo, Top as VisitTop}
-use Rattle.mt_build.specs.Build.{BuildView, build_cursor, IsScanning, HasScanned, VisitsOn}
+use Rattle.mt_works.specs.Build.{BuildView, build_cursor, IsScanning, HasScanned, VisitsOn}
 use Rattle.mt_steps.specs.Reader.{wants}
 use Rattle.mt_steps.specs.declared.progress.Progress.{Progress}
 use Rattle.mt_steps.specs.declared.progress.Progress.TheVariants.{Moved, Waits, Refused}

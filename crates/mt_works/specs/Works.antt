@@ -110,6 +110,16 @@ pub record IsNew (C number : ℕ) (work : Work) : Type 0 where
   pub true : (a : ArenaView) (now begun : ℕ) (w : World) → IsWorld a now w → IsTrue C work begun 0 [] a w
   pub opens : OpensAt C number work
 
+-- the key that a request names first is not too long
+abbrev pub KeyFits : Request → Type 0
+KeyFits (GetRequest key columns) = length key ≤ MAX_KEY_BYTES
+KeyFits (PutRequest key sets) = length key ≤ MAX_KEY_BYTES
+KeyFits (PutIfRequest key sets version) = length key ≤ MAX_KEY_BYTES
+KeyFits (RemoveRequest key) = length key ≤ MAX_KEY_BYTES
+KeyFits (RangeRequest start limit columns) = length start ≤ MAX_KEY_BYTES
+KeyFits (TidyRequest key) = length key ≤ MAX_KEY_BYTES
+KeyFits (BuildRequest spec) = Unit {0}
+
 -- a put or a remove
 abbrev pub is_write : Request → Bool
 is_write (PutRequest key sets) = true

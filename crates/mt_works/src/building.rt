@@ -14,7 +14,7 @@ ghost use Rattle.mt_steps.specs.Causes.{ReadFails};
 ghost use Rattle.mt_steps.specs.Reader.{FindsAt};
 ghost use Rattle.mt_works.specs.Building.{building_request, BuildingIsTrue, BuildingLaw, IsBuilt, IsInLog, BuildsOn, BuildFollows, BuildLists, BuildDoes, MayScan, BuildReads, BuildTakes, BuildWaits, BuildFails, OnlyForMemory};
 
-use mt_build::build::Build;
+use crate::build::Build;
 use mt_commit::log::Log;
 use mt_scan::ScanMove;
 use mt_steps::listing::{ListReading, Listed, Listing, read};
@@ -49,8 +49,8 @@ impl Building {
         }
     }
 
-    /// Reads one field of the border at which it is, or visits the head or interior node at which it is, and is lent
-    /// that node only; or takes the next delta, once it has scanned all.
+    /// Reads one field of the border at which it is, or visits the head or interior node at which it is: what it does
+    /// follows from that alone. Or, after it has scanned all, it takes the next delta.
     pub fn step(&mut self, alloc: Global, tree: &Tree, log: &Log) -> Progress
         requires may { MayStep tree.now log.now nothing (BuildingIsTrue self.old) }
         requires next { IsInLog log.now self.old.build.state.at self.old.upto }

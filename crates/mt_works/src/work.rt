@@ -1,6 +1,7 @@
 //! The kinds of calls.
 
-ghost use Rattle.std.specs.Prelude.{◌≡◌, ◌↔◌, ℕ, IfOk, true, IsTrue as IsTrueBool};
+ghost use Rattle.std.specs.Prelude.{◌≡◌, ◌↔◌, ◌≤◌, ℕ, length, IfOk, true, IsTrue as IsTrueBool};
+ghost use Rattle.mt_types.specs.declared.limits.TheConstants.{MAX_KEY_BYTES};
 ghost use Rattle.mt_types.specs.declared.event.Request.TheVariants.{Range as RangeRequest, Build as BuildRequest};
 ghost use Rattle.mt_promise.specs.Legal.{reads_log, is_build};
 ghost use Rattle.mt_steps.specs.Step.{StepLawIn};
@@ -8,11 +9,11 @@ ghost use Rattle.mt_steps.specs.Ranging.{range_request};
 ghost use Rattle.mt_works.specs.Building.{building_request};
 ghost use Rattle.mt_works.specs.Causes.{WorkWaits, WorkFails};
 ghost use Rattle.mt_works.specs.Follows.{WorkFollows, WorkReads, WorkPosts};
-ghost use Rattle.mt_works.specs.Works.{request_of, held, is_write, IsTrue, IsKey, IsNew, MayWork, IsBuiltWork, HasNext, WorkBuilds};
+ghost use Rattle.mt_works.specs.Works.{request_of, held, is_write, KeyFits, IsTrue, IsKey, IsNew, MayWork, IsBuiltWork, HasNext, WorkBuilds};
 
+use crate::build::Build;
 use crate::building::Building;
 use bytes::Bytes;
-use mt_build::build::Build;
 use mt_commit::log::Log;
 use mt_remove::tidy::Tidy;
 use mt_scan::Scan;
@@ -67,8 +68,8 @@ impl Work {
     }
 
     /// Makes one step. `epoch` is the present epoch. A call visits one head or interior node, or reads one field of a
-    /// border; a put or remove locks the border first. A build that has scanned its keys takes one delta. A tidy visits
-    /// one node, as does a put that splits a border or makes a layer.
+    /// border; a put or remove locks the border first. A build that has scanned its keys takes one delta. A tidy, and
+    /// a put that splits a border or makes a layer, changes at most one node that others may read.
     pub fn step(
         &mut self,
         alloc: Global,
@@ -104,16 +105,17 @@ impl Work {
     }
 }
 
-// Returns the key of these bytes, which are few enough: the begin of a call tests that.
-fn key_of(bytes: Bytes) -> Result<Key, NoMemory>
-    ensures value { IfOk result (λ key. key ≡ bytes) }
-    ensures key { IfOk result IsKey }
+// Returns the key of these bytes.
+fn key_of(bytes: Bytes) -> Key
+    requires { length bytes ≤ MAX_KEY_BYTES }
+    ensures value { result ≡ bytes }
+    ensures key { IsKey result }
 {
     let Ok(key) = Key::new(bytes) else {
-        return Err(NoMemory);
+        unreachable!()
     };
     let _key = rest_of(&key, 0);
-    Ok(key)
+    key
 }
 
 // A put or remove on its way.
@@ -175,47 +177,45 @@ fn new_building(
     })
 }
 
-/// Returns the work of a put or remove with this request, whose key is not too long. The request is moved into the work,
-/// and nothing is allocated.
-///
-/// # Errors
-///
-/// `NoMemory` if the key is too long: the begin of a call tests that.
-pub fn write_of(request: Request) -> Result<Write, NoMemory>
-    requires { is_write request ≡ true }
-    ensures request { IfOk result (λ write. request_of (Work.Write write) ≡ request) }
-    ensures new { IfOk result (λ write. (C number : ℕ) → IsNew C number (Work.Write write)) }
+/// Returns the work of a put or remove with this request, whose key is not too long. The request is moved into the work, and
+/// nothing is allocated.
+pub fn write_of(request: Request) -> Write
+    requires write { is_write request ≡ true }
+    requires fits { KeyFits request }
+    ensures request { request_of (Work.Write result) ≡ request }
+    ensures new { (C number : ℕ) → IsNew C number (Work.Write result) }
 {
     match request {
         Request::Put { key, sets } => {
             let edit = Edit::Put { sets, only: None };
-            Ok(new_write(key_of(key)?, edit))
+            new_write(key_of(key), edit)
         }
         Request::PutIf { key, sets, version } => {
             let edit = Edit::Put {
                 sets,
                 only: Some(version),
             };
-            Ok(new_write(key_of(key)?, edit))
+            new_write(key_of(key), edit)
         }
-        Request::Remove { key } => Ok(new_write(key_of(key)?, Edit::Remove)),
+        Request::Remove { key } => new_write(key_of(key), Edit::Remove),
         _ => unreachable!(),
     }
 }
 
-/// Returns the work of a call with this request, whose keys are not too long, and which begins after `number` commits.
+/// Returns the work of a call with this request, whose key is not too long, and which begins after `number` commits.
 /// The request is moved into the work: for a get, put, remove or tidy nothing is allocated.
 ///
 /// # Errors
 ///
-/// `NoMemory` if an allocation is refused, or if a key is too long: the begin of a call tests that.
+/// `NoMemory` if an allocation is refused.
 pub fn work_of(alloc: Global, columns: u8, number: u64, request: Request) -> Result<Work, NoMemory>
+    requires { KeyFits request }
     ensures request { IfOk result (λ work. request_of work ≡ request) }
     ensures new { IfOk result (IsNew columns number) }
 {
     match request {
         Request::Get { key, columns } => Ok(Work::Get(Get {
-            key: key_of(key)?,
+            key: key_of(key),
             columns,
             way: START,
             finding: Reader::Begins,
@@ -224,9 +224,9 @@ pub fn work_of(alloc: Global, columns: u8, number: u64, request: Request) -> Res
             start,
             limit,
             columns,
-        } => Ok(Work::Range(new_range(alloc, key_of(start)?, limit, columns)?)),
-        Request::Tidy { key } => Ok(Work::Tidy(Tidy::new(key_of(key)?))),
+        } => Ok(Work::Range(new_range(alloc, key_of(start), limit, columns)?)),
+        Request::Tidy { key } => Ok(Work::Tidy(Tidy::new(key_of(key)))),
         Request::Build { spec } => Ok(Work::Build(new_building(alloc, columns, number, spec)?)),
-        write => Ok(Work::Write(write_of(write)?)),
+        write => Ok(Work::Write(write_of(write))),
     }
 }

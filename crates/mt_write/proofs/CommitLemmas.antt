@@ -19,6 +19,7 @@ use Rattle.mt_arena.specs.Node.{border_at}
 use Rattle.mt_arena.specs.Arena.{ArenaView, with_border_changed}
 use Rattle.mt_chart.specs.Tree.{first, Has}
 use Rattle.mt_chart.specs.Chart.{Spot}
+use Rattle.mt_tree.specs.Fields.{BorderChanges}
 use Rattle.mt_tree.specs.Seen.{arena_seen, border_seen, entry_place}
 use Rattle.mt_tree.specs.Keeping.{KeepsTree, IsOnIn, IsIndexAt}
 use Rattle.mt_tree.specs.Descent.{found_for, row_found}
@@ -32,7 +33,7 @@ use Rattle.mt_write.specs.declared.writing.Halves.{Halves}
 use Rattle.mt_steps.specs.declared.entering.There.{There}
 use Rattle.mt_steps.specs.declared.progress.Progress.{Progress}
 use Rattle.mt_steps.specs.declared.progress.Progress.TheVariants.{Moved, Committed, Answered, Refused}
-use Rattle.mt_steps.specs.World.{World, IsWorld, RowsAreOfKeys, Goes}
+use Rattle.mt_steps.specs.World.{World, IsWorld, RowsAreOfKeys, Goes, GoesBy}
 use Rattle.mt_steps.specs.Way.{rest_of, prefix_of, IsLayerOf}
 use Rattle.mt_steps.specs.Step.{Held, Truth, StepLaw, RowIs, IsQuiet, put_row, Commits, Changes, blocked_by, bounds, MayRefuse, TellsVersion, IsRight}
 use Rattle.mt_write.specs.Causes.{version_fault}
@@ -146,9 +147,9 @@ module _ (C : ℕ) (a : ArenaView) (log : LogView) (key : List ℕ) (edit : Edit
         (appended ∙ (ap (λ (n : ℕ). with_delta log (put_delta n stored None logged)) (sym next) ∙ (ap (λ (k : List ℕ). with_delta log (put_delta number k None logged)) f.stored_is
         ∙ ap (λ (c : List (List ℕ)). with_delta log (put_delta number key None c)) f.columns))) in
         record {
-          goes = subst (λ (x : ArenaView). Goes now a x w (owned way.node.0 split) (owned way.node.0 split) (λ next. StageIsTrue C key edit way (Stored number split) begun after next)) (sym is)
+          goes = subst (λ (x : ArenaView). GoesBy (Some number) now a x w (owned way.node.0 split) (owned way.node.0 split) (λ next. StageIsTrue C key edit way (Stored number split) begun after next)) (sym is)
               (goes_border a way.node.0 b show at.named now w (owned way.node.0 split) (owned way.node.0 split) _ world
-              (λ known. (ages_shown b f.sound (f.shows commit).room place commit (ap first_held f.unused ∙ f.fresh) at.written, inr refl))
+              (λ known. (subst (λ (m : ℕ). BorderChanges (Some m) b (show b)) (sym next) (ages_shown b f.sound (f.shows commit).room place commit (ap first_held f.unused ∙ f.fresh) at.written), inr refl))
               (subst (λ (x : ArenaView). IsIndexAt x now w.twins w.chart) is adds.0)
               (subst (λ (x : ArenaView). RowsAreOfKeys x) is (keys_changed a after log left key None (Some (put_row C number p.sets None)) number done world.keys)) (mine_free a way.node.0 w (owned way.node.0 split) has.own) (λ other i. inl i) (λ other ne i. i) (λ locked. has.own) (locked_may a way.node.0 b show at.named now w world at.locked at.free (inr at.alive))
               (subst (λ (x : ArenaView). HasLocked (prefix_of key way) x w way.node.0 split) (sym is) (has_changed (prefix_of key way) a way.node.0 b show at.named w split at.locked at.alive at.written refl has)));
@@ -189,7 +190,7 @@ module _ (C : ℕ) (a : ArenaView) (log : LogView) (key : List ℕ) (edit : Edit
         (appended ∙ (ap (λ (n : ℕ). with_delta log (put_delta n stored (row_at place b.live) logged)) (sym next) ∙ (ap (λ (k : List ℕ). with_delta log (put_delta number k (row_at place b.live) logged)) f.stored_is
         ∙ ap (λ (c : List (List ℕ)). with_delta log (put_delta number key (row_at place b.live) c)) (f.copied ∙ f.made)))) in
         record {
-          goes = subst (λ (x : ArenaView). Goes now a x w (way.node.0 ∷ []) (way.node.0 ∷ []) (λ next. StageIsTrue C key edit way (Stored number None) begun after next)) (sym is)
+          goes = subst (λ (x : ArenaView). GoesBy (Some number) now a x w (way.node.0 ∷ []) (way.node.0 ∷ []) (λ next. StageIsTrue C key edit way (Stored number None) begun after next)) (sym is)
               (goes_border a way.node.0 b write at.named now w (way.node.0 ∷ []) (way.node.0 ∷ []) _ world
               (λ known. (ages_value b f.sound place (slice_get_within b.live place e.entry e.stands) row, inr refl))
               (subst (λ (x : ArenaView). IsIndexAt x now w.twins w.chart) is replaces.0)
@@ -223,7 +224,7 @@ module _ (C : ℕ) (a : ArenaView) (log : LogView) (key : List ℕ) (edit : Edit
         next
         (appended ∙ (ap (λ (n : ℕ). with_delta log (remove_delta n stored before)) (sym next) ∙ ap (λ (k : List ℕ). with_delta log (remove_delta number k before)) f.stored_is)) in
         record {
-          goes = subst (λ (x : ArenaView). Goes now a x w (way.node.0 ∷ []) (way.node.0 ∷ []) (λ next. StageIsTrue C key edit way (Stored number None) begun after next)) (sym is)
+          goes = subst (λ (x : ArenaView). GoesBy (Some number) now a x w (way.node.0 ∷ []) (way.node.0 ∷ []) (λ next. StageIsTrue C key edit way (Stored number None) begun after next)) (sym is)
               (goes_border a way.node.0 b hide at.named now w (way.node.0 ∷ []) (way.node.0 ∷ []) _ world (λ known. (ages_hidden b place at.written, inr refl)) (subst (λ (x : ArenaView). IsIndexAt x now w.twins w.chart) is removes.0)
               (subst (λ (x : ArenaView). RowsAreOfKeys x) is (keys_changed a after log left key (Some before) None number done world.keys)) (own_free a way.node.0 w) (λ other i. inl i) (λ other ne i. i) (λ locked. first) (locked_may a way.node.0 b hide at.named now w world at.locked at.free (inr at.alive))
               (subst (λ (x : ArenaView). HasLocked (prefix_of key way) x w way.node.0 None) (sym is) (has_changed (prefix_of key way) a way.node.0 b hide at.named w None at.locked at.alive at.written refl (alone a key way b w at))));

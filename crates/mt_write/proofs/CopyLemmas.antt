@@ -179,12 +179,12 @@ module _ (C : ℕ) (a : ArenaView) (log : LogView) (key : List ℕ) (edit : Edit
       go b at flagged cut_at s read p count is some (cut + length copies == SLOTS) refl
     where
       go : (b : BorderView) → IsLockedAt a key way b w → b.version.splitting ≡ true → (c : IsCutAt key way b cut place) → IsSpare a w half.0 (empty_half b c.middle) → IsRead b outline → PutsNew edit → length copies ≡ length entries + 1 → copies ≡ take (length copies) (drop cut b.live) → cut + length entries < SLOTS
-          → (all : Bool) → (cut + length copies == SLOTS) ≡ all → StageIsTrue C key edit way (if all then Spared half cut place copies else Copies half cut place outline copies) begun a w
+          → (all : Bool) → (cut + length copies == SLOTS) ≡ all → StageIsTrue C key edit way (if all then Spared half cut place outline.right copies else Copies half cut place outline copies) begun a w
       go b at flagged c s read p count is some true last =
           let all : cut + length copies ≡ SLOTS = eqb-true (cut + length copies) SLOTS last in
           let long : length (drop cut b.live) ≡ length b.live - cut = length-drop cut b.live in
           let full = c.full in
-          (b, at, flagged, c, s, is ∙ take_all (length copies) (drop cut b.live) (omega (arith, all, long, full)), p)
+          (b, at, flagged, c, s, is ∙ take_all (length copies) (drop cut b.live) (omega (arith, all, long, full)), p, sym read.right)
       go b at flagged c s read p count is some false more =
           let other : cut + length copies ≢ SLOTS = λ e. (let clash : true ≡ false = sym (eq-eqb (cut + length copies) SLOTS e) ∙ more in absurd (cc)) in
           (b, at, flagged, c, s, read, record { first = is; some = omega (arith, other, count, some) }, p)
@@ -192,7 +192,7 @@ module _ (C : ℕ) (a : ArenaView) (log : LogView) (key : List ℕ) (edit : Edit
   copied_held : (copies : List Entry) → stage_held way.node.0 (copied_stage half cut place outline copies) ≡ stage_held way.node.0 (Copies half cut place outline entries)
   copied_held copies = go (cut + length copies == SLOTS)
     where
-      go : (all : Bool) → stage_held way.node.0 (if all then Spared half cut place copies else Copies half cut place outline copies) ≡ stage_held way.node.0 (Copies half cut place outline entries)
+      go : (all : Bool) → stage_held way.node.0 (if all then Spared half cut place outline.right copies else Copies half cut place outline copies) ≡ stage_held way.node.0 (Copies half cut place outline entries)
       go true = refl
       go false = refl
 
@@ -222,7 +222,7 @@ module _ (C : ℕ) (a : ArenaView) (log : LogView) (key : List ℕ) (edit : Edit
 copied_fails : (half : NodeNo) (cut place : ℕ) (outline : Outline) (copies : List Entry) → FailsCopying (copied_stage half cut place outline copies)
 copied_fails half cut place outline copies = go (cut + length copies == SLOTS)
   where
-    go : (all : Bool) → FailsCopying (if all then Spared half cut place copies else Copies half cut place outline copies)
+    go : (all : Bool) → FailsCopying (if all then Spared half cut place outline.right copies else Copies half cut place outline copies)
     go true = tt
     go false = tt
 

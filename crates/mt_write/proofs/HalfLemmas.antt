@@ -68,17 +68,18 @@ module _ (C : ℕ) (a : ArenaView) (log : LogView) (key : List ℕ) (edit : Edit
   differ b u w at s e = (let clash : ◌≡◌ {A = Option Spot} None (Some (spot (at_level 0) (prefix_of key way) b.low (on at.stands.stands.posted))) = sym s.unknown ∙ (ap w.chart (sym e) ∙ at.stands.stands.place) in cc)
 
   -- ---- the half is filled
-  pub fills_half : (entries : List Entry) (after : ArenaView) → IsSomeAnd (border_at a.nodes n) (λ b. after ≡ with_border_changed a half.0 (λ spare. with_entries spare entries b.right)) → KeepsUnknown a after half.0
-      → StepLaw C a after log log (edit_request key edit) (stage_held n (Spared half cut place entries)) Moved (stage_held n (HalfFilled half cut place)) (λ begun moves past x w. StageIsTrue C key edit way (Spared half cut place entries) begun x w) (λ begun moves past x w. StageIsTrue C key edit way (HalfFilled half cut place) begun x w)
-  fills_half entries after filled keeps = record {
+  pub fills_half : (right : Option RightLink) (entries : List Entry) (after : ArenaView) → after ≡ with_border_changed a half.0 (λ spare. with_entries spare entries right) → KeepsUnknown a after half.0
+      → StepLaw C a after log log (edit_request key edit) (stage_held n (Spared half cut place right entries)) Moved (stage_held n (HalfFilled half cut place)) (λ begun moves past x w. StageIsTrue C key edit way (Spared half cut place right entries) begun x w) (λ begun moves past x w. StageIsTrue C key edit way (HalfFilled half cut place) begun x w)
+  fills_half right entries after filled keeps = record {
     steps = λ now begun moves past w world before truth.
-        let (b, at, flagged, c, s, copied, p) = truth in
-        let is : after ≡ with_border_changed a half.0 (λ spare. with_entries spare entries b.right) = some_at _ (border_at a.nodes n) b filled at.named in
+        let (b, at, flagged, c, s, copied, p, noted) = truth in
+        let is : after ≡ with_border_changed a half.0 (λ spare. with_entries spare entries b.right) =
+        subst (λ (r : Option RightLink). after ≡ with_border_changed a half.0 (λ spare. with_entries spare entries r)) (sym noted) filled in
         let change : BorderView → BorderView = λ x. with_entries x entries b.right in
         let new : ArenaView = with_border_changed a half.0 change in
         let made : change (empty_half b c.middle) ≡ upper_half b cut c.middle = ap (λ (es : List Entry). with_entries (empty_half b c.middle) es b.right) copied in
         let keeps_new : KeepsUnknown a new half.0 = subst (λ (x : ArenaView). KeepsUnknown a x half.0) is keeps in
-        subst (λ (x : ArenaView). Stepped C now moves past a x log log w (edit_request key edit) (stage_held n (Spared half cut place entries)) Moved (stage_held n (HalfFilled half cut place)) (λ m next. StageIsTrue C key edit way (HalfFilled half cut place) begun x next)) (sym is) (quiet_step key edit
+        subst (λ (x : ArenaView). Stepped C now moves past a x log log w (edit_request key edit) (stage_held n (Spared half cut place right entries)) Moved (stage_held n (HalfFilled half cut place)) (λ m next. StageIsTrue C key edit way (HalfFilled half cut place) begun x next)) (sym is) (quiet_step key edit
         (goes_filled now a w half.0 (empty_half b c.middle) change (half.0 ∷ n ∷ []) _ s.named keeps_new first s.unknown (λ i. refl) world (
           b,
           locked_at_stays a new w w key way b (record { node = others_named a half.0 (empty_half b c.middle) change s.named n (differ b (empty_half b c.middle) w at s); spot = refl; twins = λ one other here. ((λ h. h), (λ h. h)); closing = λ i. i; retired = ((λ h. h), (λ h. h)) }) at,
@@ -298,11 +299,11 @@ half_prefix a key way goal half cut place there either =
 
 -- ---- what the calls of a step ask for
 module _ (C begun : ℕ) (a : ArenaView) (w : World) (key : List ℕ) (edit : Edit) (way : Way) (half : NodeNo) (cut place : ℕ) where
-  pub spared_fill : (entries : List Entry) → StageIsTrue C key edit way (Spared half cut place entries) begun a w → IsSomeAnd (border_at a.nodes way.node.0) (λ b. IsSomeAnd (border_at a.nodes half.0) (λ spare. MayFill spare entries b.right))
-  spared_fill entries truth =
-      let (b, at, flagged, c, s, copied, p) = truth in
-      subst (λ (o : Option BorderView). IsSomeAnd o (λ x. IsSomeAnd (border_at a.nodes half.0) (λ spare. MayFill spare entries x.right))) (sym at.named)
-      (subst (λ (o : Option BorderView). IsSomeAnd o (λ spare. MayFill spare entries b.right)) (sym s.named)
+  pub spared_fill : (right : Option RightLink) (entries : List Entry) → StageIsTrue C key edit way (Spared half cut place right entries) begun a w → IsSomeAnd (border_at a.nodes half.0) (λ spare. MayFill spare entries right)
+  spared_fill right entries truth =
+      let (b, at, flagged, c, s, copied, p, noted) = truth in
+      subst (λ (o : Option BorderView). IsSomeAnd o (λ spare. MayFill spare entries right)) (sym s.named)
+      (subst (λ (r : Option RightLink). MayFill (empty_half b c.middle) entries r) noted
       (subst (λ (es : List Entry). MayFill (empty_half b c.middle) es b.right) (sym copied) (half_may_fill key edit way b cut place c)))
 
   pub filled_link : StageIsTrue C key edit way (HalfFilled half cut place) begun a w → IsSomeAnd (border_at a.nodes way.node.0) (λ b. IsSomeAnd (border_at a.nodes half.0) (λ upper. IsUpperHalf b upper cut))

@@ -1,5 +1,5 @@
 -- The writes of a new key at the border that its call has locked: its key, and then its row.
-use Rattle.std.proofs.Common.{ℕ, ◌≡◌, ◌<◌, ◌≤◌, inl, inr, List, length, drop, Option, Some, true, false, refl, sym, ap, subst, arith}
+use Rattle.std.proofs.Common.{ℕ, ◌≡◌, ◌<◌, ◌≤◌, inl, inr, List, length, drop, Option, Some, None, true, false, refl, sym, ap, subst, arith}
 use Rattle.std.specs.Prelude.{IsSomeAnd}
 use Rattle.std.specs.Option.{option_map}
 use Rattle.mt_types.specs.declared.row.Row.{Row}
@@ -22,7 +22,7 @@ use Rattle.mt_arena.specs.Arena.{ArenaView, with_border_changed}
 use Rattle.mt_chart.specs.Tree.{Among, Below}
 use Rattle.mt_chart.specs.Steps.{SameContent}
 use Rattle.mt_tree.specs.Seen.{arena_seen, right_seen}
-use Rattle.mt_tree.specs.Fields.{BorderAges}
+use Rattle.mt_tree.specs.Fields.{BorderChanges}
 use Rattle.mt_tree.specs.Keeping.{IsIndexAt, KeepsTree}
 use Rattle.mt_tree.specs.BorderSteps.{AwaitsSome}
 use Rattle.mt_tree.proofs.AgeLemmas.{ages_filled, ages_keyed}
@@ -46,7 +46,7 @@ use Rattle.mt_write.proofs.WriteLemmas.{others_changed, others_written, owned_at
 
 -- ---- a change of the border of which the tree sees nothing
 module _ (a : ArenaView) (n : ℕ) (change : BorderView → BorderView) (after : ArenaView) (is : after ≡ with_border_changed a n change) (keeps : KeepsTree a after) where
-  pub goes_marked : (mine : List ℕ) (Then : World → Type 0) (now : ℕ) (w : World) (b : BorderView) (named : border_at a.nodes n ≡ Some b) → IsWorld a now w → BorderAges b (change b) → (change b).right ≡ b.right → b.version.locked ≡ true → (change b).version.deleted ≡ false → NotAmong n w.closing → Among n mine → Then w
+  pub goes_marked : (mine : List ℕ) (Then : World → Type 0) (now : ℕ) (w : World) (b : BorderView) (named : border_at a.nodes n ≡ Some b) → IsWorld a now w → BorderChanges None b (change b) → (change b).right ≡ b.right → b.version.locked ≡ true → (change b).version.deleted ≡ false → NotAmong n w.closing → Among n mine → Then w
       → Goes now a after w mine mine Then × SameContent (arena_seen a) (arena_seen after)
   goes_marked mine Then now w b named world ages right locked alive free own truth =
       let kept = keeps.keeps now w.twins w.chart world.index in (

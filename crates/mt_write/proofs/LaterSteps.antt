@@ -7,6 +7,7 @@ use Rattle.mt_types.specs.declared.event.Answer.{Answer}
 use Rattle.mt_commit.specs.Log.{LogView}
 use Rattle.mt_border.specs.Border.{BorderView, with_entries, with_unstable, with_link_at, with_unlocked, with_half_linked, with_written}
 use Rattle.mt_border.specs.declared.entry.Entry.{Entry}
+use Rattle.mt_border.specs.declared.entry.RightLink.{RightLink}
 use Rattle.mt_interior.specs.Head.{with_lock as with_head_lock}
 use Rattle.mt_arena.specs.Node.{border_at}
 use Rattle.mt_arena.specs.Arena.{ArenaView, with_border_changed, with_head_changed}
@@ -82,10 +83,10 @@ ends_so posting (EndStored commit) = tt
 ends_so posting (EndFailed refusal) = tt
 
 module _ (a after : ArenaView) (write : Write) where
-  pub fills_spared : (half : NodeNo) (cut place : ℕ) (entries : List Entry) → IsSomeAnd (border_at a.nodes write.way.node.0) (λ b. after ≡ with_border_changed a half.0 (λ spare. with_entries spare entries b.right)) → KeepsUnknown a after half.0
-      → TreeStep a after write (Spared half cut place entries) Moved (record write { stage = HalfFilled half cut place })
-  fills_spared half cut place entries filled keeps = λ C log.
-      leads C a after log log write (Spared half cut place entries) Moved (HalfFilled half cut place) write.way refl (fills_half C a log write.key write.edit write.way half cut place entries after filled keeps) tt (tt, tt) (refl, refl) refl tt
+  pub fills_spared : (half : NodeNo) (cut place : ℕ) (right : Option RightLink) (entries : List Entry) → after ≡ with_border_changed a half.0 (λ spare. with_entries spare entries right) → KeepsUnknown a after half.0
+      → TreeStep a after write (Spared half cut place right entries) Moved (record write { stage = HalfFilled half cut place })
+  fills_spared half cut place right entries filled keeps = λ C log.
+      leads C a after log log write (Spared half cut place right entries) Moved (HalfFilled half cut place) write.way refl (fills_half C a log write.key write.edit write.way half cut place right entries after filled keeps) tt (tt, tt) (refl, refl) refl tt
 
   pub links_half : (half : NodeNo) (cut place : ℕ) → IsSomeAnd (border_at a.nodes half.0) (λ upper. after ≡ with_border_changed a write.way.node.0 (λ b. with_half_linked b cut (record { low = upper.low; node = half }))) → LinksHalfAt a after write.way.node.0 half.0
       → TreeStep a after write (HalfFilled half cut place) Moved (record write { stage = HalfLinked half cut place })

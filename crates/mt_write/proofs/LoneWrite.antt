@@ -72,7 +72,7 @@ stage_left posting_left most a way (LayerLinked head) = times most (layer_left w
 stage_left posting_left most a way (Layered head) = times most (layer_left way.layer) + 2
 stage_left posting_left most a way (Copies half cut place outline entries) = most + (22 + (SLOTS - (cut + length entries)))
 stage_left posting_left most a way (GivesBack half) = 1
-stage_left posting_left most a way (Spared half cut place entries) = most + 21
+stage_left posting_left most a way (Spared half cut place right entries) = most + 21
 stage_left posting_left most a way (HalfFilled half cut place) = most + 20
 stage_left posting_left most a way (HalfLinked half cut place) = most + 19
 stage_left posting_left most a way (Halved split place) = most + 18
@@ -197,7 +197,7 @@ module _ (post_stands : ArenaView → World → Posting → Type 0) (posting_lef
       let count : length copies ≡ length entries + 1 = ap (λ (es : List Entry). length es) c.more ∙ length-append entries (c.entry ∷ []) in
       leads a after next key way way (Copies half cut place outline entries) new (copied_stage half cut place outline copies) is (go copies count (cut + length copies == SLOTS))
     where
-      go : (copies : List Entry) → length copies ≡ length entries + 1 → (all : Bool) → Nearer a after next key way (Copies half cut place outline entries) way (cond all (Spared half cut place copies) (Copies half cut place outline copies))
+      go : (copies : List Entry) → length copies ≡ length entries + 1 → (all : Bool) → Nearer a after next key way (Copies half cut place outline entries) way (cond all (Spared half cut place outline.right copies) (Copies half cut place outline copies))
       go copies count true = (tt, omega arith)
       go copies count false = (tt, omega (arith, some, count))
 
@@ -317,7 +317,7 @@ module _ (post_stands : ArenaView → World → Posting → Type 0) (posting_lef
         let (b, at, flagged, c, spare, read, are, p) = truth in
         stays a after next key way goal (Copies half cut place outline entries) new to (copied a after next key way half cut place outline entries new are.some copies)
     moved (GivesBack half) new truth then stands spots goes follows = absurd follows
-    moved (Spared half cut place entries) new truth then stands spots goes follows = stays_at a after next key way goal (Spared half cut place entries) new (HalfFilled half cut place) follows (tt, omega arith)
+    moved (Spared half cut place right entries) new truth then stands spots goes follows = stays_at a after next key way goal (Spared half cut place right entries) new (HalfFilled half cut place) follows (tt, omega arith)
     moved (HalfFilled half cut place) new truth then stands spots goes follows = stays_at a after next key way goal (HalfFilled half cut place) new (HalfLinked half cut place) follows (tt, omega arith)
     moved (HalfLinked half cut place) new truth then stands spots goes (there, is, layer) = leads a after next key way goal (HalfLinked half cut place) new _ is (tt, omega arith)
     moved (Halved split place) new truth then stands spots goes (ready, to) = stays a after next key way goal (Halved split place) new to (half_readied a after next key way split place new ready)

@@ -131,7 +131,7 @@ module _ (a : ArenaView) (w : World) where
   stage_no_head C begun key edit way (Searched there) (b, at, found) = one_more way.node.0 [] (of_border way.node.0 b at.named) no_others
   stage_no_head C begun key edit way (Copies half cut place outline entries) (b, at, f, c, spare, r, e, p) = one_more half.0 _ (of_border half.0 _ spare.named) (one_more way.node.0 [] (of_border way.node.0 b at.named) no_others)
   stage_no_head C begun key edit way (GivesBack half) (k, u, spare) = one_more half.0 _ (of_border half.0 _ spare.named) (one_more way.node.0 [] (of_border way.node.0 k.b k.named) no_others)
-  stage_no_head C begun key edit way (Spared half cut place entries) (b, at, f, c, spare, same, p) = one_more half.0 _ (of_border half.0 _ spare.named) (one_more way.node.0 [] (of_border way.node.0 b at.named) no_others)
+  stage_no_head C begun key edit way (Spared half cut place right entries) (b, at, f, c, spare, same, p, noted) = one_more half.0 _ (of_border half.0 _ spare.named) (one_more way.node.0 [] (of_border way.node.0 b at.named) no_others)
   stage_no_head C begun key edit way (HalfFilled half cut place) (b, at, f, c, spare, p) = one_more half.0 _ (of_border half.0 _ spare.named) (one_more way.node.0 [] (of_border way.node.0 b at.named) no_others)
   stage_no_head C begun key edit way (HalfLinked half cut place) (h, p) = one_more half.0 _ (of_border half.0 _ h.filled) (one_more way.node.0 [] (of_border way.node.0 _ h.named) no_others)
   stage_no_head C begun key edit way (Halved split place) (b, at, half, has, p) = halves_no_head (prefix_of key way) way.node.0 (Some split) has

@@ -17,7 +17,7 @@ use Rattle.mt_tree.specs.Keeping.{KeepsTree, IsIndexAt}
 use Rattle.mt_steps.specs.declared.way.Way.{Way}
 use Rattle.mt_steps.specs.declared.progress.Progress.{Progress}
 use Rattle.mt_steps.specs.declared.progress.Progress.TheVariants.{Moved, Waits, Committed, Answered, Refused}
-use Rattle.mt_steps.specs.World.{World, IsWorld, RowsAreOfKeys, NotAmong, Goes}
+use Rattle.mt_steps.specs.World.{World, IsWorld, RowsAreOfKeys, NotAmong, Goes, GoesBy}
 use Rattle.mt_steps.specs.Way.{prefix_of, IsHeadOf}
 use Rattle.mt_steps.specs.Step.{Held, Truth, StepLaw, ThenTrue, IsQuiet}
 use Rattle.mt_steps.proofs.BorderLemmas.{others_named, goes_border, locked_may, keys_same, mine_free, among_one}
@@ -44,7 +44,7 @@ use Rattle.mt_write.specs.declared.writing.Stage.TheVariants.{Seeks}
 use Rattle.mt_write.proofs.WriteLemmas.{seek_again, otherwise_tells, split_otherwise, quiet_step}
 
 -- ---- what is true of a call after a step, with more that lasts
-goes_more : (now : ℕ) (a after : ArenaView) (w : World) (owned owns : List ℕ) (Then More : World → Type 0) → (g : Goes now a after w owned owns Then) → (((begun : ℕ) → begun ≤ now → Evolves begun w.chart g.next.chart) → Then g.next → More g.next) → Goes now a after w owned owns More
+goes_more : {commit : Option ℕ} (now : ℕ) (a after : ArenaView) (w : World) (owned owns : List ℕ) (Then More : World → Type 0) → (g : GoesBy commit now a after w owned owns Then) → (((begun : ℕ) → begun ≤ now → Evolves begun w.chart g.next.chart) → Then g.next → More g.next) → GoesBy commit now a after w owned owns More
 goes_more now a after w owned owns Then More g more = record { next = g.next; world = g.world; evolves = g.evolves; leaves = g.leaves; takes = g.takes; spots = g.spots; age = g.age; true = more g.evolves g.true }
 
 then_more : (p : Progress) (moves : ℕ) (True More : ℕ → World → Type 0) (next : World) → ((m : ℕ) → True m next → More m next) → ThenTrue p moves True next → ThenTrue p moves More next

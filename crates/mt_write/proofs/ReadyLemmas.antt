@@ -110,7 +110,7 @@ module _ (C : ℕ) (a : ArenaView) (log : LogView) (key : List ℕ) (sets : List
         let same : f.b ≡ b = (let both : ◌≡◌ {A = Option BorderView} (Some f.b) (Some b) = sym f.named ∙ was.named in cc) in
         let at : IsLockedAt a key way f.b w = subst (λ (x : BorderView). IsLockedAt a key way x w) (sym same) was in
         let (goes, content) = half_goes now begun a after w key way half cut place outline f world at (λ next. StageIsTrue C key (PutEdit sets only) way (Copies half cut place outline entries) begun after next)
-        (λ at c s. (with_splitting f.b, at, refl, c, s, record { order = f.read.order; keys = f.read.keys }, none_copied f.b cut entries empty c.best.lawful.last, record { sets = sets; only = only; is_put = refl; agrees = subst (λ (o : Found). version_fault only (row_found f.b.live o) ≡ None) f.cut_at.absent (agrees f.b f.named) })) in
+        (λ at c s. (with_splitting f.b, at, refl, c, s, record { right = f.read.right; order = f.read.order; keys = f.read.keys }, none_copied f.b cut entries empty c.best.lawful.last, record { sets = sets; only = only; is_put = refl; agrees = subst (λ (o : Found). version_fault only (row_found f.b.live o) ≡ None) f.cut_at.absent (agrees f.b f.named) })) in
         subst (λ (l : LogView). Stepped C now moves past a after log l w (put_request key sets only) (stage_held way.node.0 (Searched there)) Moved (stage_held way.node.0 (Copies half cut place outline entries)) (λ m next. StageIsTrue C key (PutEdit sets only) way (Copies half cut place outline entries) begun after next)) (sym same_log)
         (quiet_step key (PutEdit sets only) goes content refl refl (inl refl));
   }

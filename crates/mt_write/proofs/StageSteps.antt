@@ -1,5 +1,5 @@
 -- What a step does, whole, of a write that is at a stage: for each stage.
-use Rattle.std.proofs.Common.{ℕ, zero, suc, ◌≡◌, ◌≢◌, ◌≤◌, ◌<◌, ◌+◌, ◌⊎◌, inl, inr, List, [], ◌∷◌, length, slice_get, arith, Option, Some, None, IsSome, true, refl, sym, subst}
+use Rattle.std.proofs.Common.{ℕ, zero, suc, ◌≡◌, ◌≢◌, ◌≤◌, ◌<◌, ◌+◌, ◌⊎◌, inl, inr, List, [], ◌∷◌, length, slice_get, arith, Option, Some, None, IsSome, true, false, refl, sym, subst, ◌∙◌}
 use Rattle.std.specs.Prelude.{IsSomeAnd}
 use Rattle.mt_types.specs.declared.numbers.NodeNo.{NodeNo}
 use Rattle.mt_types.specs.declared.row.Row.{Row}
@@ -10,12 +10,15 @@ use Rattle.mt_border.specs.Cut.{IsBestCut, slices}
 use Rattle.mt_border.specs.Border.{BorderView, row_at, with_hidden, with_unlocked, with_shown, with_value}
 use Rattle.mt_border.specs.Entry.{entry_row}
 use Rattle.mt_border.specs.declared.entry.Entry.{Entry}
+use Rattle.mt_border.specs.declared.entry.RightLink.{RightLink}
 use Rattle.mt_border.specs.declared.found.Found.TheVariants.{Row as RowFound}
 use Rattle.mt_arena.specs.Node.{head_at, border_at}
+use Rattle.mt_arena.specs.declared.node.Node.{Node}
+use Rattle.mt_arena.proofs.NodeLemmas.{node-from_border}
 use Rattle.mt_arena.specs.Arena.{ArenaView, with_border_changed}
 use Rattle.mt_tree.specs.Spares.{MayFill}
 use Rattle.mt_tree.specs.Keeping.{KeepsTree}
-use Rattle.mt_tree.specs.Descent.{found_for, row_found}
+use Rattle.mt_tree.specs.Descent.{found_for, row_found, is_marked}
 use Rattle.mt_slice.specs.Place.{AreBytes}
 use Rattle.mt_border.specs.Order.{IsBorder}
 use Rattle.std.specs.Option.{IfSome, option_or}
@@ -114,8 +117,8 @@ row_there (one ∷ live) zero entry e has =
 row_there (one ∷ live) (suc place) entry e has = let (less, row) = row_there live place entry e has in (omega (arith, less), row)
 
 module _ (a : ArenaView) (write : Write) where
-  pub may_fill_half : (half : NodeNo) (cut place : ℕ) (entries : List Entry) → MayBeAt a write (Spared half cut place entries) → IsSomeAnd (border_at a.nodes write.way.node.0) (λ b. IsSomeAnd (border_at a.nodes half.0) (λ spare. MayFill spare entries b.right))
-  may_fill_half half cut place entries (C, log, may) = spared_fill C may.begun a may.w write.key write.edit write.way half cut place entries may.true.0
+  pub may_fill_half : (half : NodeNo) (cut place : ℕ) (right : Option RightLink) (entries : List Entry) → MayBeAt a write (Spared half cut place right entries) → IsSomeAnd (border_at a.nodes half.0) (λ spare. MayFill spare entries right)
+  may_fill_half half cut place right entries (C, log, may) = spared_fill C may.begun a may.w write.key write.edit write.way half cut place right entries may.true.0
 
   pub may_link_half : (half : NodeNo) (cut place : ℕ) → MayBeAt a write (HalfFilled half cut place) → IsSomeAnd (border_at a.nodes write.way.node.0) (λ b. IsSomeAnd (border_at a.nodes half.0) (λ upper. IsUpperHalf b upper cut))
   may_link_half half cut place (C, log, may) = filled_link C may.begun a may.w write.key write.edit write.way half cut place may.true.0
@@ -208,11 +211,15 @@ module _ (a : ArenaView) (write : Write) (went : Went) (visits : Visits a write.
     posts = tt;
   })
 
-  pub seeks_still : (b : BorderView) → border_at a.nodes write.way.node.0 ≡ Some b → b.version.locked ≡ true → TreeStep a a write Seeks Waits write
-  seeks_still b named is = λ C log.
+  pub seeks_still : (b : BorderView) → border_at a.nodes write.way.node.0 ≡ Some b → b.version.deleted ≡ false → b.version.locked ≡ true → TreeStep a a write Seeks Waits write
+  seeks_still b named alive is = λ C log.
+      let unmarked : IsMarkedAt a write.way.node.0 → ⊥ = λ marked.
+      let deleted : b.version.deleted ≡ true = subst (λ (n : Option Node). IsSomeAnd n (λ x. is_marked x ≡ true)) (node-from_border a.nodes write.way.node.0 b named) marked in
+      let clash : true ≡ false = sym deleted ∙ alive in
+      absurd (cc) in
       let locked : IsLockedAlready a write.way.node.0 = subst (λ (o : Option BorderView). IsSomeAnd o (λ b. b.version.locked ≡ true)) (sym named) is in
       subst (λ (s : Stage). WriteStep C a a log log write Seeks Waits (record { key = write.key; edit = write.edit; way = write.way; head = write.head; stage = s })) (sym idle)
-      (leads C a a log log write Seeks Waits Seeks write.way refl (seek_waits C a write.key write.edit write.way log) (inr locked) (tt, tt) (refl, inr (locked, refl)) tt tt)
+      (leads C a a log log write Seeks Waits Seeks write.way refl (seek_waits C a write.key write.edit write.way log) (inr locked) (tt, tt) (refl, inr (unmarked, locked, refl)) tt tt)
 
 -- where a visit leads that doesn't end at its border
 pub seeks_led : (a : ArenaView) (write : Write) (went : Went) (p : Progress) (then : Write) → Visits a write.key write.way went → write.stage ≡ Seeks → went ≢ Here → (went ≢ Again → border_at a.nodes write.way.node.0 ≡ None) → (went ≡ Again → IsMarkedAt a write.way.node.0)

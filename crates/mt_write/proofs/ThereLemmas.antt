@@ -92,7 +92,7 @@ module _ (C : ℕ) (a : ArenaView) (log : LogView) (write : Write) (there : Ther
         let (found, outlined, full, keys) = subst (λ (t : There). ThereIsTrue (rest_of write.key write.way) t b) is told_here in (
           at_border (λ x. length x.live ≡ SLOTS) full,
           at_border (λ x. found_for (rest_of write.key write.way) x.live ≡ AbsentFound place) found,
-          at_border (λ x. IsRead x outline) (record { order = outlined.order; keys = keys }),
+          at_border (λ x. IsRead x outline) (record { right = outlined.bounded.same; order = outlined.order; keys = keys }),
         )
 
     pub found_is_there : (found : Found) → found_of there ≡ found → IsSomeAnd (border_at a.nodes write.way.node.0) (λ x. found ≡ found_for (rest_of write.key write.way) x.live)

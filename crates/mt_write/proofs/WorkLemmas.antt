@@ -194,7 +194,7 @@ module _ (a after : ArenaView) (w next : World) where
     stage_stays key edit way (Searched there) same truth = let (b, at, found) = truth in (b, locked_at_stays key way b (same way.node.0 first) at, found)
     stage_stays key edit way (Copies half cut place outline entries) same truth = let (b, at, f, c, s, r, e, p) = truth in (b, locked_at_stays key way b (same way.node.0 (later first)) at, f, c, spare_stays half.0 _ (same half.0 first) s, r, e, p)
     stage_stays key edit way (GivesBack half) same truth = (locked_stays way.node.0 (same way.node.0 (later first)) truth.0, truth.1, spare_stays half.0 _ (same half.0 first) truth.2)
-    stage_stays key edit way (Spared half cut place entries) same truth = let (b, at, f, c, s, e, p) = truth in (b, locked_at_stays key way b (same way.node.0 (later first)) at, f, c, spare_stays half.0 _ (same half.0 first) s, e, p)
+    stage_stays key edit way (Spared half cut place right entries) same truth = let (b, at, f, c, s, e, p, noted) = truth in (b, locked_at_stays key way b (same way.node.0 (later first)) at, f, c, spare_stays half.0 _ (same half.0 first) s, e, p, noted)
     stage_stays key edit way (HalfFilled half cut place) same truth = let (b, at, f, c, s, p) = truth in (b, locked_at_stays key way b (same way.node.0 (later first)) at, f, c, spare_stays half.0 _ (same half.0 first) s, p)
     stage_stays key edit way (HalfLinked half cut place) same truth = (half_linked_stays key way half cut place (same way.node.0 (later first)) (same half.0 first) truth.0, truth.1)
     stage_stays key edit way (Halved split place) same truth = let (b, at, h, has, p) = truth in (b, locked_at_stays key way b (same way.node.0 has.own) at, h, has_locked_stays (prefix_of key way) way.node.0 (Some split) same has, p)
@@ -252,7 +252,7 @@ module _ (C begun moves : ℕ) (past : List Arena) (a : ArenaView) (w : World) w
   stage_taken key edit way (Searched there) truth number i = let (b, at, found) = truth in border_taken a w way.node.0 number b at.named at.locked i
   stage_taken key edit way (Copies half cut place outline entries) truth number i = let (b, at, f, c, s, r, e, p) = truth in spare_taken half.0 way.node.0 number _ s b at.named at.locked i
   stage_taken key edit way (GivesBack half) truth number i = spare_taken half.0 way.node.0 number _ truth.2 truth.0.b truth.0.named truth.0.locked i
-  stage_taken key edit way (Spared half cut place entries) truth number i = let (b, at, f, c, s, e, p) = truth in spare_taken half.0 way.node.0 number _ s b at.named at.locked i
+  stage_taken key edit way (Spared half cut place right entries) truth number i = let (b, at, f, c, s, e, p, noted) = truth in spare_taken half.0 way.node.0 number _ s b at.named at.locked i
   stage_taken key edit way (HalfFilled half cut place) truth number i = let (b, at, f, c, s, p) = truth in spare_taken half.0 way.node.0 number _ s b at.named at.locked i
   stage_taken key edit way (HalfLinked half cut place) truth number i = let (h, p) = truth in linked_taken key way half cut place h number i
   stage_taken key edit way (Halved split place) truth number i = let (b, at, h, has, p) = truth in all_taken (prefix_of key way) way.node.0 (Some split) has number i

@@ -46,7 +46,7 @@ module _ (C : ℕ) (a : ArenaView) (now begun : ℕ) (w : World) (world : IsWorl
   stage_since key edit way (Searched there) truth = let (b, at, found) = truth in border_since way.node.0 b at.named
   stage_since key edit way (Copies half cut place outline entries) truth = let (b, at, f, c, s, r, e, p) = truth in both_since half.0 _ (border_since half.0 _ s.named) (border_since way.node.0 b at.named)
   stage_since key edit way (GivesBack half) truth = both_since half.0 _ (border_since half.0 _ truth.2.named) (border_since way.node.0 _ truth.0.named)
-  stage_since key edit way (Spared half cut place entries) truth = let (b, at, f, c, s, e, p) = truth in both_since half.0 _ (border_since half.0 _ s.named) (border_since way.node.0 b at.named)
+  stage_since key edit way (Spared half cut place right entries) truth = let (b, at, f, c, s, e, p, noted) = truth in both_since half.0 _ (border_since half.0 _ s.named) (border_since way.node.0 b at.named)
   stage_since key edit way (HalfFilled half cut place) truth = let (b, at, f, c, s, p) = truth in both_since half.0 _ (border_since half.0 _ s.named) (border_since way.node.0 b at.named)
   stage_since key edit way (HalfLinked half cut place) truth = let (h, p) = truth in both_since half.0 _ (border_since half.0 _ h.filled) (border_since way.node.0 _ h.named)
   stage_since key edit way (Halved split place) truth = let (b, at, h, has, p) = truth in locked_since _ way.node.0 (Some split) has

@@ -92,7 +92,7 @@ StageFollows a key way (Rightward right) next new = (new ≡ Seeks) × (next ≡
 StageFollows a key way (Searched there) next new = IsMadeReady a way new × (next ≡ way)
 StageFollows a key way (Copies half cut place outline entries) next new =
     CopiesOn a way.node.0 half cut place outline entries new × (next ≡ way)
-StageFollows a key way (Spared half cut place entries) next new = StaysAt way next new (HalfFilled half cut place)
+StageFollows a key way (Spared half cut place right entries) next new = StaysAt way next new (HalfFilled half cut place)
 StageFollows a key way (HalfFilled half cut place) next new = StaysAt way next new (HalfLinked half cut place)
 StageFollows a key way (HalfLinked half cut place) next new = (there : ℕ)
     × (new ≡ Halved (record { left = way.node; half = half }) there) × (next.layer ≡ way.layer)
@@ -116,11 +116,12 @@ abbrev pub halves_of : Stage → Option Halves
 halves_of (Filled place stored logged split) = split
 halves_of _ = None
 
--- if it waits: on its way it begins again if the node is marked deleted, and stays if the border is locked; or its
--- posting waits
+-- if it waits: on its way it begins again if the node is marked deleted; if it is not, and the border is locked, it
+-- stays; or its posting waits
 abbrev pub StageRests : ArenaView → Way → Stage → Way → Stage → Type 0
 StageRests a way Seeks next new = (new ≡ Seeks)
-    × ((IsMarkedAt a way.node.0 × (next ≡ start)) ⊎ (IsLockedAlready a way.node.0 × (next ≡ way)))
+    × ((IsMarkedAt a way.node.0 × (next ≡ start))
+    ⊎ ((IsMarkedAt a way.node.0 → ⊥) × IsLockedAlready a way.node.0 × (next ≡ way)))
 StageRests a way (Posts posting ending) next new = IsPosting ending new × (next ≡ way)
 StageRests a way _ next new = ⊥
 

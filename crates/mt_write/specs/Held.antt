@@ -66,7 +66,7 @@ stage_held number (Copies half cut place outline entries) =
     record { owns = half.0 ∷ number ∷ []; reserves = 0; committed = None; blocked = None }
 stage_held number (GivesBack half) =
     record { owns = half.0 ∷ number ∷ []; reserves = 0; committed = None; blocked = None }
-stage_held number (Spared half cut place entries) =
+stage_held number (Spared half cut place right entries) =
     record { owns = half.0 ∷ number ∷ []; reserves = 0; committed = None; blocked = None }
 stage_held number (HalfFilled half cut place) =
     record { owns = half.0 ∷ number ∷ []; reserves = 0; committed = None; blocked = None }

@@ -43,8 +43,9 @@ pub record IsSplit (prefix : List ℕ) (a : ArenaView) (w : World) (split : Halv
   pub place : w.chart split.half.0 ≡ Some (spot (at_level 0) prefix low (on false))
   pub low_is : (b : BorderView) → border_at a.nodes split.half.0 ≡ Some b → b.low ≡ low
 
--- its order and its keys were read
+-- its right link, its order and its keys were read
 pub record IsRead (b : BorderView) (outline : Outline) : Type 0 where
+  pub right : outline.right ≡ b.right
   pub order : outline.order ≡ b.order
   pub keys : outline.keys ≡ map entry_noted b.live
 
@@ -119,7 +120,7 @@ entry_copied key (LinkPart head) = Some (record { slice = key.slice; content = L
 
 -- the stage once these entries of the upper half are copied: all of them, or some
 abbrev pub copied_stage : NodeNo → ℕ → ℕ → Outline → List Entry → Stage
-copied_stage half cut place outline entries = if cut + length entries == SLOTS then Spared half cut place entries
+copied_stage half cut place outline entries = if cut + length entries == SLOTS then Spared half cut place outline.right entries
     else Copies half cut place outline entries
 
 -- A STEP THAT COPIES is lent the value of the slot at a place, and copies the entry that this makes with the key there

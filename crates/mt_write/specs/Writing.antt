@@ -304,9 +304,9 @@ StageIsTrue C key edit way (Copies half cut place outline entries) begun a w = (
     × IsSpare a w half.0 (empty_half b c.middle) × IsRead b outline × AreCopied b cut entries × PutsNew edit
 StageIsTrue C key edit way (GivesBack half) begun a w = IsLockedBorder a w way.node.0
     × (spare : BorderView) × IsSpare a w half.0 spare
-StageIsTrue C key edit way (Spared half cut place entries) begun a w = (b : BorderView) × IsLockedAt a key way b w
+StageIsTrue C key edit way (Spared half cut place right entries) begun a w = (b : BorderView) × IsLockedAt a key way b w
     × (b.version.splitting ≡ true) × (c : IsCutAt key way b cut place) × IsSpare a w half.0 (empty_half b c.middle)
-    × (entries ≡ drop cut b.live) × PutsNew edit
+    × (entries ≡ drop cut b.live) × PutsNew edit × (b.right ≡ right)
 StageIsTrue C key edit way (HalfFilled half cut place) begun a w = (b : BorderView) × IsLockedAt a key way b w
     × (b.version.splitting ≡ true) × (c : IsCutAt key way b cut place) × IsSpare a w half.0 (upper_half b cut c.middle)
     × PutsNew edit

@@ -85,6 +85,7 @@ fn stage_copied(
             half,
             cut,
             place,
+            right: outline.right,
             entries,
         };
     }

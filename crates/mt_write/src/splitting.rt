@@ -26,7 +26,7 @@ use crate::inserting::reserve;
 use crate::ready::NewRow;
 use crate::writing::{Edit, Halves, Stage, Write};
 use mt_arena::Node;
-use mt_border::{Border, Entry};
+use mt_border::{Border, Entry, RightLink};
 use mt_commit::log::Log;
 use mt_slice::slice_of;
 use mt_steps::entering::Outline;
@@ -111,18 +111,6 @@ pub fn prepare_split(
     }
 }
 
-// The half that is spared takes the entries that were copied, and the right link of the left half.
-fn fill_spare(tree: &mut Tree, left: NodeNo, half: NodeNo, entries: Items<Entry>)
-    requires fill { IsSomeAnd (border_at tree.old.nodes left.0)
-        (λ b. IsSomeAnd (border_at tree.old.nodes half.0) (λ spare. MayFill spare entries b.right)) }
-    ensures filled { IsSomeAnd (border_at tree.old.nodes left.0)
-        (λ b. tree.new ≡ with_border_changed tree.old half.0 (λ spare. with_entries spare entries b.right)) }
-    ensures keeps { KeepsUnknown tree.old tree.new half.0 }
-{
-    let right = tree.border(left).right();
-    tree.fill_border(half, entries, right);
-}
-
 // Returns the half to which the key belongs, and its place there, by its place among all entries.
 fn half_of(tree: &Tree, way: Way, key: &Key, half: NodeNo, cut: usize, place: usize) -> (Way, usize)
     requires within { 8 * way.layer ≤ length key.now - 1 }
@@ -178,7 +166,7 @@ fn reserve_half(
 }
 
 impl Write {
-    // The spared half takes the entries that were copied, and the border's right link.
+    // The spared half takes the entries that were copied, and the right link that was read of the border.
     #[inline(never)]
     pub(crate) fn fill_spared(
         &mut self,
@@ -186,12 +174,13 @@ impl Write {
         half: NodeNo,
         cut: usize,
         place: usize,
+        right: Option<RightLink>,
         entries: Items<Entry>,
     ) -> Progress
-        requires { MayBeAt tree.old self.old (Stage.Spared half cut place entries) }
-        ensures { TreeStep tree.old tree.new self.old (Stage.Spared half cut place entries) result self.new }
+        requires { MayBeAt tree.old self.old (Stage.Spared half cut place right entries) }
+        ensures { TreeStep tree.old tree.new self.old (Stage.Spared half cut place right entries) result self.new }
     {
-        fill_spare(tree, self.way.node, half, entries);
+        tree.fill_border(half, entries, right);
         self.turn_to(Stage::HalfFilled { half, cut, place });
         Progress::Moved
     }

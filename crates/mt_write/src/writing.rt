@@ -12,7 +12,7 @@ ghost use Rattle.mt_write.specs.Runs.{commits_in};
 ghost use Rattle.mt_write.specs.Follows.{WriteStep, TreeStep, MayBeAt, MayLock, WriteFollows, HeadFollows, PostsFollow};
 
 use mt_arena::Node;
-use mt_border::{Entry, SlotKey};
+use mt_border::{Entry, RightLink, SlotKey};
 use mt_commit::log::Log;
 use mt_post::Posting;
 use mt_steps::entering::{Entering, Outline, There};
@@ -92,11 +92,12 @@ pub enum Stage {
     },
     /// A value of the upper half could not be copied, out of memory. The spared border is to be given back.
     GivesBack(NodeNo),
-    /// The entries of the upper half are copied.
+    /// The entries of the upper half are copied, and what is to the right of the border was read.
     Spared {
         half: NodeNo,
         cut: usize,
         place: usize,
+        right: Option<RightLink>,
         entries: Items<Entry>,
     },
     /// The half has the entries from the cut on.
@@ -295,8 +296,9 @@ impl Write {
                 half,
                 cut,
                 place,
+                right,
                 entries,
-            } => self.fill_spared(tree, half, cut, place, entries),
+            } => self.fill_spared(tree, half, cut, place, right, entries),
             Stage::HalfFilled { half, cut, place } => self.link(tree, half, cut, place),
             Stage::HalfLinked { half, cut, place } => self.cut(tree, half, cut, place),
             Stage::Halved(split, place) => {

@@ -11,7 +11,7 @@ ghost use Rattle.mt_publish.specs.Carried.{reader_source, source_of, told_source
 use crate::orders::{OPTIONS, no_orders, sum_of, write};
 use anyhow::{Result, bail};
 use bytes::Bytes;
-use mt_follow::follow::follow;
+use mt_publish::follow::follow;
 use mt_publish::publisher::{Publisher, Told, ViewReader};
 use mt_shared::index::{Door, Index};
 use mt_types::key::Key;

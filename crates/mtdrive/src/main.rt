@@ -1,25 +1,24 @@
 //! Answers a script of the index: lines of events on standard input, a line of text for each on standard output.
 #![tactic(auto)]
 
-ghost use Rattle.std.specs.Prelude.{◌≡◌, false, codes, map, string_bytes, IfOk};
-ghost use Rattle.clap.specs.Words.{app_of, found_of, one_text, rule_of};
+ghost use Rattle.std.specs.Prelude.{◌≡◌, map, string_bytes, IfOk};
+ghost use Rattle.clap.specs.Words.{app_of};
 ghost use Rattle.mt_streams.specs.Sinks.{sink_writer};
 ghost use Rattle.mt_drive.specs.Source.{source_rest, source_unread};
-ghost use Rattle.mtdrive.specs.CommandLine.{number_rule, mtdrive_app, IsNumber, AreFound, AreSaid, status_of, Answered};
+ghost use Rattle.mtdrive.specs.CommandLine.{mtdrive_app, AreFound, AreSaid, status_of, Answered};
 
-use clap::builder::ValueParser;
-use clap::error::ErrorKind as FaultKind;
-use clap::{Arg, ArgMatches, Command, Error};
+use clap::{ArgMatches, Command, Error};
+use mt_command_line::ending::{Ending, exit_code, status_of_run, words};
+use mt_command_line::opening::{columns, feed, index_options, keep};
 use mt_drive::fault::ScriptFault;
 use mt_drive::script::script;
 use mt_drive::source::Source;
 use mt_index::options::Options;
 use mt_streams::sink::Sink;
-use mt_types::limits::{MAX_COLUMNS, MAX_FEED, MAX_KEEP};
 use std::alloc::{AllocError, Global};
-use std::io::{ErrorKind, Read, Write};
+use std::io;
+use std::io::{Read, Write};
 use std::process::ExitCode;
-use std::{env, io};
 
 const ABOUT: &str = "Answers a script of events on an empty index, line by line";
 
@@ -43,49 +42,22 @@ print `bad line`.
 
 The status is 0; 1 if a line was bad; 2 for a bad command line; 3 if reading or writing failed, or memory was refused.";
 
-// An option that takes a number within these bounds.
-fn number_option<'a>(alloc: Global, name: &'a str, least: u64, most: u64, help: &'a str) -> Arg<'a>
-    ensures rule { rule_of result ≡ number_rule name.entry.now least most }
-    ensures local { result.global ≡ false }
-{
-    Arg::new(alloc, name)
-        .long(name)
-        .value_name("N")
-        .value_parser(ValueParser::Unsigned(least, most))
-        .help(help)
-}
-
 fn command<'a>(alloc: Global) -> Result<Command<'a>, AllocError>
     ensures { IfOk result (λ command. app_of command ≡ mtdrive_app) }
 {
-    let columns = "How many columns a row has, 1 to 16 [default: 1]";
-    let feed = "How many commits the log holds for the slowest reader, 1 to 65536 [default: 4096]";
-    let keep = "How many of the last commits the log keeps, 0 to 65536 [default: 0]";
-    Command::new(alloc, "mtdrive")
+    let named = Command::new(alloc, "mtdrive")
         .about(ABOUT)
-        .after_help(LINES)
-        .arg(number_option(alloc, "columns", 1, MAX_COLUMNS, columns))?
-        .arg(number_option(alloc, "feed", 1, MAX_FEED, feed))?
-        .arg(number_option(alloc, "keep", 0, MAX_KEEP, keep))
-}
-
-// The number that an option was given.
-fn number(matches: &ArgMatches<'_>, name: &str, otherwise: u64) -> u64
-    ensures { IsNumber (one_text (found_of matches.now) name.now) otherwise result }
-{
-    match matches.get_one::<u64>(name) {
-        Some(given) => given,
-        None => otherwise,
-    }
+        .after_help(LINES);
+    index_options(named, alloc)
 }
 
 fn options_of(matches: &ArgMatches<'_>) -> Options
     ensures { AreFound matches.now result }
 {
     Options {
-        columns: number(matches, "columns", 1),
-        feed: number(matches, "feed", 4096),
-        keep: number(matches, "keep", 0),
+        columns: columns(matches),
+        feed: feed(matches),
+        keep: keep(matches),
     }
 }
 
@@ -109,20 +81,13 @@ fn options_given(alloc: Global, words: &[String]) -> Result<Options, Error>
     Ok(options_of(&matches))
 }
 
-// How a run ends, and what there is to tell of it on standard error.
-#[derive(Drop)]
-struct Ending {
-    status: u8,
-    fault: Option<ScriptFault>,
-}
-
 // Answers the script of the source as the words of the command line ask.
 fn answer<R: Read, W: Write>(
     alloc: Global,
     words: &[String],
     reader: &mut Source<R>,
     writer: &mut Sink<W>,
-) -> Result<Ending, Error>
+) -> Result<Ending<ScriptFault>, Error>
     ensures { IfOk result (λ ending. Answered (map string_bytes words.now) ending (source_rest R.remaining reader.old)
         (source_unread R.remaining reader.new) (W.contents (sink_writer writer.old)) (W.contents (sink_writer writer.new))) }
 {
@@ -135,42 +100,13 @@ fn answer<R: Read, W: Write>(
 }
 
 fn run(rt: &HostRuntime) -> io::Result<u8> {
-    let mut words = Vec::new(rt.alloc());
-    for word in env::args(rt)? {
-        words.push(word)?;
-    }
+    let words = words(rt)?;
     let mut reader = Source::new(rt.alloc(), rt.reader())?;
     let mut writer = Sink::new(io::writer(rt));
-    match answer(rt.alloc(), words.as_slice(), &mut reader, &mut writer) {
-        Ok(ending) => {
-            if let Some(fault) = ending.fault {
-                eprintln!(rt; "mtdrive: {fault}")?;
-            }
-            Ok(ending.status)
-        }
-        Err(fault) if fault.kind() == FaultKind::OutOfMemory => Err(ErrorKind::OutOfMemory.into()),
-        Err(fault) => {
-            fault.print(rt)?;
-            Ok(fault.exit_code() as u8)
-        }
-    }
-}
-
-// The status of a run that could not print, had no memory, or was given words that are no text.
-fn status_of_error(error: &io::Error) -> u8 {
-    if error.kind() == ErrorKind::InvalidData {
-        2
-    } else {
-        3
-    }
+    let answered = answer(rt.alloc(), words.as_slice(), &mut reader, &mut writer);
+    status_of_run(rt, "mtdrive", answered)
 }
 
 fn main(rt: HostRuntime) -> ExitCode {
-    match run(&rt) {
-        Ok(status) => ExitCode::from(status),
-        Err(error) => {
-            let _ = eprintln!(rt; "mtdrive: {error}");
-            ExitCode::from(status_of_error(&error))
-        }
-    }
+    exit_code(&rt, "mtdrive", run(&rt))
 }

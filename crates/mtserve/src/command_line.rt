@@ -1,13 +1,13 @@
 //! What the command line says.
 
-ghost use Rattle.std.specs.Prelude.{◌≡◌, false, codes, map, string_bytes, IfOk};
-ghost use Rattle.clap.specs.Words.{app_of, found_of, one_text, rule_of};
-ghost use Rattle.mtserve.specs.CommandLine.{number_rule, flag_rule, with_socket_rules, with_index_rules, mtserve_app, IsNumber, AreFound, AreSaid};
+ghost use Rattle.std.specs.Prelude.{◌≡◌, false, map, string_bytes, IfOk};
+ghost use Rattle.clap.specs.Words.{app_of, rule_of};
+ghost use Rattle.mtserve.specs.CommandLine.{flag_rule, with_socket_rules, mtserve_app, AreFound, AreSaid};
 
-use clap::builder::ValueParser;
 use clap::{Arg, ArgAction, ArgMatches, Command, Error};
+use mt_command_line::numbers::{number, number_option};
+use mt_command_line::opening::{columns, feed, index_options, keep};
 use mt_index::options::Options;
-use mt_types::limits::{MAX_COLUMNS, MAX_FEED, MAX_KEEP};
 use std::alloc::{AllocError, Global};
 
 const ABOUT: &str = "Serves an empty index on 127.0.0.1, over TCP";
@@ -32,18 +32,6 @@ pub struct Settings {
     pub sessions: u64,
     /// Whether they serve without end instead.
     pub forever: bool,
-}
-
-// An option that takes a number within these bounds.
-fn number_option<'a>(alloc: Global, name: &'a str, least: u64, most: u64, help: &'a str) -> Arg<'a>
-    ensures rule { rule_of result ≡ number_rule name.entry.now least most }
-    ensures local { result.global ≡ false }
-{
-    Arg::new(alloc, name)
-        .long(name)
-        .value_name("N")
-        .value_parser(ValueParser::Unsigned(least, most))
-        .help(help)
 }
 
 // An option without a value.
@@ -71,19 +59,6 @@ fn socket_options<'a>(command: Command<'a>, alloc: Global) -> Result<Command<'a>
         .arg(number_option(alloc, "sessions", 0, 65535, sessions))
 }
 
-// How the index is opened.
-fn index_options<'a>(command: Command<'a>, alloc: Global) -> Result<Command<'a>, AllocError>
-    ensures { IfOk result (λ r. app_of r ≡ with_index_rules (app_of command.entry)) }
-{
-    let columns = "How many columns a row has, 1 to 16 [default: 1]";
-    let feed = "How many commits the log holds for the slowest reader, 1 to 65536 [default: 4096]";
-    let keep = "How many of the last commits the log keeps, 0 to 65536 [default: 0]";
-    command
-        .arg(number_option(alloc, "columns", 1, MAX_COLUMNS, columns))?
-        .arg(number_option(alloc, "feed", 1, MAX_FEED, feed))?
-        .arg(number_option(alloc, "keep", 0, MAX_KEEP, keep))
-}
-
 fn command<'a>(alloc: Global) -> Result<Command<'a>, AllocError>
     ensures { IfOk result (λ command. app_of command ≡ mtserve_app) }
 {
@@ -93,24 +68,14 @@ fn command<'a>(alloc: Global) -> Result<Command<'a>, AllocError>
     index_options(flagged, alloc)
 }
 
-// The number that an option was given.
-fn number(matches: &ArgMatches<'_>, name: &str, otherwise: u64) -> u64
-    ensures { IsNumber (one_text (found_of matches.now) name.now) otherwise result }
-{
-    match matches.get_one::<u64>(name) {
-        Some(given) => given,
-        None => otherwise,
-    }
-}
-
 fn settings_of(matches: &ArgMatches<'_>) -> Settings
     ensures { AreFound matches.now result }
 {
     Settings {
         options: Options {
-            columns: number(matches, "columns", 1),
-            feed: number(matches, "feed", 4096),
-            keep: number(matches, "keep", 0),
+            columns: columns(matches),
+            feed: feed(matches),
+            keep: keep(matches),
         },
         port: number(matches, "port", 0),
         workers: number(matches, "workers", 1),

@@ -6,30 +6,22 @@ mod serving;
 
 use crate::command_line::{Settings, settings_given};
 use crate::serving::{ServeError, serve_all};
-use clap::error::ErrorKind as FaultKind;
+use mt_command_line::ending::{exit_code, status_without_run, words};
 use mt_shared::settling::Totals;
-use std::io::ErrorKind;
+use std::io;
 use std::process::ExitCode;
-use std::{env, io};
 
 // What the command line asks for, or the status if a text was printed instead of a run. A command line without any
 // option is a bad one: it says neither how many sessions there are to be nor that they are without end.
 fn read_settings(rt: &HostRuntime) -> io::Result<Result<Settings, u8>> {
-    let mut words = Vec::new(rt.alloc());
-    for word in env::args(rt)? {
-        words.push(word)?;
-    }
+    let words = words(rt)?;
     if words.len() < 2 {
-        eprintln!(rt; "mtserve: no option is given; --help tells which there are")?;
+        eprintln!(rt; "mtserve: no option is given; --help lists the options")?;
         return Ok(Err(2));
     }
     match settings_given(rt.alloc(), words.as_slice()) {
         Ok(settings) => Ok(Ok(settings)),
-        Err(fault) if fault.kind() == FaultKind::OutOfMemory => Err(ErrorKind::OutOfMemory.into()),
-        Err(fault) => {
-            fault.print(rt)?;
-            Ok(Err(fault.exit_code() as u8))
-        }
+        Err(fault) => Ok(Err(status_without_run(rt, fault)?)),
     }
 }
 
@@ -47,26 +39,11 @@ fn tell(rt: &HostRuntime, served: Result<Totals, ServeError>) -> io::Result<u8> 
     }
 }
 
-// The status of a run that could not print, had no memory, or was given words that are no text.
-fn status_of_error(error: &io::Error) -> u8 {
-    if error.kind() == ErrorKind::InvalidData {
-        2
-    } else {
-        3
-    }
-}
-
 fn main(rt: HostRuntime) -> ExitCode {
     let ended = match read_settings(&rt) {
         Ok(Ok(settings)) => tell(&rt, serve_all(&rt, rt.alloc(), settings)),
         Ok(Err(status)) => Ok(status),
         Err(error) => Err(error),
     };
-    match ended {
-        Ok(status) => ExitCode::from(status),
-        Err(error) => {
-            let _ = eprintln!(rt; "mtserve: {error}");
-            ExitCode::from(status_of_error(&error))
-        }
-    }
+    exit_code(&rt, "mtserve", ended)
 }

@@ -1,5 +1,5 @@
 use Rattle.std.proofs.Common.{◌∙◌}
-use Rattle.mt_rows.proofs.MapLemmas.{between-from}
+use Rattle.mt_types.proofs.MapLemmas.{between-from}
 use Rattle.mt_check.proofs.ranges.from_key.Goals as goal
 
 pub returns-clause-items : goal.returns-clause-items

@@ -3,7 +3,7 @@ use Rattle.std.specs.Prelude.{Contains}
 use Rattle.mt_commit.specs.Log.{LogView}
 use Rattle.mt_commit.specs.Holders.{without_holder}
 use Rattle.mt_commit.proofs.CountLemmas.{counted_is_held}
-use Rattle.mt_views.specs.Views.{ViewsView}
+use Rattle.mt_view.specs.Views.{ViewsView}
 use Rattle.mt_index.specs.Stands.{vacated}
 use Rattle.mt_index.proofs.LogStands.{still_holds}
 use Rattle.mt_index.proofs.viewing.close_build.Goals as goal

@@ -1,6 +1,6 @@
 use Rattle.std.proofs.Common.{◌<◌, refl, arith}
 use Rattle.mt_steps.proofs.LoneWay.{way_left}
-use Rattle.mt_walk.proofs.DescentLemmas.{IsSeeking, seeking_begins, seeking_goes, seeking_ends, held_for, unmarked}
+use Rattle.mt_walk.proofs.DescentLemmas.{IsSeeking, seeking_begins, seeking_goes, seeking_ends, held_for, unmarked, never_below}
 use Rattle.mt_walk.proofs.descent.border_for.Goals as goal
 use Rattle.mt_walk.proofs.descent.border_for.Goals.{In-To}
 
@@ -32,3 +32,6 @@ pub unreachable-requires : goal.unreachable-requires
 unreachable-requires c =
     let may = c.loop-next.invariant.may in
     unmarked c.args.tree.now may.lone c.loop-next.node.0 c.args.slice may.prefix may.held (c.in-Again.ensures.again refl)
+
+pub unreachable-requires-in-Below : goal.unreachable-requires-in-Below
+unreachable-requires-in-Below c = never_below c.args.tree.now c.args.slice c.loop-next.node.0 _ c.loop-next.invariant.may c.in-Below.ensures.seeks

@@ -2,7 +2,9 @@ use Rattle.std.proofs.Common.{◌∙◌, ◌≡◌, ◌+◌, ◌∷◌, None, ap
 use Rattle.std.specs.Prelude.{Contains}
 use Rattle.mt_types.specs.declared.event.Outcome.TheVariants.{Call as Called}
 use Rattle.mt_types.specs.declared.event.Event.TheVariants.{Begin}
+use Rattle.mt_types.specs.Limits.{request_fault}
 use Rattle.mt_promise.specs.History.{happening}
+use Rattle.mt_promise.proofs.RowLimits.{neither_of}
 use Rattle.mt_commit.specs.Log.{LogView, newest}
 use Rattle.mt_works.specs.Works.{IsNew}
 use Rattle.mt_index.specs.Calls.{CallsView}
@@ -10,8 +12,11 @@ use Rattle.mt_index.specs.Stands.{MachineView, Stands, fault_of, pinned, placed,
 use Rattle.mt_index.proofs.LogStands.{pinned_holds, pinned_back}
 use Rattle.mt_index.proofs.BeginStands.{begun-stands, called}
 use Rattle.mt_index.proofs.LaterStands.{seen}
-use Rattle.mt_index.proofs.MachineLemmas.{room_to_pin}
+use Rattle.mt_index.proofs.MachineLemmas.{room_to_pin, key_fits_in}
 use Rattle.mt_index.proofs.machine.Machine.admit.Goals as goal
+
+pub work_of-requires : goal.work_of-requires
+work_of-requires c = key_fits_in c.args.self.now.columns c.args.request (neither_of (request_fault c.args.self.now.columns c.args.request) _ c.requires).0
 
 pub hold-requires : goal.hold-requires
 hold-requires c = let (h, st) = c.self.invariant in record { few = room_to_pin (seen c.self.inside.columns c.self.inside.epoch c.self.inside.tree c.self.inside.log c.self.inside.calls c.self.inside.views) h st }

@@ -1,7 +1,7 @@
 use Rattle.std.proofs.Common.{◌≤◌, ◌<◌, ◌+◌, ◌∙◌, arith, ap, sym, subst}
 use Rattle.mt_types.specs.declared.event.Outcome.TheVariants.{Applied, Current, Refused}
 use Rattle.mt_types.specs.declared.refusal.Refusal.TheVariants.{NoMemory}
-use Rattle.mt_views.specs.Views.{state_at}
+use Rattle.mt_view.specs.Views.{state_at}
 use Rattle.mt_commit.specs.Laws.{times_held}
 use Rattle.mt_commit.specs.Log.{LogView}
 use Rattle.mt_index.specs.Stands.{MachineView, Applies}

@@ -29,7 +29,7 @@ returns-in-Begin c = record {
       (begin-does c.args.self.now c.begin.new.self c.begin.result c.in-Begin.pass c.in-Begin.request c.begin.ensures.begins);
   caused = subst (λ (e : Event). IsCaused c.args.self.now e c.begin.result c.begin.new.self) (sym c.in-Begin.is) tt;
   one_step = subst (λ (e : Event). IsOneStep c.args.self.now e c.begin.result c.begin.new.self) (sym c.in-Begin.is) tt;
-  one_field = subst (λ (e : Event). IsOneField c.args.self.now e c.begin.new.self) (sym c.in-Begin.is) tt;
+  one_field = subst (λ (e : Event). IsOneField c.args.self.now e c.begin.result c.begin.new.self) (sym c.in-Begin.is) tt;
   limited =
       let (h, st) = c.is_idle-stands.ensures.stands in
       outcome-limited c.begin.new.self h (Begin c.in-Begin.pass c.in-Begin.request) c.begin.result 0 (begins-stands c.args.self.now c.begin.new.self c.in-Begin.pass c.in-Begin.request c.begin.result h c.begin.ensures.begins st);
@@ -48,7 +48,7 @@ returns-in-Step c = record {
       (steps-caused c.args.self.now c.step.new.self c.in-Step.call c.step.result c.step.ensures.steps);
   one_step = subst (λ (e : Event). IsOneStep c.args.self.now e c.step.result c.step.new.self) (sym c.in-Step.is)
       (steps-once c.args.self.now c.step.new.self c.in-Step.call c.step.result c.step.ensures.steps);
-  one_field = subst (λ (e : Event). IsOneField c.args.self.now e c.step.new.self) (sym c.in-Step.is)
+  one_field = subst (λ (e : Event). IsOneField c.args.self.now e c.step.result c.step.new.self) (sym c.in-Step.is)
       (steps-one_field c.args.self.now c.step.new.self c.in-Step.call c.step.result c.step.ensures.steps);
   limited =
       let (h, st) = c.is_idle-stands.ensures.stands in

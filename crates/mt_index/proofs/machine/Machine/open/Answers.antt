@@ -2,7 +2,7 @@ use Rattle.std.proofs.Common.{refl, sym, ap, subst, []}
 use Rattle.mt_commit.specs.Log.{LogView}
 use Rattle.mt_slice.specs.Place.{place_of}
 use Rattle.mt_promise.proofs.LimitedLemmas.{opened_few}
-use Rattle.mt_views.specs.Views.{ViewsView}
+use Rattle.mt_view.specs.Views.{ViewsView}
 use Rattle.mt_index.specs.Calls.{CallsView}
 use Rattle.mt_index.specs.Stands.{Stands}
 use Rattle.mt_index.proofs.OpenStands.{opens-stands, new_world, new_untaken}

@@ -42,7 +42,12 @@ loop-event-preserved c =
             subst (λ (es : List Event). AllHappen opened es c.push.new.self.items c.event-outcome.new.self) (sym more)
                 (subst (λ (os : List Outcome). AllHappen opened (take c.loop-event.event-index c.args.events.now ++ c.event-item.result ∷ []) os c.event-outcome.new.self) (sym c.in-Ok.ensures.items)
                 (all-more opened c.loop-event.machine c.event-outcome.new.self _ _ c.event-item.result c.event-outcome.result happen
-                (record { does = c.event-outcome.ensures.does; caused = c.event-outcome.ensures.caused; one_step = c.event-outcome.ensures.one_step; one_field = c.event-outcome.ensures.one_field }))),
+                (record {
+                  stands = c.event-outcome.ensures.stands;
+                  happens = record { does = c.event-outcome.ensures.does; caused = c.event-outcome.ensures.caused; one_step = c.event-outcome.ensures.one_step; one_field = c.event-outcome.ensures.one_field };
+                  columns = c.event-outcome.ensures.columns;
+                  bounds = c.event-outcome.ensures.bounds;
+                }))),
           );
       columns = c.event-outcome.ensures.columns ∙ c.loop-event.invariant.columns;
       bounds = (c.event-outcome.ensures.bounds.0 ∙ c.loop-event.invariant.bounds.0, c.event-outcome.ensures.bounds.1 ∙ c.loop-event.invariant.bounds.1);

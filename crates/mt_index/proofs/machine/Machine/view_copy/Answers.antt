@@ -1,5 +1,5 @@
 use Rattle.std.proofs.Common.{Some, ◌≡◌, subst}
-use Rattle.mt_views.specs.Views.{state_at}
+use Rattle.mt_view.specs.Views.{state_at}
 use Rattle.mt_index.specs.Stands.{MachineView}
 use Rattle.mt_index.proofs.MachineLemmas.{copies_view}
 use Rattle.mt_index.proofs.machine.Machine.view_copy.Goals as goal

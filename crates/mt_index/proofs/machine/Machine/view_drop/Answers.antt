@@ -1,7 +1,7 @@
 use Rattle.std.proofs.Common.{◌∙◌, sym, subst}
 use Rattle.std.specs.Prelude.{Contains}
 use Rattle.mt_types.specs.declared.event.Outcome.TheVariants.{Dropped}
-use Rattle.mt_views.specs.Views.{state_at}
+use Rattle.mt_view.specs.Views.{state_at}
 use Rattle.mt_index.specs.Stands.{MachineView, Drops}
 use Rattle.mt_index.proofs.LaterStands.{seen}
 use Rattle.mt_index.proofs.ApplyStands.{view_held, drops-stand}

@@ -1,6 +1,6 @@
 use Rattle.std.proofs.Common.{ap, sym, ◌∙◌}
 use Rattle.std.specs.FinMap as map
-use Rattle.mt_rows.proofs.MapLemmas.{get-seen}
+use Rattle.mt_types.proofs.MapLemmas.{get-seen}
 use Rattle.mt_rows.proofs.rows.Rows.get.Goals as goal
 
 pub returns : goal.returns

@@ -1,5 +1,5 @@
 use Rattle.std.proofs.Common.{sym, ◌∙◌}
-use Rattle.mt_rows.proofs.MapLemmas.{seen-empty, length_of_empty}
+use Rattle.mt_types.proofs.MapLemmas.{seen-empty, length_of_empty}
 use Rattle.mt_rows.proofs.rows.Rows.is_empty.Goals as goal
 
 pub returns : goal.returns

@@ -1,4 +1,4 @@
-use Rattle.mt_rows.proofs.MapLemmas.{seen-empty}
+use Rattle.mt_types.proofs.MapLemmas.{seen-empty}
 use Rattle.mt_rows.proofs.rows.Rows.open.Goals as goal
 
 pub returns : goal.returns

@@ -1,6 +1,6 @@
 use Rattle.std.proofs.Common.{ap, sym, ◌∙◌}
 use Rattle.std.specs.FinMap as map
-use Rattle.mt_rows.proofs.MapLemmas.{get-seen, seen-remove}
+use Rattle.mt_types.proofs.MapLemmas.{get-seen, seen-remove}
 use Rattle.mt_rows.proofs.rows.Rows.remove.Goals as goal
 
 pub returns-clause-old : goal.returns-clause-old

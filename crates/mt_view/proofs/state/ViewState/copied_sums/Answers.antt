@@ -2,7 +2,7 @@ use Rattle.std.proofs.Common.{◌≡◌, ap, sym, ◌∙◌, rules}
 use Rattle.std.specs.FinMap as map
 use Rattle.mt_types.specs.Views.{column_sums}
 use Rattle.mt_view.specs.State.{StateView}
-use Rattle.mt_rows.proofs.MapLemmas.{entries-seen}
+use Rattle.mt_types.proofs.MapLemmas.{entries-seen}
 use Rattle.mt_view.proofs.SumLemmas.{summed_all}
 use Rattle.mt_view.proofs.state.ViewState.copied_sums.Goals as goal
 

@@ -1,7 +1,7 @@
 use Rattle.std.proofs.Common.{length, ap, sym, ◌∙◌}
 use Rattle.std.specs.FinMap as map
 use Rattle.mt_view.specs.State.{StateView}
-use Rattle.mt_rows.proofs.MapLemmas.{entries-seen}
+use Rattle.mt_types.proofs.MapLemmas.{entries-seen}
 use Rattle.mt_view.proofs.state.ViewState.count.Goals as goal
 
 pub returns : goal.returns

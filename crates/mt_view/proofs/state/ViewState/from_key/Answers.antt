@@ -4,7 +4,7 @@ use Rattle.std.specs.Ordering.{is_ge}
 use Rattle.mt_types.specs.Keys.{key_cmp}
 use Rattle.mt_types.specs.declared.row.Row.{Row}
 use Rattle.mt_view.specs.State.{StateView}
-use Rattle.mt_rows.proofs.MapLemmas.{between-from, entries-seen}
+use Rattle.mt_types.proofs.MapLemmas.{between-from, entries-seen}
 use Rattle.mt_view.proofs.state.ViewState.from_key.Goals as goal
 
 pub returns : goal.returns

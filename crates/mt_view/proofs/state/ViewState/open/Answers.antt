@@ -1,6 +1,6 @@
 use Rattle.std.proofs.Common.{ap, ◌∙◌}
 use Rattle.std.specs.FinMap as map
-use Rattle.mt_rows.proofs.MapLemmas.{seen-empty}
+use Rattle.mt_types.proofs.MapLemmas.{seen-empty}
 use Rattle.mt_view.proofs.MapLemmas.{entries-empty}
 use Rattle.mt_view.proofs.state.ViewState.open.Goals as goal
 

@@ -3,7 +3,7 @@ use Rattle.std.proofs.lemmas.List.{get_or_read}
 use Rattle.std.specs.FinMap as map
 use Rattle.mt_types.specs.Views.{column_sum}
 use Rattle.mt_view.specs.State.{StateView}
-use Rattle.mt_rows.proofs.MapLemmas.{entries-seen}
+use Rattle.mt_types.proofs.MapLemmas.{entries-seen}
 use Rattle.mt_view.proofs.SumLemmas.{sum_bound}
 use Rattle.mt_view.proofs.state.ViewState.sum.Goals as goal
 

@@ -1,5 +1,5 @@
 use Rattle.std.proofs.Common.{ℕ, ◌+◌, ap, ◌∙◌}
-use Rattle.mt_build.specs.Build.{BuildView}
+use Rattle.mt_works.specs.Build.{BuildView}
 use Rattle.mt_works.proofs.BuildingLemmas.{is_scanned, take_moves, build_fails}
 use Rattle.mt_works.proofs.building.Building.take.Goals as goal
 

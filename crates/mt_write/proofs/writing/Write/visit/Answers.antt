@@ -28,4 +28,5 @@ returns-then-deleted-clause-visits c = seeks_led c.args.tree.now c.args.self.now
 
 pub returns-then-is_locked-clause-visits : goal.returns-then-is_locked-clause-visits
 returns-then-is_locked-clause-visits c = seeks_still c.args.tree.now c.args.self.now Again (again_visits c.args.tree.now c.args.self.now.key c.args.self.now.way) c.requires.idle c.in-Border.border
-    (border_named c.args.tree.now c.args.self.now.way.node.0 c.node.result.now c.in-Border.border c.node.ensures.value c.in-Border.is) (rw c.version-version.ensures.value at (sym c.is_locked.ensures ∙ c.if-is_locked.true))
+    (border_named c.args.tree.now c.args.self.now.way.node.0 c.node.result.now c.in-Border.border c.node.ensures.value c.in-Border.is) (rw c.version-version.ensures.value at (sym c.deleted.ensures ∙ c.if-deleted.false))
+    (rw c.version-version.ensures.value at (sym c.is_locked.ensures ∙ c.if-is_locked.true))

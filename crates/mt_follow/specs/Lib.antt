@@ -1,2 +1,0 @@
--- What it is to follow an index.
-pub mod Follows

@@ -1,3 +1,0 @@
-pub mod ViewLemmas
-pub mod StandingLemmas
-pub mod QueueLemmas

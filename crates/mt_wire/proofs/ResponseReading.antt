@@ -1,0 +1,86 @@
+-- Reading answers from left to right, as Reading.antt does queries: the laws need it, and no code does it.
+use Rattle.std.specs.Prelude.{ℕ, zero, suc, ◌+◌, ◌*◌, ◌^◌, List, length, Some, None, nat_lt, if◌then◌else◌}
+use Rattle.std.specs.Int.{w16, w64}
+use Rattle.mt_types.specs.declared.row.Row.{Row}
+use Rattle.mt_types.specs.declared.limits.TheConstants.{MAX_KEY_BYTES}
+use Rattle.mt_types.specs.declared.event.TidyRule.{TidyRule}
+use Rattle.mt_types.specs.TidyNumbers.{tidy_of}
+use Rattle.mt_types.specs.declared.refusal.Refusal.{Refusal}
+use Rattle.mt_types.specs.RefusalNumbers.{refusal_of}
+use Rattle.mt_wire.specs.declared.response.Response.{Response}
+use Rattle.mt_wire.specs.declared.response.Response.TheVariants.{Refused, Done, View, Dropped}
+use Rattle.mt_wire.specs.declared.response.End.TheVariants.{Absent, Found, Committed, Rows, Tidied, Built}
+use Rattle.mt_wire.specs.Reading.{Reader, ◌>>=◌, both, made, nothing_at, number_at, key_at, short_at, times_at, counted_at, kind_at}
+
+-- two bytes that count them, and the items
+unfoldable pub counted16_at : {A : Type 0} → Reader A → Reader (List A)
+counted16_at item bytes = do
+  n ← number_at w16 bytes
+  times_at item n.0 n.1
+
+unfoldable pub sum_at : Reader ℕ
+sum_at = made (λ x. x.0 * 2 ^ 64 + x.1) (both (number_at w64) (number_at w64))
+
+unfoldable pub row_at : Reader Row
+row_at = made (λ x. record { version = x.0; columns = x.1 }) (both (number_at w64) (counted_at short_at))
+
+-- a key that is not too long
+unfoldable pub index_key_at : Reader (List ℕ)
+index_key_at bytes = do
+  key ← key_at bytes
+  if nat_lt MAX_KEY_BYTES (length key.0) then None else Some (key.0, key.1)
+
+unfoldable pub pair_at : Reader (List ℕ × Row)
+pair_at = both index_key_at row_at
+
+-- the refusal of this number, with its detail, which is in the next eight bytes
+unfoldable pub refusal_rest : ℕ → Reader Refusal
+refusal_rest kind bytes = do
+  detail ← number_at w64 bytes
+  refusal ← refusal_of kind detail.0
+  Some (refusal, detail.1)
+
+-- the rule of this number, without more bytes
+unfoldable pub rule_rest : ℕ → Reader TidyRule
+rule_rest kind bytes = do
+  rule ← tidy_of kind
+  Some (rule, bytes)
+
+-- the numbers of commits at the begin and at the end of a call, and how it ended
+abbrev pub span_at : Reader (ℕ × ℕ)
+span_at = both (number_at w64) (number_at w64)
+
+unfoldable pub absent_at : Reader Response
+absent_at = made (λ x. Done x.0 x.1 Absent) span_at
+
+unfoldable pub found_at : Reader Response
+found_at = made (λ x. Done x.0.0 x.0.1 (Found x.1)) (both span_at row_at)
+
+unfoldable pub committed_at : Reader Response
+committed_at = made (λ x. Done x.0.0 x.0.1 (Committed x.1)) (both span_at (number_at w64))
+
+unfoldable pub rows_at : Reader Response
+rows_at = made (λ x. Done x.0.0 x.0.1 (Rows x.1)) (both span_at (counted16_at pair_at))
+
+unfoldable pub tidied_at : Reader Response
+tidied_at = made (λ x. Done x.0.0 x.0.1 (Tidied x.1)) (both span_at (kind_at rule_rest))
+
+unfoldable pub built_at : Reader Response
+built_at = made (λ x. Done x.0.0 x.0.1 (Built (record { 0 = x.1 }))) (both span_at (number_at w64))
+
+unfoldable pub view_at : Reader Response
+view_at =
+    made (λ x. View (record { at = x.0.0.0; count = x.0.0.1; sums = x.0.1; rows = x.1 }))
+    (both (both (both (number_at w64) (number_at w64)) (counted_at sum_at)) (counted16_at pair_at))
+
+unfoldable pub response_rest : ℕ → Reader Response
+response_rest zero = made (λ x. Refused x) (kind_at refusal_rest)
+response_rest (suc zero) = absent_at
+response_rest (suc (suc zero)) = found_at
+response_rest (suc (suc (suc zero))) = committed_at
+response_rest (suc (suc (suc (suc zero)))) = rows_at
+response_rest (suc (suc (suc (suc (suc zero))))) = tidied_at
+response_rest (suc (suc (suc (suc (suc (suc zero)))))) = built_at
+response_rest (suc (suc (suc (suc (suc (suc (suc zero))))))) = view_at
+response_rest (suc (suc (suc (suc (suc (suc (suc (suc zero)))))))) = made (λ _. Dropped) nothing_at
+response_rest (suc (suc (suc (suc (suc (suc (suc (suc (suc kind))))))))) = λ bytes. None
