@@ -3,11 +3,11 @@
 
 use bytes::Bytes;
 use mt_border::RightLink;
-use mt_works::build::Build;
 use mt_scan::ScanMove;
 use mt_types::numbers::NodeNo;
 use mt_types::refusal::Refusal;
 use mt_types::view::{RowTest, ViewSpec};
+use mt_works::build::Build;
 use std::alloc::Global;
 use std::test::Fail;
 

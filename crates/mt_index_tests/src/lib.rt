@@ -1,5 +1,5 @@
-//! Tests of views, builds and scripts by the public surface of their crates. There is nothing else here: a crate of its
-//! own, so that the crates below are proved once.
+//! Tests of views, builds, scripts and sessions by the public surface of their crates. There is nothing else here: a
+//! crate of its own, so that the crates below are proved once.
 #![tactic(auto)]
 
 #[cfg(test)]
@@ -7,10 +7,14 @@ mod builds;
 #[cfg(test)]
 mod commits;
 #[cfg(test)]
+mod faulty;
+#[cfg(test)]
 mod maps;
 #[cfg(test)]
 mod runs;
 #[cfg(test)]
 mod scripts;
+#[cfg(test)]
+mod sessions;
 #[cfg(test)]
 mod views;
