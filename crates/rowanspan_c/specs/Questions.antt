@@ -15,7 +15,7 @@ use Rattle.mt_promise.specs.History.{History, moment, rows}
 use Rattle.mt_promise.specs.Alone.{IsRangeOfMap}
 use Rattle.mt_commit.specs.Logged.{deltas_of}
 use Rattle.mt_view.specs.State.{StateView}
-use Rattle.mt_views.specs.Views.{state_at}
+use Rattle.mt_view.specs.Views.{state_at}
 use Rattle.mt_index.specs.Stands.{MachineView, Stands, ReadsView}
 use Rattle.mt_index.specs.Feed.{feed_fault}
 use Rattle.rowanspan_c.specs.declared.reading.Question.{Question}
@@ -53,11 +53,12 @@ AreDeltas s from limit deltas = (h : History) → Stands s h
     → deltas ≡ take limit (drop from (deltas_of s.columns (moment h).commits))
 
 -- ---- the bytes of a right answer, or none if a key has no row; or why the reader is refused
+-- a get is refused only for the first limit that it breaks, never as out of memory
 abbrev pub ReadsRow : MachineView → List ℕ → List ℕ → Result (Option (List ℕ)) Refusal → Type 0
 ReadsRow s key asked (Ok bytes) =
     (row : Option RowValue) × IsPlainRow s key asked row × (bytes ≡ option_map row_spelling row)
     × (request_fault s.columns (Get key asked) ≡ None)
-ReadsRow s key asked (Err refusal) = IsCausedBy (request_fault s.columns (Get key asked)) refusal
+ReadsRow s key asked (Err refusal) = request_fault s.columns (Get key asked) ≡ Some refusal
 
 abbrev pub ReadsRows : MachineView → List ℕ → ℕ → List ℕ → Result (Option (List ℕ)) Refusal → Type 0
 ReadsRows s start limit asked (Ok bytes) =

@@ -140,7 +140,7 @@ pub extern "C" fn rowanspan_raw_tidy(
     change(handle, alloc, &Asked::Tidy { key }, told)
 }
 
-/// Gets the row of a key.
+/// Gets the row of a key. It is refused only for the first limit that it breaks, never as out of memory.
 #[unsafe(no_mangle)]
 pub extern "C" fn rowanspan_raw_get(
     handle: &mut Handle,

@@ -1,6 +1,6 @@
 //! What a call returns to its caller: a status, a number, and the bytes in its buffer.
 
-ghost use Rattle.std.specs.Prelude.{◌≡◌, ◌⊎◌};
+ghost use Rattle.mt_types.specs.Limited.{RowIsLimited};
 ghost use Rattle.mt_types.specs.Rows.{shown};
 ghost use Rattle.rowanspan_c.specs.Spelling.{row_spelling};
 ghost use Rattle.rowanspan_c.specs.Told.{Tells, TellsRefusal, TellsAnswer, TellsEnd, TellsOutcome, HandsOut, TellsRead};
@@ -121,15 +121,12 @@ pub(crate) fn tell_absent(told: &mut u64) -> u16
     ABSENT
 }
 
-/// Reports a row, with the columns that are asked for: copies it into the buffer if it has room for it. A row with more
-/// bytes than can be counted is refused as out of memory.
+/// Reports a row, with the columns that are asked for: copies it into the buffer if it has room for it.
 pub(crate) fn tell_row(row: &Row, asked: &[u8], into: &mut [u8], told: &mut u64) -> u16
-    ensures { HandsOut (row_spelling (shown asked.now row.now)) into.old into.new result told.new
-        ⊎ ((into.new ≡ into.old) × TellsRefusal Refusal.NoMemory result told.new) }
+    requires { RowIsLimited (shown asked.now row.now) }
+    ensures { HandsOut (row_spelling (shown asked.now row.now)) into.old into.new result told.new }
 {
-    let Some(length) = placing::row_length(row, asked) else {
-        return tell_refusal(Refusal::NoMemory, told);
-    };
+    let length = placing::row_length(row, asked);
     *told = length as u64;
     if length > into.len() {
         return NO_ROOM;

@@ -1,7 +1,8 @@
 //! A row, copied from the index into the caller's buffer. Nothing is allocated.
 
-ghost use Rattle.std.specs.Prelude.{◌≡◌, ◌+◌, ◌<◌, ◌≤◌, [], length, slice_index_or, IfSome};
+ghost use Rattle.std.specs.Prelude.{◌≡◌, ◌+◌, ◌<◌, ◌≤◌, ◌^◌, [], length, slice_index_or};
 ghost use Rattle.std.specs.List.{flat_map};
+ghost use Rattle.mt_types.specs.Limited.{RowIsLimited};
 ghost use Rattle.mt_types.specs.Rows.{chosen, shown};
 ghost use Rattle.rowanspan_c.specs.Spelling.{number_spelling, bytes_spelling, list_spelling, row_spelling};
 ghost use Rattle.rowanspan_c.specs.Placed.{Writes};
@@ -35,24 +36,24 @@ pub(crate) fn column<'a>(columns: &'a Columns, asked: &[u8], place: usize) -> &'
     columns.get_or_empty(number)
 }
 
-// How many bytes the columns that are shown have, with the number before each. None if there are too many to count.
-fn columns_length(columns: &Columns, asked: &[u8]) -> Option<usize>
-    ensures { IfSome result (λ n. n ≡ length (flat_map bytes_spelling (chosen asked.now columns.now))) }
+// How many bytes the columns that are shown have, with the number before each.
+fn columns_length(columns: &Columns, asked: &[u8]) -> usize
+    requires { length (flat_map bytes_spelling (chosen asked.now columns.now)) < 2 ^ 32 }
+    ensures { result ≡ length (flat_map bytes_spelling (chosen asked.now columns.now)) }
 {
-    let mut length = 0usize;
+    let mut length = 0;
     for place in 0..count(columns, asked) {
-        let bytes = column(columns, asked, place).len();
-        length = length.checked_add(bytes)?.checked_add(NUMBER_BYTES)?;
+        length += NUMBER_BYTES + column(columns, asked, place).len();
     }
-    Some(length)
+    length
 }
 
-/// Returns how many bytes an answer with this row has, with the columns that are asked for. None if there are too many
-/// to count.
-pub(crate) fn row_length(row: &Row, asked: &[u8]) -> Option<usize>
-    ensures { IfSome result (λ n. n ≡ length (row_spelling (shown asked.now row.now))) }
+/// Returns how many bytes an answer with this row has, with the columns that are asked for.
+pub(crate) fn row_length(row: &Row, asked: &[u8]) -> usize
+    requires { RowIsLimited (shown asked.now row.now) }
+    ensures { result ≡ length (row_spelling (shown asked.now row.now)) }
 {
-    columns_length(&row.columns, asked)?.checked_add(2 * NUMBER_BYTES)
+    2 * NUMBER_BYTES + columns_length(&row.columns, asked)
 }
 
 // ---- each of these writes at a place of the buffer, and returns the place after what it has written

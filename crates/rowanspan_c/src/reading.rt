@@ -62,6 +62,8 @@ fn tell_row_of(index: &Machine, key: &[u8], columns: &[u8], into: &mut [u8], tol
     ensures { (read : Result (Option (List ℕ)) Refusal) × ReadsRow index.now key.now columns.now read
         × TellsRead read into.old into.new result told.new }
 {
+    // (so there is a history that the index is at, by which its rows keep their limits)
+    prove!(index.is_idle());
     match index.row(key) {
         Some(row) => tell_row(row, columns, into, told),
         None => tell_absent(told),
@@ -69,7 +71,7 @@ fn tell_row_of(index: &Machine, key: &[u8], columns: &[u8], into: &mut [u8], tol
 }
 
 /// Copies the row of a key from the index into a buffer, with the columns that are asked for, or with all if none is
-/// asked for. Allocates nothing.
+/// asked for. Allocates nothing, and refuses only for the first limit that is broken.
 pub(crate) fn get(
     index: &Machine,
     key: &[u8],

@@ -1,6 +1,10 @@
 use Rattle.std.proofs.Common.{refl}
-use Rattle.rowanspan_c.proofs.RowRead.{found, absent}
+use Rattle.rowanspan_c.proofs.RowRead.{found, absent, row_limited}
 use Rattle.rowanspan_c.proofs.reading.tell_row_of.Goals as goal
+
+pub tell_row-requires : goal.tell_row-requires
+tell_row-requires c =
+    row_limited c.args.index.now c.args.key.now c.args.columns.now c.args.into.now c.args.into.now 0 c.args.told.now c.in-Some.row.now c.is_idle.ensures.stands c.in-Some.ensures c.requires.fits
 
 pub returns-in-Some : goal.returns-in-Some
 returns-in-Some c =
