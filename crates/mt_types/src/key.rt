@@ -61,6 +61,20 @@ impl Key {
         let Key { bytes } = self;
         bytes
     }
+
+    /// Returns an equal key whose bytes are its own: what keeps it keeps no frame that the key was read of. Copies the
+    /// bytes, with two allocations.
+    ///
+    /// # Errors
+    ///
+    /// `NoMemory` if an allocation is refused.
+    pub fn detached(&self, alloc: Global) -> Result<Key, NoMemory>
+        ensures { IfOk result (λ made. made ≡ self.now) }
+    {
+        Ok(Key {
+            bytes: Bytes::copy_from_slice(alloc, self.as_slice())?,
+        })
+    }
 }
 
 impl TryCopy for Key {

@@ -55,6 +55,58 @@ pub struct Page {
     pub rows: Pairs,
 }
 
+// The same bytes in a block of their own.
+fn detached(alloc: Global, bytes: &Bytes) -> Result<Bytes, NoMemory>
+    ensures { IfOk result (λ made. made ≡ bytes.now) }
+{
+    Ok(Bytes::copy_from_slice(alloc, bytes.as_slice())?)
+}
+
+impl RowTest {
+    /// Returns an equal test whose bytes are its own. Copies them, if there are any.
+    ///
+    /// # Errors
+    ///
+    /// `NoMemory` if an allocation is refused.
+    pub fn detached(&self, alloc: Global) -> Result<RowTest, NoMemory>
+        ensures { IfOk result (λ made. made ≡ self.now) }
+    {
+        match self {
+            RowTest::Any => Ok(RowTest::Any),
+            RowTest::Equals(column, bytes) => Ok(RowTest::Equals(*column, detached(alloc, bytes)?)),
+            RowTest::AtLeast(column, least) => Ok(RowTest::AtLeast(*column, *least)),
+        }
+    }
+}
+
+impl ViewSpec {
+    /// Returns an equal specification whose bytes are its own: a view that keeps it keeps no frame that it was read of.
+    /// Copies the bytes.
+    ///
+    /// # Errors
+    ///
+    /// `NoMemory` if an allocation is refused.
+    pub fn detached(&self, alloc: Global) -> Result<ViewSpec, NoMemory>
+        ensures { IfOk result (λ made. made ≡ self.now) }
+    {
+        match self {
+            ViewSpec::Range { lo, hi, test } => {
+                let lo = detached(alloc, lo)?;
+                let hi = match hi {
+                    Some(hi) => Some(detached(alloc, hi)?),
+                    None => None,
+                };
+                let test = test.detached(alloc)?;
+                Ok(ViewSpec::Range { lo, hi, test })
+            }
+            ViewSpec::Prefix { key, test } => Ok(ViewSpec::Prefix {
+                key: detached(alloc, key)?,
+                test: test.detached(alloc)?,
+            }),
+        }
+    }
+}
+
 impl TryCopy for RowTest {
     /// Shares the bytes. A test without bytes allocates nothing, and its copy cannot fail (`free`).
     fn copy(&self, alloc: Global) -> Result<RowTest, NoMemory>

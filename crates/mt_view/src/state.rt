@@ -52,8 +52,8 @@ impl ViewState {
     ghost use Rattle.mt_commit.specs.Deltas.{redo, with_row};
     ghost use Rattle.mt_view.specs.State.{StateView, IsAfresh, belonging, applied, with_pairs, page_of_state};
 
-    /// Returns the state of a view of no rows, at number 0, which sums `columns` columns. O(n) in `columns`; one
-    /// allocation.
+    /// Returns the state of a view of no rows, at number 0, which sums `columns` columns. It keeps bytes of its own of the
+    /// specification. O(n) in `columns` and in these bytes.
     pub fn open(alloc: Global, columns: u8, spec: ViewSpec) -> Result<ViewState, NoMemory>
         ensures ok { IfOk result (λ state. state ≡ record {
           spec = spec;
@@ -65,7 +65,7 @@ impl ViewState {
     {
         Ok(ViewState {
             alloc,
-            spec,
+            spec: spec.detached(alloc)?,
             at: 0,
             rows: BTreeMap::new(alloc),
             sums: vec![in alloc; 0u128; columns as usize]?,

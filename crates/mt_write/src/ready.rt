@@ -107,11 +107,11 @@ pub fn make_columns(
     make_columns_of(alloc, log, row, row_at(border, place))
 }
 
-// The key and the columns once more, for the log.
+// The key and the columns once more, for the log, which may keep them for long: the key has bytes of its own.
 pub fn copy_for_log(alloc: Global, key: &Key, columns: &Columns) -> Result<(Key, Columns), NoMemory>
     ensures { IfOk result (λ made. (made.0 ≡ key.now) × (made.1 ≡ columns.now)) }
 {
-    Ok((key.copy(alloc)?, columns.copy(alloc)?))
+    Ok((key.detached(alloc)?, columns.copy(alloc)?))
 }
 
 // Reserves room in the log, and makes the columns that the row at a place, which is this, is to have.
@@ -227,12 +227,12 @@ pub fn prepare(
     }
 }
 
-// A copy of a row, and of its key.
+// A copy of a row, and of its key, for the log.
 fn copy_row(alloc: Global, old: &Row, key: &Key) -> Result<(Key, Row), NoMemory>
     ensures { IfOk result (λ made. (made.0 ≡ key.now) × (made.1 ≡ old.now)) }
 {
     let before = old.copy(alloc)?;
-    Ok((key.copy(alloc)?, before))
+    Ok((key.detached(alloc)?, before))
 }
 
 // Reserves room in the log, and copies the row at a place, which is to be removed.
