@@ -1,5 +1,6 @@
 -- What the contracts of this crate cite.
 pub mod Descent
+pub mod Emptied
 pub mod Gathered
 pub mod Standing
 pub mod Start

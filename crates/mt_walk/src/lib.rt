@@ -3,10 +3,12 @@
 
 mod course;
 mod descent;
+mod emptied;
 mod range;
 mod spelling;
 mod start;
 mod walk;
 
+pub use emptied::is_emptied;
 pub use range::range_of;
 pub use walk::Walk;

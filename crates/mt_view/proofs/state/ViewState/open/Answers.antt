@@ -8,7 +8,8 @@ pub returns-clause-ok : goal.returns-clause-ok
 returns-clause-ok c =
     let rows = seen-empty c.new.result c.new.ensures.ordered c.new.ensures.len in
     let columns = c.in_ok-vec.ensures.len in
-    λ t. record { spec = c.args.spec; columns = columns t; at = 0; rows = rows t }
+    let spec = c.in_ok-detached.ensures in
+    λ t. record { spec = spec t; columns = columns t; at = 0; rows = rows t }
 
 pub returns-clause-afresh : goal.returns-clause-afresh
 returns-clause-afresh c =
