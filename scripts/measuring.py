@@ -12,7 +12,7 @@ import subprocess
 import sys
 import tempfile
 from pathlib import Path
-from typing import Any, Iterable, Iterator, List, Optional, Sequence
+from typing import Any, Dict, Iterable, Iterator, List, Optional, Sequence
 
 TOP = Path(__file__).resolve().parent.parent
 SCRIPTS = TOP / "scripts"
@@ -31,6 +31,13 @@ def cargo_built(folder: Path, name: str, room: str, **environment: str) -> Path:
              "--manifest-path", str(folder / "Cargo.toml")]
     subprocess.run(words, check=True, env={**os.environ, **environment})
     return Path(room) / "release" / name
+
+
+def figures(words: Sequence[str], **environment: str) -> Dict[str, float]:
+    """What one run of a program tells, in lines of a figure, a tab and its name."""
+    said = subprocess.run(words, check=True, stdout=subprocess.PIPE, text=True, env={**os.environ, **environment})
+    lines = (line.split("\t") for line in said.stdout.splitlines())
+    return {name: float(figure) for figure, name in lines}
 
 
 # ---- the index's sides, in Rattle: no crates of crates.txt, but built over the libraries that a run of the gate has left

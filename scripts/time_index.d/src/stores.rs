@@ -40,7 +40,8 @@ fn least(view: usize) -> u64 {
     (view as u64) << 62
 }
 
-fn locked<T>(lock: &Mutex<T>) -> MutexGuard<'_, T> {
+/// What a lock holds.
+pub fn locked<T>(lock: &Mutex<T>) -> MutexGuard<'_, T> {
     lock.lock().unwrap_or_else(PoisonError::into_inner)
 }
 
@@ -48,7 +49,7 @@ fn locked<T>(lock: &Mutex<T>) -> MutexGuard<'_, T> {
 
 /// The index.
 pub struct Indexed {
-    index: Mutex<Index>,
+    pub index: Mutex<Index>,
     views: Vec<u64>,
 }
 
