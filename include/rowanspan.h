@@ -189,9 +189,10 @@ rowanspan_status rowanspan_put(rowanspan *index, const void *key, size_t key_len
 rowanspan_status rowanspan_put_if(rowanspan *index, const void *key, size_t key_length,
                                   const struct rowanspan_set *sets, size_t count, uint64_t version, uint64_t *told);
 
-/* rowanspan_remove: removes a key's row. *told is the number of the commit.
+/* rowanspan_remove: removes a key's row. *told is the number of the commit. If this leaves a node without rows, nodes
+ * that are no longer needed are taken out of the tree and freed.
  *
- * Cost: a visit of each node on the way to the key.
+ * Cost: a visit of each node on the way to the key, twice, and the steps by which nodes are taken out.
  *
  * Returns OK. Returns ABSENT if the key has no row; nothing changes, and there is no commit. Fails with KEY_TOO_LONG,
  * FEED_FULL, SPENT or NO_MEMORY; the row is then as it was. */
@@ -199,6 +200,7 @@ rowanspan_status rowanspan_remove(rowanspan *index, const void *key, size_t key_
 
 /* rowanspan_tidy: takes at most one node out of the tree near the place of a key, if removes have left one that isn't
  * needed. It changes no row. *told is what it has done (ROWANSPAN_TIDIED_). rowanspan_collect frees what was taken out.
+ * A program needs neither, since each remove does both where it leaves a node without rows.
  *
  * Cost: a visit of each node on the way to the key.
  *

@@ -174,32 +174,56 @@ static void feeds(void) {
     ends("feeds");
 }
 
-/* Layers are made by keys that begin alike, and tidies take them out again. A collect frees their nodes. */
+/* Layers are made by keys that begin alike. The removes take them out again and free their nodes, so that tidies and a
+ * collect find nothing. */
 static void tidies(void) {
     rowanspan *index = opened(1, 16, 0);
     char key[40];
-    uint64_t told = 99, nodes = 0, freed = 0;
-    int i;
+    uint64_t told = 99, nodes = 0;
     begins();
     memset(key, 'k', sizeof key);
     WANT_SAME(rowanspan_put(index, key, 40, NULL, 0, &told), ROWANSPAN_OK);
     WANT_SAME(rowanspan_put(index, key, 39, NULL, 0, &told), ROWANSPAN_OK);
     WANT_SAME(rowanspan_nodes(index, &nodes), ROWANSPAN_OK);
-    WANT(nodes > 2);
+    WANT_SAME(nodes, 10);
     WANT_SAME(rowanspan_remove(index, key, 40, &told), ROWANSPAN_OK);
+    WANT_SAME(rowanspan_nodes(index, &nodes), ROWANSPAN_OK);
+    WANT_SAME(nodes, 10);
     WANT_SAME(rowanspan_remove(index, key, 39, &told), ROWANSPAN_OK);
-    for (i = 0; i < 100; i++) {
-        WANT_SAME(rowanspan_tidy(index, key, 40, &told), ROWANSPAN_OK);
-    }
+    WANT_SAME(told, 4);
+    WANT_SAME(rowanspan_nodes(index, &nodes), ROWANSPAN_OK);
+    WANT_SAME(nodes, 2);
+    WANT_SAME(rowanspan_tidy(index, key, 40, &told), ROWANSPAN_OK);
     WANT_SAME(told, ROWANSPAN_TIDIED_NOTHING);
     WANT_SAME(rowanspan_advance(index, &told), ROWANSPAN_OK);
     WANT_SAME(told, 1);
-    WANT_SAME(rowanspan_collect(index, &freed), ROWANSPAN_OK);
-    WANT_SAME(freed, nodes - 2);
-    WANT_SAME(rowanspan_nodes(index, &nodes), ROWANSPAN_OK);
-    WANT_SAME(nodes, 2);
+    WANT_SAME(rowanspan_collect(index, &told), ROWANSPAN_OK);
+    WANT_SAME(told, 0);
     rowanspan_close(index);
     ends("tidies");
+}
+
+/* A window moves: each move puts a row at its end and removes the one at its front. Its nodes stay as few as they were. */
+static void window(void) {
+    rowanspan *index = opened(1, 16, 0);
+    unsigned char key[8] = {0};
+    uint64_t told = 99, nodes = 0;
+    unsigned row;
+    begins();
+    for (row = 0; row < 20000; row++) {
+        key[6] = (unsigned char)(row >> 8);
+        key[7] = (unsigned char)row;
+        WANT_SAME(rowanspan_put(index, key, sizeof key, NULL, 0, &told), ROWANSPAN_OK);
+        if (row >= 100) {
+            key[6] = (unsigned char)((row - 100) >> 8);
+            key[7] = (unsigned char)(row - 100);
+            WANT_SAME(rowanspan_remove(index, key, sizeof key, &told), ROWANSPAN_OK);
+        }
+    }
+    WANT_SAME(rowanspan_nodes(index, &nodes), ROWANSPAN_OK);
+    WANT(nodes < 30);
+    rowanspan_close(index);
+    ends("window");
 }
 
 int main(void) {
@@ -209,5 +233,6 @@ int main(void) {
     large_sums();
     feeds();
     tidies();
+    window();
     return all_told();
 }

@@ -1,6 +1,6 @@
 //! How an index is opened.
 
-ghost use Rattle.std.specs.Prelude.{◌≡◌, None};
+ghost use Rattle.std.specs.Prelude.{◌≡◌, None, true};
 ghost use Rattle.mt_types.specs.Limits.{open_fault};
 
 /// What an index is opened with.
@@ -12,19 +12,23 @@ pub struct Options {
     pub feed: u64,
     /// How many of the last commits the log keeps for no reader: at most 65,536.
     pub keep: u64,
+    /// Whether a remove that leaves its border empty is followed by tidies there, and by what frees their nodes. The
+    /// machine itself makes none: a map does, and an index that threads share (`drive_and_keep`).
+    pub tidies: bool,
 }
 
 impl Default for Options {
     /// Returns options of one column, with a log that holds 4,096 commits for the slowest reader and keeps none for no
-    /// reader.
+    /// reader, and with tidies after removes.
     fn default() -> Options
-        ensures value { result ≡ record { columns = 1; feed = 4096; keep = 0 } }
+        ensures value { result ≡ record { columns = 1; feed = 4096; keep = 0; tidies = true } }
         ensures within { open_fault result.columns result.feed result.keep ≡ None }
     {
         Options {
             columns: 1,
             feed: 4096,
             keep: 0,
+            tidies: true,
         }
     }
 }

@@ -17,4 +17,6 @@ mod scripts;
 #[cfg(test)]
 mod sessions;
 #[cfg(test)]
+mod tidying;
+#[cfg(test)]
 mod views;

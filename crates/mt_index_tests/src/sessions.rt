@@ -15,6 +15,7 @@ const OPTIONS: Options = Options {
     columns: 1,
     feed: 4096,
     keep: 0,
+    tidies: true,
 };
 
 // A put of 76 into column 0 of key 61, and a get of that key.

@@ -2,3 +2,4 @@
 pub mod MapLemmas
 pub mod WalkLemmas
 pub mod Ranges
+pub mod TidyLemmas

@@ -1,18 +1,24 @@
 -- What calls and events come to on a machine on which no call is open.
-use Rattle.std.proofs.Common.{arith, ◌≡◌, ◌≤◌, ℕ, List, refl, sym, ap, subst, ◌∙◌, inl, inr, Bool, true, false, eqb}
-use Rattle.std.specs.Prelude.{Option, Some, None, Result, Ok, Err, IfOk, MatchOption, if◌then◌else◌}
+use Rattle.std.proofs.Common.{arith, ◌≡◌, ◌≤◌, ℕ, List, length, suc, ◌<◌, refl, sym, ap, subst, ◌∙◌, inl, inr, Bool, true, false, eqb}
+use Rattle.std.specs.Prelude.{Option, Some, None, Result, Ok, Err, IfOk, MatchBool, MatchOption, if◌then◌else◌, ◌&&◌, is_some, nat_le}
+use Rattle.std.specs.Option.{option_or}
+use Rattle.std.proofs.lemmas.Bool.Decides.{leb_tells}
+use Rattle.mt_types.specs.Numbers.{greatest_number}
+use Rattle.mt_types.specs.declared.limits.TheConstants.{MAX_KEY_BYTES, MAX_OPEN_CALLS}
 use Rattle.mt_types.specs.declared.numbers.ViewNo.{ViewNo}
 use Rattle.mt_types.specs.declared.refusal.Refusal.{Refusal}
-use Rattle.mt_types.specs.declared.refusal.Refusal.TheVariants.{NoMemory, NoSuchView, Behind}
+use Rattle.mt_types.specs.declared.refusal.Refusal.TheVariants.{NoMemory, NoSuchView, Behind, KeyTooLong, Spent, TooManyCalls}
 use Rattle.mt_types.specs.declared.event.Answer.{Answer}
+use Rattle.mt_types.specs.declared.event.Answer.TheVariants.{Absent, Removed}
 use Rattle.mt_types.specs.declared.event.Event.{Event}
 use Rattle.mt_types.specs.declared.event.Event.TheVariants.{Begin, Step, Apply, ViewRead, ViewDrop, Advance, Collect}
 use Rattle.mt_types.specs.declared.event.Outcome.{Outcome}
 use Rattle.mt_types.specs.declared.event.Outcome.TheVariants.{Applied, Current, Done, Dropped, Freed, View, Refused}
 use Rattle.mt_types.specs.declared.event.Reply.{Reply}
 use Rattle.mt_types.specs.declared.event.Request.{Request}
+use Rattle.mt_types.specs.declared.event.Request.TheVariants.{Remove}
 use Rattle.mt_types.specs.declared.view.Page.{Page}
-use Rattle.mt_types.specs.Limits.{page_fault}
+use Rattle.mt_types.specs.Limits.{key_fault, page_fault, refused_if}
 use Rattle.mt_promise.specs.History.{History, moment}
 use Rattle.mt_view.specs.Laws.{ShowsPage}
 use Rattle.mt_view.specs.Views.{state_at}
@@ -20,9 +26,10 @@ use Rattle.mt_view.specs.State.{StateView, page_of_state}
 use Rattle.mt_index.specs.Alone.{IsIdle, AnswersPlainly, RefusesPlainly}
 use Rattle.mt_index.specs.Events.{EventDoes, HappensAlone}
 use Rattle.mt_index.specs.Stands.{MachineView, Stands, HasBounds, ReadsPage, ReadsView, fault_of}
-use Rattle.mt_map.specs.Calls.{CameTo, IsAnswerTo}
+use Rattle.mt_map.specs.Calls.{CameTo, IsAnswerTo, removed_by}
 use Rattle.mt_index.specs.Viewing.{page_outcome}
 use Rattle.mt_index.proofs.MachineLemmas.{copies_view}
+use Rattle.mt_map.specs.Tidies.{MapCameTo, MapView, PurgesAfter, PurgesIfEmptied, Removes, RemovesAndTidies, RemovesNone, has_removed}
 use Rattle.mt_map.specs.Views.{IsOutside, ShowsView}
 
 -- ---- answers
@@ -60,6 +67,76 @@ came_refused s t request refusal plainly happens fault columns bounds = record {
   fault = fault_as (fault_of s request) refusal fault;
   columns = columns;
   bounds = bounds;
+}
+
+-- ---- nothing follows a call
+pub purges_none : (request : Request) (ended : Result Reply Refusal) (s : MachineView) → false ≡ has_removed ended → PurgesAfter request ended s s
+purges_none (Remove key) ended s not_removed = subst (λ (b : Bool). MatchBool b (PurgesIfEmptied s key s) (s ≡ s)) not_removed refl
+purges_none _ ended s not_removed = refl
+
+pub long_fault : (key : List ℕ) → MAX_KEY_BYTES < length key → key_fault key ≡ Some KeyTooLong
+long_fault key long = elim (leb_tells (suc MAX_KEY_BYTES) (length key)) [
+  | inl t ↦ ap (λ (b : Bool). refused_if b KeyTooLong) t.0
+  | inr f ↦ absurd (let most = f.1 in omega (arith, most, long))
+]
+
+pub short_fault : (key : List ℕ) → length key ≤ MAX_KEY_BYTES → key_fault key ≡ None
+short_fault key short = elim (leb_tells (suc MAX_KEY_BYTES) (length key)) [
+  | inl t ↦ absurd (let more = t.1 in omega (arith, more, short))
+  | inr f ↦ ap (λ (b : Bool). refused_if b KeyTooLong) f.0
+]
+
+-- a request that removes no row isn't answered so
+pub long_ends : {A : Type 0} (s : MachineView) (key : List ℕ) (ended : Result A Refusal) → MAX_KEY_BYTES < length key
+    → MatchOption (fault_of s (Remove key)) (Unit {0}) (λ (due : Refusal). ended ≡ Err due) → ended ≡ Err KeyTooLong
+long_ends s key ended long fault =
+    subst (λ (own : Option Refusal). MatchOption (option_or own (option_or (refused_if (nat_le greatest_number s.calls.begun) Spent) (option_or (refused_if (nat_le MAX_OPEN_CALLS (length s.calls.calls)) TooManyCalls) None))) (Unit {0}) (λ (due : Refusal). ended ≡ Err due))
+    (long_fault key long) fault
+
+pub none_removed : (s : MachineView) (request : Request) (ended : Result Reply Refusal) (done : MachineView) → RemovesNone request
+    → MatchOption (fault_of s request) (Unit {0}) (λ (due : Refusal). ended ≡ Err due) → PurgesAfter request ended done done
+none_removed s (Remove key) ended done long fault =
+    purges_none (Remove key) ended done (sym (ap has_removed (long_ends s key ended long fault)))
+none_removed s _ ended done none fault = refl
+
+-- ---- removes
+untaken : (s t : MapView) (key : List ℕ) (found : Option ℕ) → MapCameTo s (Remove key) (removed_by (Ok found)) t → (s.tidies && is_some found) ≡ false → RemovesAndTidies s key found t
+untaken s t key found came off = record {
+  removed = t.machine;
+  came = came.came;
+  then = subst (λ (b : Bool). MatchBool b (PurgesIfEmptied t.machine key t.machine) (t.machine ≡ t.machine)) (sym off) refl;
+  tidies = came.tidies;
+}
+
+off_and : (b c : Bool) → b ≡ false → (b && c) ≡ false
+off_and b c off = ap (λ (x : Bool). x && c) off
+
+and_off : (b : Bool) → (b && false) ≡ false
+and_off true = refl
+and_off false = refl
+
+-- where no tidies follow removes
+pub removes_untidied : (s t : MapView) (key : List ℕ) (result : Result (Option ℕ) Refusal) → MapCameTo s (Remove key) (removed_by result) t → s.tidies ≡ false → Removes s key result t
+removes_untidied s t key (Ok found) came off = untaken s t key found came (off_and s.tidies (is_some found) off)
+removes_untidied s t key (Err refusal) came off = inl came
+
+-- of a key that is too long
+pub removes_long : (s t : MapView) (key : List ℕ) (result : Result (Option ℕ) Refusal) → MapCameTo s (Remove key) (removed_by result) t → MAX_KEY_BYTES < length key → Removes s key result t
+removes_long s t key (Ok (Some commit)) came long =
+    absurd (let clash : ◌≡◌ {A = Result Answer Refusal} (Ok (Removed commit)) (Err KeyTooLong) = long_ends s.machine key (Ok (Removed commit)) long came.came.fault in cc)
+removes_long s t key (Ok None) came long = untaken s t key None came (and_off s.tidies)
+removes_long s t key (Err refusal) came long = inl came
+
+pub removes_none : (s t : MapView) (key : List ℕ) → MapCameTo s (Remove key) (Ok Absent) t → Removes s key (Ok None) t
+removes_none s t key came = untaken s t key None came (and_off s.tidies)
+
+-- and where tidies follow
+pub removes_tidied : (s m t : MapView) (key : List ℕ) (commit : ℕ) → MapCameTo s (Remove key) (Ok (Removed commit)) m → s.tidies ≡ true → PurgesIfEmptied m.machine key t.machine → t.tidies ≡ m.tidies → Removes s key (Ok (Some commit)) t
+removes_tidied s m t key commit came on purges same = record {
+  removed = m.machine;
+  came = came.came;
+  then = subst (λ (b : Bool). MatchBool (b && true) (PurgesIfEmptied m.machine key t.machine) (t.machine ≡ m.machine)) (sym on) purges;
+  tidies = same ∙ came.tidies;
 }
 
 -- ---- events that are no part of a call

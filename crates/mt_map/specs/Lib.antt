@@ -1,4 +1,5 @@
 -- What the contracts of this crate cite.
 pub mod Calls
+pub mod Tidies
 pub mod Views
 pub mod Walks

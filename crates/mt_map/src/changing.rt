@@ -1,13 +1,17 @@
 //! How the rows of a map are changed, how its views are built, and how its tree is tidied: each by a call alone.
 
-ghost use Rattle.std.specs.Prelude.{IfOk};
+ghost use Rattle.std.specs.Prelude.{◌≡◌, IfOk, true};
 ghost use Rattle.mt_types.specs.declared.event.Answer.TheVariants.{Stored, Tidied, Built};
 ghost use Rattle.mt_types.specs.declared.event.Request.TheVariants.{Build, Put, PutIf, Remove, Tidy};
-ghost use Rattle.mt_map.specs.Calls.{CameTo, IsAnswerTo, answered_by, removed_by};
+ghost use Rattle.mt_map.specs.Calls.{IsAnswerTo, answered_by, removed_by};
+ghost use Rattle.mt_map.specs.Tidies.{MapCameTo, Removes};
 
+use crate::calling::call_alone;
 use crate::map::Map;
+use crate::tidying::{place_of_key, tidy_after};
 use bytes::Bytes;
 use mt_types::event::{Answer, Request, TidyRule};
+use mt_types::key::Key;
 use mt_types::numbers::ViewNo;
 use mt_types::refusal::Refusal;
 use mt_types::row::Sets;
@@ -16,14 +20,10 @@ use mt_types::view::ViewSpec;
 impl Map {
     // Does what is asked for, as a call alone.
     fn call(&mut self, request: Request) -> Result<Answer, Refusal>
-        ensures came { CameTo self.old request result self.new }
+        ensures came { MapCameTo self.old request result self.new }
         ensures kind { IfOk result (IsAnswerTo request) }
     {
-        let _stands = self.machine.is_idle();
-        match self.machine.do_alone(self.alloc, request) {
-            Ok(reply) => Ok(reply.answer),
-            Err(refusal) => Err(refusal),
-        }
+        call_alone(self.alloc, &mut self.machine, request)
     }
 
     /// Puts new bytes into columns of the row of `key`. The others keep theirs, or are empty if the row is new. Returns
@@ -38,7 +38,7 @@ impl Map {
     /// of the view that is furthest behind, if views hold as many commits as the option `feed` allows; `ArenaFull`,
     /// `Spent` and `NoMemory`. Nothing has changed then.
     pub fn put(&mut self, key: Bytes, sets: Sets) -> Result<u64, Refusal>
-        ensures { CameTo self.old (Put key sets) (answered_by Stored result) self.new }
+        ensures { MapCameTo self.old (Put key sets) (answered_by Stored result) self.new }
     {
         match self.call(Request::Put { key, sets }) {
             Ok(Answer::Stored(commit)) => Ok(commit),
@@ -53,7 +53,7 @@ impl Map {
     ///
     /// `OtherVersion`, with the version that the row has, or 0 if there is none. Otherwise those of [`Map::put`].
     pub fn put_if(&mut self, key: Bytes, sets: Sets, version: u64) -> Result<u64, Refusal>
-        ensures { CameTo self.old (PutIf key sets version) (answered_by Stored result) self.new }
+        ensures { MapCameTo self.old (PutIf key sets version) (answered_by Stored result) self.new }
     {
         match self.call(Request::PutIf { key, sets, version }) {
             Ok(Answer::Stored(commit)) => Ok(commit),
@@ -64,13 +64,47 @@ impl Map {
 
     /// Removes the row of `key`. Returns the number of the commit, or `None` if the key has no row.
     ///
-    /// Costs the visit of each node on the way to the key.
+    /// If the options of the map ask for tidies, and the border of the key is then empty, tidies follow there, as
+    /// [`Map::tidy`] makes them, until one takes nothing out, and the nodes are freed that they took out. So memory
+    /// comes back as rows are removed. What the tidies come to changes nothing of the answer.
+    ///
+    /// Costs the visit of each node on the way to the key, twice if tidies are on, and the steps of the tidies.
     ///
     /// # Errors
     ///
     /// `KeyTooLong`, `FeedFull`, `Spent` and `NoMemory`, as for [`Map::put`]. Nothing has changed then.
     pub fn remove(&mut self, key: Bytes) -> Result<Option<u64>, Refusal>
-        ensures { CameTo self.old (Remove key) (removed_by result) self.new }
+        ensures { Removes self.old key result self.new }
+    {
+        if !self.tidies {
+            return self.take_out(key);
+        }
+        match place_of_key(&key) {
+            Ok(Some(place)) => self.remove_at(key, place),
+            Ok(None) => self.take_out(key),
+            Err(_) => Err(Refusal::NoMemory),
+        }
+    }
+
+    // Removes the row of a key, of which this is a copy, and makes the tidies that follow.
+    fn remove_at(&mut self, key: Bytes, place: Key) -> Result<Option<u64>, Refusal>
+        requires same { place ≡ key }
+        requires tidies { self.old.tidies ≡ true }
+        ensures { Removes self.old key result self.new }
+    {
+        match self.take_out(key) {
+            Ok(Some(commit)) => {
+                tidy_after(self.alloc, &mut self.machine, place);
+                Ok(Some(commit))
+            }
+            Ok(None) => Ok(None),
+            Err(refusal) => Err(refusal),
+        }
+    }
+
+    // Removes the row of a key, and no more.
+    fn take_out(&mut self, key: Bytes) -> Result<Option<u64>, Refusal>
+        ensures { MapCameTo self.old (Remove key) (removed_by result) self.new }
     {
         match self.call(Request::Remove { key }) {
             Ok(Answer::Removed(commit)) => Ok(Some(commit)),
@@ -81,13 +115,14 @@ impl Map {
     }
 
     /// Makes one change that tidies the tree on the way to `key` (Masstree, EuroSys 2012, section 4.6.5), and returns
-    /// which. No row changes. [`Map::collect`] frees what it takes out.
+    /// which. No row changes. [`Map::collect`] frees what it takes out. A remove makes tidies of its own, unless the
+    /// options of the map ask for none.
     ///
     /// # Errors
     ///
     /// `KeyTooLong`, `Spent` and `NoMemory`. Nothing has changed then.
     pub fn tidy(&mut self, key: Bytes) -> Result<TidyRule, Refusal>
-        ensures { CameTo self.old (Tidy key) (answered_by Tidied result) self.new }
+        ensures { MapCameTo self.old (Tidy key) (answered_by Tidied result) self.new }
     {
         match self.call(Request::Tidy { key }) {
             Ok(Answer::Tidied(rule)) => Ok(rule),
@@ -105,7 +140,7 @@ impl Map {
     /// `KeyTooLong`, `BadRange`, `BadColumn` or `ColumnTooLong` for a limit that the specification breaks;
     /// `TooManyViews` if there are `MAX_VIEWS`; `Spent` and `NoMemory`. There is no new view then.
     pub fn build(&mut self, spec: ViewSpec) -> Result<ViewNo, Refusal>
-        ensures { CameTo self.old (Build spec) (answered_by Built result) self.new }
+        ensures { MapCameTo self.old (Build spec) (answered_by Built result) self.new }
     {
         match self.call(Request::Build { spec }) {
             Ok(Answer::Built(view)) => Ok(view),

@@ -1,7 +1,9 @@
 //! An index of one caller, with the methods of a map. Its views are advanced on demand.
 #![tactic(auto)]
 
+mod calling;
 mod changing;
 pub mod map;
+pub mod tidying;
 mod viewing;
 pub mod walk;

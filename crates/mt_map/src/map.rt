@@ -23,10 +23,11 @@ use std::alloc::Global;
 use std::marker::Model;
 
 /// An ordered map in memory from keys to rows, with views. It is an index that one caller has: between two of its
-/// methods no call is open. Contracts see it as its machine.
+/// methods no call is open. Contracts see it as its machine, and whether tidies follow removes.
 pub struct Map {
     pub(crate) alloc: Global,
     pub(crate) machine: Machine,
+    pub(crate) tidies: bool,
 }
 
 impl Model for Map {
@@ -34,13 +35,13 @@ impl Model for Map {
     ghost use Rattle.mt_scan.specs.CursorCode.{place_code};
     ghost use Rattle.mt_view.specs.StateCode.{state_code};
     ghost use Rattle.mt_index.specs.Alone.{IsIdle};
-    ghost use Rattle.mt_index.specs.Stands.{MachineView};
+    ghost use Rattle.mt_map.specs.Tidies.{MapView};
 
-    ghost Value = { MachineView };
+    ghost Value = { MapView };
 
     ghost coded = { Prim.hlevel (codes, place_code, state_code) };
 
-    ghost view = { λ m. m.machine };
+    ghost view = { λ m. record { machine = m.machine; tidies = m.tidies } };
 
     ghost invariant = { λ m. IsIdle m.machine };
 }
@@ -51,6 +52,7 @@ impl Drop for Map {
         let Map {
             alloc: _,
             machine: _,
+            tidies: _,
         } = self;
     }
 }
@@ -63,33 +65,38 @@ impl Map {
     /// `BadColumn` unless `columns` is from 1 to `MAX_COLUMNS`; `BadLimit` unless `feed` is from 1 to `MAX_FEED` and
     /// `keep` is at most `MAX_KEEP`; `NoMemory` if an allocation is refused. The first of these that applies.
     pub fn open(alloc: Global, options: Options) -> Result<Map, Refusal>
-        ensures opened { IfOk result (λ map. (map.columns ≡ options.columns)
-            × HasBounds options.feed options.keep map.log × Stands map []) }
+        ensures opened { IfOk result (λ map. (map.machine.columns ≡ options.columns)
+            × HasBounds options.feed options.keep map.machine.log × Stands map.machine []) }
+        ensures tidies { IfOk result (λ map. map.tidies ≡ options.tidies) }
         ensures fault { MatchOption (open_fault options.columns options.feed options.keep)
             (IfErr result (λ refusal. refusal ≡ Refusal.NoMemory)) (λ refusal. result ≡ Err refusal) }
     {
         let machine = Machine::open(alloc, options)?;
-        Ok(Map { alloc, machine })
+        Ok(Map {
+            alloc,
+            machine,
+            tidies: options.tidies,
+        })
     }
 
     /// Returns how many columns a row has.
     pub fn columns(&self) -> u8
-        ensures { result ≡ self.now.columns }
+        ensures { result ≡ self.now.machine.columns }
     {
         self.machine.columns()
     }
 
     /// Returns how many commits have been made.
     pub fn commits(&self) -> u64
-        ensures number { result ≡ newest self.now.log }
-        ensures told { (h : History) → Stands self.now h → result ≡ length (moment h).commits }
+        ensures number { result ≡ newest self.now.machine.log }
+        ensures told { (h : History) → Stands self.now.machine h → result ≡ length (moment h).commits }
     {
         self.machine.commits()
     }
 
     /// Returns how many of the `MAX_NODES` node numbers are occupied.
     pub fn nodes(&self) -> usize
-        ensures { result ≡ occupied self.now.tree.nodes }
+        ensures { result ≡ occupied self.now.machine.tree.nodes }
     {
         self.machine.nodes()
     }
@@ -98,8 +105,8 @@ impl Map {
     ///
     /// Costs the visit of each node on the way to the key. Allocates nothing, and copies nothing.
     pub fn row(&self, key: &Key) -> Option<&Row>
-        ensures { (h : History) → Stands self.now h
-            → option_copied result ≡ get (rows self.now.columns (moment h)) key.now }
+        ensures { (h : History) → Stands self.now.machine h
+            → option_copied result ≡ get (rows self.now.machine.columns (moment h)) key.now }
     {
         self.machine.row(key.as_slice())
     }
@@ -110,8 +117,8 @@ impl Map {
     ///
     /// `KeyTooLong` if the key has more than `MAX_KEY_BYTES` bytes.
     pub fn get(&self, key: &[u8]) -> Result<Option<&Row>, Refusal>
-        ensures row { IfOk result (λ row. (h : History) → Stands self.now h
-            → option_copied row ≡ get (rows self.now.columns (moment h)) key.now) }
+        ensures row { IfOk result (λ row. (h : History) → Stands self.now.machine h
+            → option_copied row ≡ get (rows self.now.machine.columns (moment h)) key.now) }
         ensures fault { IfErr result (λ refusal. key_fault key.now ≡ Some refusal) }
     {
         if key.len() > MAX_KEY_BYTES {
@@ -126,8 +133,8 @@ impl Map {
     ///
     /// `KeyTooLong` if the key has more than `MAX_KEY_BYTES` bytes.
     pub fn contains_key(&self, key: &[u8]) -> Result<bool, Refusal>
-        ensures there { IfOk result (λ there. (h : History) → Stands self.now h
-            → IsTrue there ↔ IsSome (get (rows self.now.columns (moment h)) key.now)) }
+        ensures there { IfOk result (λ there. (h : History) → Stands self.now.machine h
+            → IsTrue there ↔ IsSome (get (rows self.now.machine.columns (moment h)) key.now)) }
         ensures fault { IfErr result (λ refusal. key_fault key.now ≡ Some refusal) }
     {
         Ok(self.get(key)?.is_some())
@@ -145,9 +152,9 @@ impl Map {
     /// twice; `BadLimit` if `limit` is 0 or more than `MAX_RANGE`; `NoMemory` if an allocation is refused. The first of
     /// these that applies.
     pub fn range(&self, start: Bytes, limit: u16, columns: ColumnNumbers) -> Result<Pairs, Refusal>
-        ensures pairs { IfOk result (λ pairs. (h : History) → Stands self.now h
-            → IsRangeOfMap (rows self.now.columns (moment h)) columns start limit pairs) }
-        ensures fault { MatchOption (option_or (key_fault start) (option_or (columns_fault self.now.columns columns) (limit_fault limit)))
+        ensures pairs { IfOk result (λ pairs. (h : History) → Stands self.now.machine h
+            → IsRangeOfMap (rows self.now.machine.columns (moment h)) columns start limit pairs) }
+        ensures fault { MatchOption (option_or (key_fault start) (option_or (columns_fault self.now.machine.columns columns) (limit_fault limit)))
             (IfErr result (λ refusal. refusal ≡ Refusal.NoMemory)) (λ refusal. result ≡ Err refusal) }
     {
         let start = Key::new(start)?;
@@ -162,9 +169,9 @@ impl Map {
     /// `BadLimit` unless `limit` is from 1 to `MAX_RANGE`. `Behind` if some of these deltas were trimmed, with the
     /// number after which the log has them. `NoMemory` if an allocation is refused.
     pub fn feed(&self, from: u64, limit: u16) -> Result<Vec<Delta>, Refusal>
-        ensures tells { IfOk result (λ deltas. (h : History) → Stands self.now h
-            → deltas.items ≡ take limit (drop from (deltas_of self.now.columns (moment h).commits))) }
-        ensures fault { MatchOption (feed_fault self.now.log from limit)
+        ensures tells { IfOk result (λ deltas. (h : History) → Stands self.now.machine h
+            → deltas.items ≡ take limit (drop from (deltas_of self.now.machine.columns (moment h).commits))) }
+        ensures fault { MatchOption (feed_fault self.now.machine.log from limit)
             (IfErr result (λ refusal. refusal ≡ Refusal.NoMemory)) (λ refusal. result ≡ Err refusal) }
     {
         self.machine.feed(self.alloc, from, limit)

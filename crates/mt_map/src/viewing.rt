@@ -9,6 +9,7 @@ ghost use Rattle.mt_index.specs.Events.{Makes};
 ghost use Rattle.mt_index.specs.Stands.{ReadsView, Stands};
 ghost use Rattle.mt_index.specs.Viewing.{page_outcome};
 ghost use Rattle.mt_map.specs.Views.{IsOutside, IsStopped, KeepsUp, ShowsView, applied_outcome, outcome_of};
+ghost use Rattle.mt_map.specs.Tidies.{MapMakes};
 
 use crate::map::Map;
 use bytes::Bytes;
@@ -30,6 +31,18 @@ fn meet(alloc: Global, machine: &mut Machine, event: &Event) -> Outcome
     machine.event(alloc, event)
 }
 
+// Frees the nodes that tidies have taken out, and returns how many.
+pub(crate) fn free(alloc: Global, machine: &mut Machine) -> u32
+    requires { IsIdle machine.old }
+    ensures frees { Makes machine.old Collect (Freed result) machine.new }
+    ensures idle { IsIdle machine.new }
+{
+    match meet(alloc, machine, &Event::Collect) {
+        Outcome::Freed(count) => count,
+        _ => unreachable!(),
+    }
+}
+
 impl Map {
     /// Reads a page of a view: its count, its sums, and its first rows whose keys are at or after `start`, at most
     /// `limit`. The page is at `floor` commits or more. Nothing happens to the map.
@@ -41,9 +54,9 @@ impl Map {
     /// `KeyTooLong`; `BadLimit` unless `limit` is from 1 to `MAX_RANGE`; `NoSuchView` if no view has this number;
     /// `Behind`, with the number of commits at which the view is, if they are fewer than `floor`; `NoMemory`.
     pub fn page(&self, view: ViewNo, floor: u64, start: &Bytes, limit: u16) -> Result<Page, Refusal>
-        ensures page { ReadsView self.now view.0 floor start.now limit (page_outcome result) }
-        ensures exact { IfOk result (λ page. (h : History) → Stands self.now h
-            → ShowsView self.now.columns (moment h) view.0 start.now limit page) }
+        ensures page { ReadsView self.now.machine view.0 floor start.now limit (page_outcome result) }
+        ensures exact { IfOk result (λ page. (h : History) → Stands self.now.machine h
+            → ShowsView self.now.machine.columns (moment h) view.0 start.now limit page) }
         ensures floor { IfOk result (λ page. floor ≤ page.at) }
     {
         states_show_pages();
@@ -56,7 +69,7 @@ impl Map {
     ///
     /// `NoSuchView` if no view has this number.
     pub fn drop_view(&mut self, view: ViewNo) -> Result<(), Refusal>
-        ensures { Makes self.old (ViewDrop view) (outcome_of (λ _. Dropped) result) self.new }
+        ensures { MapMakes self.old (ViewDrop view) (outcome_of (λ _. Dropped) result) self.new }
     {
         match meet(self.alloc, &mut self.machine, &Event::ViewDrop(view)) {
             Outcome::Dropped => Ok(()),
@@ -73,7 +86,7 @@ impl Map {
     ///
     /// `NoSuchView` if no view has this number; `NoMemory`. Nothing has changed then.
     pub fn apply(&mut self, view: ViewNo) -> Result<Option<u64>, Refusal>
-        ensures { Makes self.old (Apply view) (outcome_of applied_outcome result) self.new }
+        ensures { MapMakes self.old (Apply view) (outcome_of applied_outcome result) self.new }
     {
         match meet(self.alloc, &mut self.machine, &Event::Apply(view)) {
             Outcome::Applied(number) => Ok(Some(number)),
@@ -90,8 +103,9 @@ impl Map {
     ///
     /// `NoMemory`. The turns before have advanced their views.
     pub fn keep_views(&mut self, turns: u64) -> Result<u64, Refusal>
-        ensures kept { IfOk result (λ applied. KeepsUp self.old turns applied self.new) }
-        ensures refused { IfErr result (λ refusal. IsStopped self.old turns refusal self.new) }
+        ensures kept { IfOk result (λ applied. KeepsUp self.old.machine turns applied self.new.machine) }
+        ensures refused { IfErr result (λ refusal. IsStopped self.old.machine turns refusal self.new.machine) }
+        ensures tidies { self.new.tidies ≡ self.old.tidies }
     {
         for applied in 0..turns {
             if self.apply(ViewNo(0))?.is_none() {
@@ -103,11 +117,8 @@ impl Map {
 
     /// Frees the nodes that tidies have taken out, and returns how many. O(n) in these nodes.
     pub fn collect(&mut self) -> u32
-        ensures { Makes self.old Collect (Freed result) self.new }
+        ensures { MapMakes self.old Collect (Freed result) self.new }
     {
-        match meet(self.alloc, &mut self.machine, &Event::Collect) {
-            Outcome::Freed(count) => count,
-            _ => unreachable!(),
-        }
+        free(self.alloc, &mut self.machine)
     }
 }

@@ -50,7 +50,7 @@ impl Map {
     ///
     /// `NoMemory` if an allocation is refused.
     pub fn walk(&self, start: &Key) -> Result<Rows<'_>, NoMemory>
-        ensures machine { IfOk result (λ walk. walk.machine ≡ self.now) }
+        ensures machine { IfOk result (λ walk. walk.machine ≡ self.now.machine) }
         ensures start { IfOk result (λ walk. walk.at ≡ record { key = start.now; given = false }) }
     {
         Rows::of(self.alloc, &self.machine, start)

@@ -26,6 +26,7 @@ const OPTIONS: Options = Options {
     columns: 1,
     feed: 4096,
     keep: 2,
+    tidies: true,
 };
 
 // The keys and columns of the first two of `Changes::OfNewKeys`.

@@ -1,6 +1,6 @@
 -- After each query the views are at the newest change again, unless memory was refused.
 use Rattle.std.proofs.Common.{ℕ, ◌≡◌, ◌≤◌, ◌⊎◌, Bool, true, false, inl, inr, List, [], ◌∷◌, ◌++◌, length, refl, sym, ap, subst, ◌∙◌, arith, length-append}
-use Rattle.std.specs.Prelude.{◌+◌, ◌==◌, not, MatchBool, if◌then◌else◌, All, Result, Ok, Err}
+use Rattle.std.specs.Prelude.{zero, suc, ◌+◌, ◌==◌, not, MatchBool, if◌then◌else◌, All, Result, Ok, Err}
 use Rattle.std.proofs.lemmas.Bool.{cases_Bool}
 use Rattle.std.proofs.lemmas.List.Elements.{All-head, All-tail, All-nil, All-cons}
 use Rattle.mt_types.specs.Rows.{Rows}
@@ -11,7 +11,9 @@ use Rattle.mt_types.specs.declared.event.Answer.TheVariants.{Absent, Found, Stor
 use Rattle.mt_types.specs.declared.event.Reply.{Reply}
 use Rattle.mt_types.specs.declared.event.Request.{Request}
 use Rattle.mt_types.specs.declared.event.Request.TheVariants.{Get, Put, PutIf, Remove, Range, Tidy, Build}
-use Rattle.mt_promise.specs.History.{History, StandingView, moment, view_built, without_view}
+use Rattle.mt_types.specs.declared.event.Outcome.{Outcome}
+use Rattle.mt_types.specs.declared.event.Outcome.TheVariants.{Epoch}
+use Rattle.mt_promise.specs.History.{History, Moment, StandingView, after_advance, moment, rows, view_built, without_view}
 use Rattle.mt_promise.specs.Alone.{IsPlain}
 use Rattle.mt_wire.specs.declared.query.Query.{Query}
 use Rattle.mt_wire.specs.declared.query.Query.TheVariants.{Call, ViewRead, ViewDrop}
@@ -19,7 +21,8 @@ use Rattle.mt_wire.specs.declared.response.Response.{Response}
 use Rattle.mt_wire.specs.Answered.{end_of}
 use Rattle.mt_serve.specs.Asking.{call_response, changes, end_changes}
 use Rattle.mt_serve.specs.Store.{Store, now, newest}
-use Rattle.mt_serve.specs.Plain.{CallRuns, IsReadAtOnce, CallEnds, PlainlyAsks, NoneBehind, KeptUp}
+use Rattle.mt_serve.specs.Plain.{CallRuns, IsReadAtOnce, CallEnds, PlainlyAsks, PlainlyFollows, NoneBehind, MayBeTidied, TidiesPlainly, TidiesPlainlyOnce}
+use Rattle.mt_shared.specs.declared.tidying.TheConstants.{MAX_TIDIES}
 use Rattle.mt_serve.specs.Ample.{RanOutBefore, ViewsStayNewest}
 
 -- each of these views is at most this many commits short of the number n
@@ -127,12 +130,59 @@ asks_close s t (ViewDrop view) response close (Err refusal, ((all, (note, past))
     let still : NoneBehind 0 t = subst (λ (h : History). Close 0 (length (moment h).commits) (moment h).views) (sym past) close in
     (close_more (newest t) (newest t) 1 (now t).views (omega arith) still, λ none. still)
 
+-- ---- tidies
+tidy_none : (map : Rows) (n : ℕ) (key : List ℕ) (answer : Answer) (made : List Change) → IsPlain map n (Tidy key) answer made → end_changes (end_of answer) ≡ false
+tidy_none map n key (Tidied rule) made is = refl
+tidy_none map n key _ made plain = absurd plain
+
+tidy_quiet : (s t : Store) (key : List ℕ) (result : Result Reply Refusal) → CallEnds s (Tidy key) result t → changes (call_response result) ≡ false
+tidy_quiet s t key (Ok reply) (inl done) = tidy_none (rows s.machine.columns (now s)) (newest s) key reply.answer done.plain.made done.plain.plain
+tidy_quiet s t key (Ok reply) (inr (same, read, within, plain)) = absurd read
+tidy_quiet s t key (Err refusal) ends = refl
+
+once_close : (s t : Store) (key : List ℕ) (took : Bool) → NoneBehind 0 s → TidiesPlainlyOnce s key took t → NoneBehind 0 t
+once_close s t key took close (inl (result, ends, is)) = (call_close s t (Tidy key) result close ends).1 (tidy_quiet s t key result ends)
+once_close s t key took close (inr (none, same)) = subst (NoneBehind 0) (sym same) close
+
+tidies_close : (s t : Store) (key : List ℕ) (tidies : ℕ) → NoneBehind 0 s → TidiesPlainly s key tidies t → NoneBehind 0 t
+tidies_close s t key zero close same = subst (NoneBehind 0) (sym same) close
+tidies_close s t key (suc tidies) close (m, before, one) = once_close m t key true (tidies_close s m key tidies close before) one
+
+-- an epoch leaves calls, changes and views
+pub advanced_calls : (m : Moment) (outcome : Outcome) → (after_advance m outcome).calls ≡ m.calls
+advanced_calls m (Epoch number) = refl
+advanced_calls m _ = refl
+
+pub advanced_views : (m : Moment) (outcome : Outcome) → (after_advance m outcome).views ≡ m.views
+advanced_views m (Epoch number) = refl
+advanced_views m _ = refl
+
+advanced_commits : (m : Moment) (outcome : Outcome) → (after_advance m outcome).commits ≡ m.commits
+advanced_commits m (Epoch number) = refl
+advanced_commits m _ = refl
+
+tidied_close : (s t : Store) (query : Query) → NoneBehind 0 s → MayBeTidied query s t → NoneBehind 0 t
+tidied_close s t (Call (Remove key)) close (inl done) =
+    let (all, (note, past)) = done.frees.0 in
+    let (before, (other, later)) = done.advances.0 in
+    let tidied : NoneBehind 0 done.tidied = elim done.tidies [
+      | inl most ↦ tidies_close s done.tidied key MAX_TIDIES close most
+      | inr fewer ↦ (let (tidies, less, m, before, one) = fewer in once_close m done.tidied key false (tidies_close s m key tidies close before) one)
+    ] in
+    let advanced : NoneBehind 0 done.next =
+    subst (λ (h : History). Close 0 (length (moment h).commits) (moment h).views) (sym later)
+    (subst (λ (l : List StandingView). Close 0 (length (after_advance (now done.tidied) done.advanced).commits) l) (sym (advanced_views (now done.tidied) done.advanced))
+    (subst (λ (l : List Change). Close 0 (length l) (now done.tidied).views) (sym (advanced_commits (now done.tidied) done.advanced)) tidied)) in
+    subst (λ (h : History). Close 0 (length (moment h).commits) (moment h).views) (sym past) advanced
+tidied_close s t (Call (Remove key)) close (inr same) = subst (NoneBehind 0) (sym same) close
+tidied_close s t query close same = subst (NoneBehind 0) (sym same) close
+
 pub views_stay_newest : ViewsStayNewest
 views_stay_newest s t query response close (asked, asks, after) = by_change (changes response) refl after
   where
-    by_change : (b : Bool) → changes response ≡ b → MatchBool b (KeptUp asked t) (t ≡ asked) → NoneBehind 0 t ⊎ RanOutBefore t
-    by_change true e kept = elim (kept.newest (asks_close s asked query response close asks).0) [
-      | inl close ↦ inl close
-      | inr ran ↦ inr (asked, kept.turns, kept.happens, ran)
+    by_change : (b : Bool) → changes response ≡ b → MatchBool b (PlainlyFollows query asked t) (t ≡ asked) → NoneBehind 0 t ⊎ RanOutBefore query t
+    by_change true e (up, kept, tidied) = elim (kept.newest (asks_close s asked query response close asks).0) [
+      | inl close ↦ inl (tidied_close up t query close tidied)
+      | inr ran ↦ inr (asked, up, kept.turns, kept.happens, ran, tidied)
     ]
     by_change false e is = inl (subst (NoneBehind 0) (sym is) ((asks_close s asked query response close asks).1 e))

@@ -20,8 +20,6 @@ use Rattle.mt_shared.specs.Passes.{PassView}
 use Rattle.mt_shared.specs.Kept.{KeptView, IsRefusedBy}
 use Rattle.mt_shared.specs.Reads.{IsRead, IsPlainNow, IsReadNow, IsToldNow, MustDrive, ReadsNow, read_reply}
 use Rattle.mt_shared.proofs.ReadLemmas.{unbroken}
-use Rattle.mt_wire.specs.declared.query.Query.TheVariants.{Call as CallOf}
-use Rattle.mt_serve.specs.Asking.{Asks}
 use Rattle.mt_serve.specs.Plain.{AloneReadsAtOnce, IsAlone, IsReadAtOnce, store_of}
 
 -- if no call is open in the history, none is in the machine

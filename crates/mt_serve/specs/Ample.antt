@@ -22,7 +22,7 @@ use Rattle.mt_wire.specs.declared.response.End.{End}
 use Rattle.mt_wire.specs.declared.response.End.TheVariants.{Absent, Found, Committed, Rows as RowsEnd, Tidied, Built}
 use Rattle.mt_shared.specs.Turns.{furthest}
 use Rattle.mt_serve.specs.Store.{Store, now, Leads}
-use Rattle.mt_serve.specs.Plain.{PlainlyAnswers, NoneBehind, RanOut}
+use Rattle.mt_serve.specs.Plain.{PlainlyAnswers, NoneBehind, RanOut, MayBeTidied}
 
 -- nothing was changed, or one change was made
 abbrev pub read_so : Moment → End → Response
@@ -87,17 +87,18 @@ AmpleAnswersAreTheirs =
     (s t : Store) (query : Query) (response : Response) → 0 < s.machine.log.feed → NoneBehind 0 s
     → PlainlyAnswers s query response t → IsAmple response → IsAnswer s.machine.columns (now s) query response
 
--- the last events that led to this store were turns that advance views, and the last of them ran out of memory
-abbrev pub RanOutBefore : Store → Type 0
-RanOutBefore t = (m : Store) × (turns : List Outcome)
-    × Leads m (map (λ (outcome : Outcome). furthest) turns) turns t × RanOut turns
+-- the last events that led to this store, but for tidies, were turns that advance views, and the last of them ran out of
+-- memory
+abbrev pub RanOutBefore : Query → Store → Type 0
+RanOutBefore query t = (m : Store) × (kept : Store) × (turns : List Outcome)
+    × Leads m (map (λ (outcome : Outcome). furthest) turns) turns kept × RanOut turns × MayBeTidied query kept t
 
 -- After each query the views are at the newest change again, unless memory was refused while a view was advanced. Only
 -- then can a log become full.
 abbrev pub ViewsStayNewest : Type 0
 ViewsStayNewest =
     (s t : Store) (query : Query) (response : Response) → NoneBehind 0 s → PlainlyAnswers s query response t
-    → NoneBehind 0 t ⊎ RanOutBefore t
+    → NoneBehind 0 t ⊎ RanOutBefore query t
 
 -- two answers to one query are the same, but for the rule that a tidy names
 abbrev pub IsSame : Response → Response → Type 0

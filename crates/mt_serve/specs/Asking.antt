@@ -7,6 +7,7 @@ use Rattle.mt_types.specs.declared.view.Page.{Page}
 use Rattle.mt_shared.specs.Passes.{PassView}
 use Rattle.mt_shared.specs.Drives.{EventLaw}
 use Rattle.mt_shared.specs.Reads.{ReadLaw, IsCall}
+use Rattle.mt_shared.specs.Tidies.{LookLaw, PurgesAfter}
 use Rattle.mt_index.specs.Viewing.{page_outcome}
 use Rattle.mt_shared.specs.Turns.{drop_outcome, KeepsUp, IsStopped}
 use Rattle.mt_wire.specs.declared.query.Query.{Query}
@@ -60,33 +61,43 @@ abbrev pub KeepsViews : {S : Type 0} → EventLaw S → S → PassView → S →
 KeepsViews does s p t q =
     ((applied : ℕ) × KeepsUp does s p 64 applied t q) ⊎ ((refusal : Refusal) × IsStopped does s p 64 refusal t q)
 
--- A QUERY IS ANSWERED: it is done, and if it changed rows or built a view, views are then kept up.
-abbrev pub Answers : {S : Type 0} → EventLaw S → ReadLaw S → S → PassView → Query → Response → S → PassView → Type 0
-Answers {S} does shows s p query response t q =
+-- tidies follow a remove, and nothing any other query
+abbrev pub PurgesFor : {S : Type 0} → EventLaw S → LookLaw S → Query → S → PassView → S → PassView → Type 0
+PurgesFor does looks (Call request) s p t q = PurgesAfter does looks request s p t q
+PurgesFor does looks query s p t q = (t ≡ s) × (q ≡ p)
+
+-- what follows a query that changed rows or built a view: views are kept up, and tidies follow a remove
+abbrev pub Follows : {S : Type 0} → EventLaw S → LookLaw S → Query → S → PassView → S → PassView → Type 0
+Follows {S} does looks query s p t q =
+    (m : S) × (r : PassView) × KeepsViews does s p m r × PurgesFor does looks query m r t q
+
+-- A QUERY IS ANSWERED: it is done, and this follows if it changed rows or built a view.
+abbrev pub Answers : {S : Type 0} → EventLaw S → ReadLaw S → LookLaw S → S → PassView → Query → Response → S → PassView → Type 0
+Answers {S} does shows looks s p query response t q =
     (m : S) × (r : PassView) × Asks does shows s p query response m r
-    × MatchBool (changes response) (KeepsViews does m r t q) ((t ≡ m) × (q ≡ r))
+    × MatchBool (changes response) (Follows does looks query m r t q) ((t ≡ m) × (q ≡ r))
 
 -- ---- one frame, and frames
 
 -- these queries, one after the other, each by one answer
-abbrev pub AnswersAll : {S : Type 0} → EventLaw S → ReadLaw S → S → PassView → List Query → List Response → S → PassView → Type 0
-AnswersAll does shows s p [] [] t q = (t ≡ s) × (q ≡ p)
-AnswersAll {S} does shows s p (query ∷ queries) (response ∷ responses) t q =
-    (m : S) × (r : PassView) × Answers does shows s p query response m r × AnswersAll does shows m r queries responses t q
-AnswersAll does shows s p [] (response ∷ responses) t q = ⊥
-AnswersAll does shows s p (query ∷ queries) [] t q = ⊥
+abbrev pub AnswersAll : {S : Type 0} → EventLaw S → ReadLaw S → LookLaw S → S → PassView → List Query → List Response → S → PassView → Type 0
+AnswersAll does shows looks s p [] [] t q = (t ≡ s) × (q ≡ p)
+AnswersAll {S} does shows looks s p (query ∷ queries) (response ∷ responses) t q =
+    (m : S) × (r : PassView) × Answers does shows looks s p query response m r × AnswersAll does shows looks m r queries responses t q
+AnswersAll does shows looks s p [] (response ∷ responses) t q = ⊥
+AnswersAll does shows looks s p (query ∷ queries) [] t q = ⊥
 
 -- a frame of queries, by one of as many answers, in its version
 abbrev pub AnswersFrame :
-    {S : Type 0} → EventLaw S → ReadLaw S → S → PassView → Frame Query → Frame Response → S → PassView → Type 0
-AnswersFrame does shows s p frame reply t q =
-    (reply.version ≡ frame.version) × AnswersAll does shows s p frame.messages reply.messages t q
+    {S : Type 0} → EventLaw S → ReadLaw S → LookLaw S → S → PassView → Frame Query → Frame Response → S → PassView → Type 0
+AnswersFrame does shows looks s p frame reply t q =
+    (reply.version ≡ frame.version) × AnswersAll does shows looks s p frame.messages reply.messages t q
 
 -- these frames, one after the other, each by one frame
 abbrev pub AnswersFrames :
-    {S : Type 0} → EventLaw S → ReadLaw S → S → PassView → List (Frame Query) → List (Frame Response) → S → PassView → Type 0
-AnswersFrames does shows s p [] [] t q = (t ≡ s) × (q ≡ p)
-AnswersFrames {S} does shows s p (frame ∷ frames) (reply ∷ replies) t q =
-    (m : S) × (r : PassView) × AnswersFrame does shows s p frame reply m r × AnswersFrames does shows m r frames replies t q
-AnswersFrames does shows s p [] (reply ∷ replies) t q = ⊥
-AnswersFrames does shows s p (frame ∷ frames) [] t q = ⊥
+    {S : Type 0} → EventLaw S → ReadLaw S → LookLaw S → S → PassView → List (Frame Query) → List (Frame Response) → S → PassView → Type 0
+AnswersFrames does shows looks s p [] [] t q = (t ≡ s) × (q ≡ p)
+AnswersFrames {S} does shows looks s p (frame ∷ frames) (reply ∷ replies) t q =
+    (m : S) × (r : PassView) × AnswersFrame does shows looks s p frame reply m r × AnswersFrames does shows looks m r frames replies t q
+AnswersFrames does shows looks s p [] (reply ∷ replies) t q = ⊥
+AnswersFrames does shows looks s p (frame ∷ frames) [] t q = ⊥

@@ -1,7 +1,7 @@
 -- WHAT A PLAIN STORE ANSWERS to queries, one after the other: the meaning of sessions on an index of one caller.
 --     After a history in which every call has ended, the store is the changes that were made, and the views, each at a
 --     number of them.
-use Rattle.std.specs.Prelude.{ℕ, ◌+◌, ◌≡◌, ◌≢◌, ◌<◌, ◌≤◌, ◌⊎◌, MatchBool, MatchOption, ⊤, Bool, true, List, [], ◌∷◌, ◌++◌, length, map, All}
+use Rattle.std.specs.Prelude.{ℕ, zero, suc, ◌+◌, ◌≡◌, ◌≢◌, ◌<◌, ◌≤◌, ◌⊎◌, MatchBool, MatchOption, ⊤, Bool, true, false, List, [], ◌∷◌, ◌++◌, length, map, All}
 use Rattle.std.specs.Prelude.{Result, Ok, Err, Option, Some, None}
 use Rattle.std.specs.List.{AllByRecursion}
 use Rattle.std.specs.Io.KnownBytes.{Appends}
@@ -12,12 +12,13 @@ use Rattle.mt_types.specs.declared.numbers.CallNo.{CallNo}
 use Rattle.mt_types.specs.declared.refusal.Refusal.{Refusal}
 use Rattle.mt_types.specs.declared.refusal.Refusal.TheVariants.{NoMemory}
 use Rattle.mt_types.specs.declared.event.Event.{Event}
-use Rattle.mt_types.specs.declared.event.Event.TheVariants.{Begin, ViewRead as ReadOf, ViewDrop as DropOf}
+use Rattle.mt_types.specs.declared.event.Event.TheVariants.{Begin, Advance, Collect, ViewRead as ReadOf, ViewDrop as DropOf}
 use Rattle.mt_types.specs.declared.event.Outcome.{Outcome}
 use Rattle.mt_types.specs.declared.event.Outcome.TheVariants.{Done, Refused}
 use Rattle.mt_types.specs.declared.event.Answer.{Answer}
 use Rattle.mt_types.specs.declared.event.Answer.TheVariants.{Built}
 use Rattle.mt_types.specs.declared.event.Request.{Request}
+use Rattle.mt_types.specs.declared.event.Request.TheVariants.{Remove, Tidy}
 use Rattle.mt_types.specs.declared.event.Reply.{Reply}
 use Rattle.mt_types.specs.declared.view.Page.{Page}
 use Rattle.mt_types.specs.declared.limits.TheConstants.{MAX_VIEWS}
@@ -30,6 +31,8 @@ use Rattle.mt_shared.specs.declared.trace.Trace.TheVariants.{Off}
 use Rattle.mt_shared.specs.Passes.{PassView, IsNewPass}
 use Rattle.mt_shared.specs.Kept.{KeptView, Does, IsFresh, has_book}
 use Rattle.mt_shared.specs.Reads.{IsRead, ReadsNow}
+use Rattle.mt_shared.specs.Tidies.{Looks, has_taken_out}
+use Rattle.mt_shared.specs.declared.tidying.TheConstants.{MAX_TIDIES}
 use Rattle.mt_index.specs.Viewing.{page_outcome}
 use Rattle.mt_shared.specs.Turns.{drop_outcome, furthest}
 use Rattle.mt_wire.specs.declared.query.Query.{Query}
@@ -136,10 +139,46 @@ pub record KeptUp (s t : Store) : Type 0 where
   pub views : TakenOn (now s).views (now t).views
   pub newest : NoneBehind 1 s → NoneBehind 0 t ⊎ RanOut turns
 
--- A QUERY IS ANSWERED PLAINLY: as a plain store answers; and if it changed rows or built a view, views are kept up.
+-- ---- tidies follow
+
+-- a tidy has ended, and took something out, or not; or there was none
+abbrev pub TidiesPlainlyOnce : Store → List ℕ → Bool → Store → Type 0
+TidiesPlainlyOnce s key took t =
+    ((result : Result Reply Refusal) × CallEnds s (Tidy key) result t × (took ≡ has_taken_out result))
+    ⊎ ((took ≡ false) × (t ≡ s))
+
+-- this many tidies, one after the other, each of which took something out
+abbrev pub TidiesPlainly : Store → List ℕ → ℕ → Store → Type 0
+TidiesPlainly s key zero t = t ≡ s
+TidiesPlainly s key (suc tidies) t = (m : Store) × TidiesPlainly s key tidies m × TidiesPlainlyOnce m key true t
+
+-- THE STORE IS TIDIED: by such calls, until one takes nothing out, and at most MAX_TIDIES; then the epoch advances, and
+-- nodes are freed. None of it is a change.
+pub record IsTidied (s : Store) (key : List ℕ) (t : Store) : Type 0 where
+  pub tidied : Store
+  pub tidies : TidiesPlainly s key MAX_TIDIES tidied
+      ⊎ ((tidies : ℕ) × (tidies < MAX_TIDIES) × (m : Store) × TidiesPlainly s key tidies m
+      × TidiesPlainlyOnce m key false tidied)
+  pub next : Store
+  pub advanced : Outcome
+  pub advances : OneHappens tidied Advance advanced next
+  pub freed : Outcome
+  pub frees : OneHappens next Collect freed t
+
+-- after a remove the store may be tidied, and after no other query
+abbrev pub MayBeTidied : Query → Store → Store → Type 0
+MayBeTidied (Call (Remove key)) s t = IsTidied s key t ⊎ (t ≡ s)
+MayBeTidied query s t = t ≡ s
+
+-- A QUERY IS ANSWERED PLAINLY: as a plain store answers; and if it changed rows or built a view, views are kept up, and
+-- after a remove the store may be tidied.
+abbrev pub PlainlyFollows : Query → Store → Store → Type 0
+PlainlyFollows query s t = (kept : Store) × KeptUp s kept × MayBeTidied query kept t
+
 abbrev pub PlainlyAnswers : Store → Query → Response → Store → Type 0
 PlainlyAnswers s query response t =
-    (asked : Store) × PlainlyAsks s query response asked × MatchBool (changes response) (KeptUp asked t) (t ≡ asked)
+    (asked : Store) × PlainlyAsks s query response asked
+    × MatchBool (changes response) (PlainlyFollows query asked t) (t ≡ asked)
 
 -- these queries, one after the other, each by one answer
 abbrev pub PlainlyAnswersAll : Store → List Query → List Response → Store → Type 0
@@ -196,14 +235,14 @@ AloneReadsAtOnce =
 abbrev pub AloneAnswersPlainly : Type 0
 AloneAnswersPlainly =
     (s t : KeptView) (p q : PassView) (h : History) (queries : List Query) (responses : List Response)
-    → IsAlone s p h → t.events < greatest_number → AnswersAll Does ReadsNow s p queries responses t q
+    → IsAlone s p h → t.events < greatest_number → AnswersAll Does ReadsNow Looks s p queries responses t q
     → (then : History) × IsAlone t q then × (t.machine.columns ≡ s.machine.columns)
     × PlainlyAnswersAll (store_of s h) queries responses (store_of t then)
 
 abbrev pub AloneAnswersFramesPlainly : Type 0
 AloneAnswersFramesPlainly =
     (s t : KeptView) (p q : PassView) (h : History) (frames : List (Frame Query)) (replies : List (Frame Response))
-    → IsAlone s p h → t.events < greatest_number → AnswersFrames Does ReadsNow s p frames replies t q
+    → IsAlone s p h → t.events < greatest_number → AnswersFrames Does ReadsNow Looks s p frames replies t q
     → (then : History) × IsAlone t q then × (t.machine.columns ≡ s.machine.columns)
     × PlainlyAnswersFrames (store_of s h) frames replies (store_of t then)
 
@@ -220,7 +259,7 @@ pub record ServesPlainly (s : Store) (input : List ℕ) (old new : Option (List 
 abbrev pub AloneServesPlainly : Type 0
 AloneServesPlainly =
     (s t : KeptView) (p q : PassView) (h : History) (input : List ℕ) (old new : Option (List ℕ)) (summary : Summary)
-    → IsAlone s p h → t.events < greatest_number → IsServed Does ReadsNow s p (Some input) old summary new t q
+    → IsAlone s p h → t.events < greatest_number → IsServed Does ReadsNow Looks s p (Some input) old summary new t q
     → (then : History) × IsAlone t q then × ServesPlainly (store_of s h) input old new (store_of t then)
 
 -- A SESSION ALONE THAT BREAKS OFF: the frames before are answered plainly; then no frame is there, for this fault, after
@@ -259,5 +298,5 @@ abbrev pub AloneBreaksPlainly : Type 0
 AloneBreaksPlainly =
     (s t : KeptView) (p q : PassView) (h : History) (input : List ℕ) (unread old new : Option (List ℕ))
     (fault : SessionFault)
-    → IsAlone s p h → t.events < greatest_number → IsBroken Does ReadsNow s p (Some input) old fault unread new t q
+    → IsAlone s p h → t.events < greatest_number → IsBroken Does ReadsNow Looks s p (Some input) old fault unread new t q
     → (then : History) × IsAlone t q then × BreaksPlainly (store_of s h) input old fault unread new (store_of t then)

@@ -48,14 +48,14 @@ fn drop_response(dropped: Result<(), Refusal>) -> Response
 }
 
 // Does what a call asks, and returns its answer. If it is driven, and changed rows or built a view, views are then
-// advanced.
+// advanced, and tidies follow a remove.
 fn answer_call<S: Shared>(
     alloc: Global,
     shared: &mut S,
     pass: &mut Pass,
     request: Request,
 ) -> Response
-    ensures answers { Answers S.does S.shows shared.old pass.old (Call request) result shared.new pass.new }
+    ensures answers { Answers S.does S.shows S.looks shared.old pass.old (Call request) result shared.new pass.new }
     ensures limited { ResponseIsLimited result }
 {
     match read_at_once(alloc, shared, pass, &request) {
@@ -66,12 +66,12 @@ fn answer_call<S: Shared>(
 
 /// Does what a query asks, and returns its answer. A get or a range is read at once if it may be (`read_at_once`), and
 /// any other call is driven from its begin to its end (`drive_and_keep`). A page is read, or a view dropped, by one event.
-/// If the query changed rows or built a view, views are then advanced, in at most 64 turns.
+/// If the query changed rows or built a view, views are then advanced, in at most 64 turns, and tidies follow a remove.
 ///
 /// Over a `Door` each event or read holds the lock once, so events of other threads can come between them. Over a
 /// `ThroughDoor` the lock is held once for a change and the turns of its views, if the change ends in its first run.
 pub fn answer<S: Shared>(alloc: Global, shared: &mut S, pass: &mut Pass, query: Query) -> Response
-    ensures answers { Answers S.does S.shows shared.old pass.old query result shared.new pass.new }
+    ensures answers { Answers S.does S.shows S.looks shared.old pass.old query result shared.new pass.new }
     ensures limited { ResponseIsLimited result }
 {
     match query {

@@ -87,7 +87,7 @@ commits_then m n e o h st makes =
     (omega (arith, st.commits, then.commits, grows), omega (arith, st.commits, shows))
 
 pub keeps : (s : KeptView) (m : MachineView) (e : Event) (o : Outcome) (i : ℕ) (a b : Book) → IsKept s → Makes s.machine e o m → i < length s.books → a ≡ get_or s.books i a → b ≡ book_with o a
-    → (pass : PassNo) (t : Trace) → Gains s.trace (entry pass e o ∷ []) t → IsKept (record { machine = m; events = s.events + 1; books = set s.books i b; trace = t })
+    → (pass : PassNo) (t : Trace) → Gains s.trace (entry pass e o ∷ []) t → IsKept (record { machine = m; events = s.events + 1; books = set s.books i b; trace = t; tidies = s.tidies })
 keeps s m e o i a b k makes within at after pass t gains =
     let (h, st, long, told) = k.stands in
     let (opens, then) = makes.stands h st in
@@ -128,9 +128,9 @@ does_make s p e o t q right more made =
 -- an event that was made, as the code makes it
 pub makes_own : (s : KeptView) (m : MachineView) (p : PassView) (e : Event) (o : Outcome) (a b : Book) (t : Trace) (q : PassView) → (s.events ≡ greatest_number → ⊥) → (p.events ≡ greatest_number → ⊥) → Makes s.machine e o m → b ≡ book_with o a → Counts p e o q
     → (pass : PassNo) → pass ≡ p.number → false ≡ is_wrong s pass e → a ≡ get_or s.books (pass.0 - 1) a → Gains s.trace (entry pass e o ∷ []) t
-    → Does s p e o (record { machine = m; events = s.events + 1; books = set s.books (pass.0 - 1) b; trace = t }) q
+    → Does s p e o (record { machine = m; events = s.events + 1; books = set s.books (pass.0 - 1) b; trace = t; tidies = s.tidies }) q
 makes_own s m p e o a b t q here there makes after counts pass same =
-    subst (λ (n : PassNo). false ≡ is_wrong s n e → a ≡ get_or s.books (n.0 - 1) a → Gains s.trace (entry n e o ∷ []) t → Does s p e o (record { machine = m; events = s.events + 1; books = set s.books (n.0 - 1) b; trace = t }) q)
+    subst (λ (n : PassNo). false ≡ is_wrong s n e → a ≡ get_or s.books (n.0 - 1) a → Gains s.trace (entry n e o ∷ []) t → Does s p e o (record { machine = m; events = s.events + 1; books = set s.books (n.0 - 1) b; trace = t; tidies = s.tidies }) q)
     (sym same)
     (λ right at gains. does_make s p e o _ q right (not_spent s p here there) (record {
       makes = makes;
@@ -140,6 +140,7 @@ makes_own s m p e o a b t q here there makes after counts pass same =
       books = ap (λ (x : Book). set s.books (p.number.0 - 1) x) after;
       trace = gains;
       counts = counts;
+      tidies = refl;
     }))
 
 -- the entries of a trace that is kept tell a legal history

@@ -44,8 +44,9 @@ kept_at s p e o t q true c is k h = subst IsKept (sym h.1) k
 kept_at s p e o t q false true is k h = subst IsKept (sym h.1) k
 kept_at s p e o t q false false is k h =
     let then = keeps s t.machine e o (p.number.0 - 1) h.book (book_with o h.book) k h.makes (in_books s p.number e is).0 (sym h.is_book) refl p.number t.trace h.trace in
-    subst (λ n. IsKept (record { machine = t.machine; events = n; books = t.books; trace = t.trace })) (sym h.events)
-    (subst (λ (bs : List Book). IsKept (record { machine = t.machine; events = s.events + 1; books = bs; trace = t.trace })) (sym h.books) then)
+    subst (λ n. IsKept (record { machine = t.machine; events = n; books = t.books; trace = t.trace; tidies = t.tidies })) (sym h.events)
+    (subst (λ (bs : List Book). IsKept (record { machine = t.machine; events = s.events + 1; books = bs; trace = t.trace; tidies = t.tidies })) (sym h.books)
+    (subst (λ (tidies : Bool). IsKept (record { machine = t.machine; events = s.events + 1; books = set s.books (p.number.0 - 1) (book_with o h.book); trace = t.trace; tidies = tidies })) (sym h.tidies) then))
 
 pub does_keep : (s : KeptView) (p : PassView) (e : Event) (o : Outcome) (t : KeptView) (q : PassView) → IsKept s → Does s p e o t q → IsKept t
 does_keep s p e o t q k h = kept_at s p e o t q (is_wrong s p.number e) (is_spent s p) refl k h
@@ -57,7 +58,7 @@ runs_keep s p (x ∷ xs) t q k run = runs_keep run.0 run.1 xs t q (does_keep s p
 -- ---- one more event, where nothing is traced
 -- what the lock keeps, with this number of events and this book at a place
 abbrev pub now_kept : KeptView → ℕ → MachineView → ℕ → Book → KeptView
-now_kept s i m events book = record { machine = m; events = events; books = set s.books i book; trace = Off }
+now_kept s i m events book = record { machine = m; events = events; books = set s.books i book; trace = Off; tidies = s.tidies }
 
 abbrev pub pass_with : PassView → ℕ → ℕ → ℕ → PassView
 pass_with p events commits seen = record p { events = events; commits = commits; seen = seen }
@@ -88,6 +89,7 @@ module _ (s : KeptView) (p : PassView) (there : has_book p.number s.books ≡ tr
           seen = refl;
           trace = subst (λ (t : Trace). Gains t (entry p.number e o ∷ []) t) (sym off) tt;
         };
+        tidies = refl;
       })
 
   -- ---- steps of a run
@@ -170,8 +172,8 @@ module _ (s : KeptView) (p : PassView) (there : has_book p.number s.books ≡ tr
   -- what the lock keeps is itself with the book that it has
   same_kept : (b : Book) → s.trace ≡ Off → b ≡ get_or s.books (p.number.0 - 1) b → now_kept s (p.number.0 - 1) s.machine s.events b ≡ s
   same_kept b none at =
-      ap (λ (bs : List Book). record { machine = s.machine; events = s.events; books = bs; trace = Off }) (ap (set s.books (p.number.0 - 1)) at ∙ set-get_or s.books (p.number.0 - 1) b)
-      ∙ ap (λ (t : Trace). record { machine = s.machine; events = s.events; books = s.books; trace = t }) (sym none)
+      ap (λ (bs : List Book). record { machine = s.machine; events = s.events; books = bs; trace = Off; tidies = s.tidies }) (ap (set s.books (p.number.0 - 1)) at ∙ set-get_or s.books (p.number.0 - 1) b)
+      ∙ ap (λ (t : Trace). record { machine = s.machine; events = s.events; books = s.books; trace = t; tidies = s.tidies }) (sym none)
 
   -- books and passes by their counts
   book_is : (x y : Book) → x.events ≡ y.events → x.commits ≡ y.commits → x.seen ≡ y.seen → x ≡ y
@@ -186,7 +188,7 @@ module _ (s : KeptView) (p : PassView) (there : has_book p.number s.books ≡ tr
   -- A RUN, counted as the code counts it
   pub goes : (call : CallNo) (run : Run) (n : MachineView) (b : Book) → IsKept s → s.trace ≡ Off → is_other (pass_at call.0 s.machine.calls.calls) p.number ≡ false → b ≡ get_or s.books (p.number.0 - 1) b
       → s.events + run.steps < 2 ^ 64 → p.events + run.steps < 2 ^ 64 → GoesThrough s.machine call run n
-      → HasGone Does s p call run.last (record { machine = n; events = s.events + run.steps; books = set s.books (p.number.0 - 1) (book_after run b); trace = s.trace }) (pass_after run p)
+      → HasGone Does s p call run.last (record { machine = n; events = s.events + run.steps; books = set s.books (p.number.0 - 1) (book_after run b); trace = s.trace; tidies = s.tidies }) (pass_after run p)
   goes call run n b k none own at here there' g =
       let i = p.number.0 - 1 in
       let many = g.many in
@@ -196,7 +198,7 @@ module _ (s : KeptView) (p : PassView) (there : has_book p.number s.books ≡ tr
       let e = made.made_is in let f = made.commits_are in let x = made.seen_is in
       let runs = subst (λ (m : KeptView). Runs Does m p (map (step_of call) g.outcomes) (now_kept s i g.before made.events_then made.book_then) (pass_with p made.made_then made.commits_then made.seen_then)) (same_kept b none at) made.runs in
       let last = one_more g.before n made.events_then made.book_then made.made_then made.commits_then made.seen_then (Step call) run.last (ap (λ (w : _). is_other w p.number) made.own ∙ own) (λ q. omega (arith, q, a, here, many)) (λ q. omega (arith, q, e, there', many)) g.last in
-      let then : KeptView = record { machine = n; events = s.events + run.steps; books = set s.books i (book_after run b); trace = Off } in
+      let then : KeptView = record { machine = n; events = s.events + run.steps; books = set s.books i (book_after run b); trace = Off; tidies = s.tidies } in
       let is_then : now_kept s i n (made.events_then + 1) (book_with run.last made.book_then) ≡ then =
       ap (λ (v : ℕ). now_kept s i n v (book_with run.last made.book_then)) (omega (arith, a, many))
       ∙ ap (λ (v : Book). now_kept s i n (s.events + run.steps) v) (book_is (book_with run.last made.book_then) (book_after run b) (omega (arith, be, many)) (omega (arith, bc, whole)) (ap (λ (v : ℕ). max v (seen_in run.last)) bs)) in
@@ -205,7 +207,7 @@ module _ (s : KeptView) (p : PassView) (there : has_book p.number s.books ≡ tr
       let between = pass_with p made.made_then made.commits_then made.seen_then in
       let does = subst (λ (t : KeptView). Does (now_kept s i g.before made.events_then made.book_then) between (Step call) run.last t (pass_after run p)) is_then
       (subst (λ (q : PassView). Does (now_kept s i g.before made.events_then made.book_then) between (Step call) run.last (now_kept s i n (made.events_then + 1) (book_with run.last made.book_then)) q) is_pass last) in
-      subst (λ (t : Trace). HasGone Does s p call run.last (record { machine = n; events = s.events + run.steps; books = set s.books i (book_after run b); trace = t }) (pass_after run p)) (sym none) (record {
+      subst (λ (t : Trace). HasGone Does s p call run.last (record { machine = n; events = s.events + run.steps; books = set s.books i (book_after run b); trace = t; tidies = s.tidies }) (pass_after run p)) (sym none) (record {
         steps = map (step_of call) g.outcomes;
         are_steps = go_steps call g.outcomes g.go_on;
         then = now_kept s i g.before made.events_then made.book_then;
@@ -222,30 +224,30 @@ module _ (s : KeptView) (p : PassView) (there : has_book p.number s.books ≡ tr
   -- a begin, counted as the code counts it
   pub opens : (request : Request) (run : Run) (n : MachineView) (b : Book) → s.trace ≡ Off → b ≡ get_or s.books (p.number.0 - 1) b → s.events + 1 < 2 ^ 64 → p.events + 1 < 2 ^ 64 → run.steps ≡ 1 → run.commits ≡ 0 → commit_count run.last ≡ 0
       → Makes s.machine (Begin p.number request) run.last n
-      → Does s p (Begin p.number request) run.last (record { machine = n; events = s.events + 1; books = set s.books (p.number.0 - 1) (book_after run b); trace = s.trace }) (pass_after run p)
+      → Does s p (Begin p.number request) run.last (record { machine = n; events = s.events + 1; books = set s.books (p.number.0 - 1) (book_after run b); trace = s.trace; tidies = s.tidies }) (pass_after run p)
   opens request run n b none at here there' one none_made zero makes =
       let i = p.number.0 - 1 in
       let own : not (eqb p.number.0 p.number.0) ≡ false = ap not (eq-eqb p.number.0 p.number.0 refl) in
       let made = one_more s.machine n s.events b p.events p.commits p.seen (Begin p.number request) run.last own (λ q. omega (arith, q, here)) (λ q. omega (arith, q, there')) makes in
-      let is_then : now_kept s i n (s.events + 1) (book_with run.last b) ≡ record { machine = n; events = s.events + 1; books = set s.books i (book_after run b); trace = Off } =
+      let is_then : now_kept s i n (s.events + 1) (book_with run.last b) ≡ record { machine = n; events = s.events + 1; books = set s.books i (book_after run b); trace = Off; tidies = s.tidies } =
       ap (λ (v : Book). now_kept s i n (s.events + 1) v) (book_is (book_with run.last b) (book_after run b) (omega (arith, one)) (omega (arith, none_made, zero)) refl) in
       let is_pass : pass_with p (p.events + 1) (p.commits + commit_count run.last) (max p.seen (seen_in run.last)) ≡ pass_after run p =
       pass_is _ _ _ _ _ _ (omega (arith, one)) (omega (arith, none_made, zero)) refl in
-      subst (λ (t : Trace). Does s p (Begin p.number request) run.last (record { machine = n; events = s.events + 1; books = set s.books i (book_after run b); trace = t }) (pass_after run p)) (sym none)
-      (subst (λ (m : KeptView). Does m p (Begin p.number request) run.last (record { machine = n; events = s.events + 1; books = set s.books i (book_after run b); trace = Off }) (pass_after run p)) (same_kept b none at)
+      subst (λ (t : Trace). Does s p (Begin p.number request) run.last (record { machine = n; events = s.events + 1; books = set s.books i (book_after run b); trace = t; tidies = s.tidies }) (pass_after run p)) (sym none)
+      (subst (λ (m : KeptView). Does m p (Begin p.number request) run.last (record { machine = n; events = s.events + 1; books = set s.books i (book_after run b); trace = Off; tidies = s.tidies }) (pass_after run p)) (same_kept b none at)
       (subst (λ (t : KeptView). Does (now_kept s i s.machine s.events b) p (Begin p.number request) run.last t (pass_after run p)) is_then
       (subst (λ (q : PassView). Does (now_kept s i s.machine s.events b) p (Begin p.number request) run.last (now_kept s i n (s.events + 1) (book_with run.last b)) q) is_pass made)))
 
 -- a run of what the lock keeps, as the code counts it
 pub gone_as_counted : (s : KeptView) (p q : PassView) (call : CallNo) (run : Run) (n : MachineView) (b : Book) (books : List Book) (events : ℕ) (number : PassNo) → IsKept s → (s.trace ≡ Off) × (p.trace ≡ Off) → number ≡ p.number → false ≡ is_wrong s number (Step call)
     → b ≡ get_or s.books (p.number.0 - 1) b → s.events + run.steps < 2 ^ 64 → p.events + run.steps < 2 ^ 64 → GoesThrough s.machine call run n → books ≡ set s.books (p.number.0 - 1) (book_after run b) → events ≡ s.events + run.steps → q ≡ pass_after run p
-    → HasGone Does s p call run.last (record { machine = n; events = events; books = books; trace = s.trace }) q
+    → HasGone Does s p call run.last (record { machine = n; events = events; books = books; trace = s.trace; tidies = s.tidies }) q
 gone_as_counted s p q call run n b books events number k off same mine at here far went books_are events_are pass_is' =
     let own = subst (λ (m : PassNo). false ≡ is_wrong s m (Step call)) same mine in
     let both = in_books s p.number (Step call) own in
-    subst (λ (e : ℕ). HasGone Does s p call run.last (record { machine = n; events = e; books = books; trace = s.trace }) q) (sym events_are)
-    (subst (λ (bs : List Book). HasGone Does s p call run.last (record { machine = n; events = s.events + run.steps; books = bs; trace = s.trace }) q) (sym books_are)
-    (subst (λ (r : PassView). HasGone Does s p call run.last (record { machine = n; events = s.events + run.steps; books = set s.books (p.number.0 - 1) (book_after run b); trace = s.trace }) r) (sym pass_is')
+    subst (λ (e : ℕ). HasGone Does s p call run.last (record { machine = n; events = e; books = books; trace = s.trace; tidies = s.tidies }) q) (sym events_are)
+    (subst (λ (bs : List Book). HasGone Does s p call run.last (record { machine = n; events = s.events + run.steps; books = bs; trace = s.trace; tidies = s.tidies }) q) (sym books_are)
+    (subst (λ (r : PassView). HasGone Does s p call run.last (record { machine = n; events = s.events + run.steps; books = set s.books (p.number.0 - 1) (book_after run b); trace = s.trace; tidies = s.tidies }) r) (sym pass_is')
     (goes s p (has_its_book s p.number (Step call) own) both.0 off.1 call run n b k off.0 both.1 at here far went)))
 
 pub gone_keep : (s : KeptView) (p : PassView) (call : CallNo) (o : Outcome) (t : KeptView) (q : PassView) → IsKept s → HasGone Does s p call o t q → IsKept t
@@ -254,20 +256,20 @@ gone_keep s p call o t q k g = does_keep g.then g.between (Step call) o t q (run
 -- a begin and a run of what the lock keeps, counted together
 pub starts_own : (s : KeptView) (p : PassView) (request : Request) (call : CallNo) (run : Run) (begun n : MachineView) (b : Book) → IsKept s → (s.trace ≡ Off) × (p.trace ≡ Off) → has_book p.number s.books ≡ true → b ≡ get_or s.books (p.number.0 - 1) b
     → s.events + (run.steps + 1) < 2 ^ 64 → p.events + (run.steps + 1) < 2 ^ 64 → Makes s.machine (Begin p.number request) (Call call) begun → GoesThrough begun call run n
-    → IsStarted Does s p request (Ran call run.last) (record { machine = n; events = s.events + (run.steps + 1); books = set s.books (p.number.0 - 1) (book_after (record run { steps = run.steps + 1 }) b); trace = s.trace }) (pass_after (record run { steps = run.steps + 1 }) p)
+    → IsStarted Does s p request (Ran call run.last) (record { machine = n; events = s.events + (run.steps + 1); books = set s.books (p.number.0 - 1) (book_after (record run { steps = run.steps + 1 }) b); trace = s.trace; tidies = s.tidies }) (pass_after (record run { steps = run.steps + 1 }) p)
 starts_own s p request call run begun n b k off there at here far makes went =
     let i = p.number.0 - 1 in
     let within = book_within p.number s.books there in
     let first : Run = record { steps = 1; commits = 0; last = Call call } in
     let one : Book = book_after first b in
-    let mid : KeptView = record { machine = begun; events = s.events + 1; books = set s.books i one; trace = s.trace } in
+    let mid : KeptView = record { machine = begun; events = s.events + 1; books = set s.books i one; trace = s.trace; tidies = s.tidies } in
     let r : PassView = pass_after first p in
     let does : Does s p (Begin p.number request) (Call call) mid r = opens s p there within off.1 request first begun b off.0 at (omega (arith, here)) (omega (arith, far)) refl refl refl makes in
     let there_too = ap (λ n. not (eqb p.number.0 0) && leb p.number.0 n) (length-set s.books i one) ∙ there in
     let (h, st, long, told) = k.stands in
     let own = ap (λ (w : _). is_other w p.number) (begun_pass s.machine begun h p.number request call st makes) ∙ ap not (eq-eqb p.number.0 p.number.0 refl) in
     let kept = does_keep s p (Begin p.number request) (Call call) mid r k does in
-    let gone : HasGone Does mid r call run.last (record { machine = n; events = s.events + 1 + run.steps; books = set (set s.books i one) i (book_after run one); trace = s.trace }) (pass_after run r) =
+    let gone : HasGone Does mid r call run.last (record { machine = n; events = s.events + 1 + run.steps; books = set (set s.books i one) i (book_after run one); trace = s.trace; tidies = s.tidies }) (pass_after run r) =
     goes mid r there_too (book_within p.number mid.books there_too) off.1 call run n one kept off.0 own (sym (get_or-set_same s.books i one one within)) (omega (arith, here)) (omega (arith, far)) went in
     let then_is = set-set s.books i one (book_after run one) ∙ ap (set s.books i)
     (book_is s p there within off.1 (book_after run one) (book_after (record run { steps = run.steps + 1 }) b) (omega arith) (omega arith) (omega arith)) in
@@ -275,9 +277,9 @@ starts_own s p request call run begun n b k off there at here far makes went =
       mid,
       r,
       (does, does_tell s p (Begin p.number request) (Call call) mid r k does),
-      subst (λ (q : PassView). HasGone Does mid r call run.last (record { machine = n; events = s.events + (run.steps + 1); books = set s.books i (book_after (record run { steps = run.steps + 1 }) b); trace = s.trace }) q) pass_then
-          (subst (λ (bs : List Book). HasGone Does mid r call run.last (record { machine = n; events = s.events + (run.steps + 1); books = bs; trace = s.trace }) (pass_after run r)) then_is
-          (subst (λ (e : ℕ). HasGone Does mid r call run.last (record { machine = n; events = e; books = set (set s.books i one) i (book_after run one); trace = s.trace }) (pass_after run r)) (omega arith) gone)),
+      subst (λ (q : PassView). HasGone Does mid r call run.last (record { machine = n; events = s.events + (run.steps + 1); books = set s.books i (book_after (record run { steps = run.steps + 1 }) b); trace = s.trace; tidies = s.tidies }) q) pass_then
+          (subst (λ (bs : List Book). HasGone Does mid r call run.last (record { machine = n; events = s.events + (run.steps + 1); books = bs; trace = s.trace; tidies = s.tidies }) (pass_after run r)) then_is
+          (subst (λ (e : ℕ). HasGone Does mid r call run.last (record { machine = n; events = e; books = set (set s.books i one) i (book_after run one); trace = s.trace; tidies = s.tidies }) (pass_after run r)) (omega arith) gone)),
     )
 
 -- a book is within what was counted
@@ -293,22 +295,22 @@ module _ (s : KeptView) (p q : PassView) (request : Request) (n : MachineView) (
   set_own run is = ap (λ (bs : List Book). set bs (p.number.0 - 1) (book_after run b)) (sym same) ∙ sym is
 
   pub refused_as_counted : (refusal : Refusal) → s.events + 1 < 2 ^ 64 → p.events + 1 < 2 ^ 64 → Makes s.machine (Begin p.number request) (Refused refusal) n → books ≡ set items (p.number.0 - 1) (book_after (record { steps = 1; commits = 0; last = Refused refusal }) b) → events ≡ s.events + 1
-      → q ≡ pass_after (record { steps = 1; commits = 0; last = Refused refusal }) p → Does s p (Begin p.number request) (Refused refusal) (record { machine = n; events = events; books = books; trace = s.trace }) q
+      → q ≡ pass_after (record { steps = 1; commits = 0; last = Refused refusal }) p → Does s p (Begin p.number request) (Refused refusal) (record { machine = n; events = events; books = books; trace = s.trace; tidies = s.tidies }) q
   refused_as_counted refusal here far makes books_are events_are pass_is' =
       let run : Run = record { steps = 1; commits = 0; last = Refused refusal } in
-      subst (λ (e : ℕ). Does s p (Begin p.number request) (Refused refusal) (record { machine = n; events = e; books = books; trace = s.trace }) q) (sym events_are)
-      (subst (λ (bs : List Book). Does s p (Begin p.number request) (Refused refusal) (record { machine = n; events = s.events + 1; books = bs; trace = s.trace }) q) (set_own run books_are)
-      (subst (λ (r : PassView). Does s p (Begin p.number request) (Refused refusal) (record { machine = n; events = s.events + 1; books = set s.books (p.number.0 - 1) (book_after run b); trace = s.trace }) r) (sym pass_is')
+      subst (λ (e : ℕ). Does s p (Begin p.number request) (Refused refusal) (record { machine = n; events = e; books = books; trace = s.trace; tidies = s.tidies }) q) (sym events_are)
+      (subst (λ (bs : List Book). Does s p (Begin p.number request) (Refused refusal) (record { machine = n; events = s.events + 1; books = bs; trace = s.trace; tidies = s.tidies }) q) (set_own run books_are)
+      (subst (λ (r : PassView). Does s p (Begin p.number request) (Refused refusal) (record { machine = n; events = s.events + 1; books = set s.books (p.number.0 - 1) (book_after run b); trace = s.trace; tidies = s.tidies }) r) (sym pass_is')
       (opens s p there (book_within p.number s.books there) off.1 request run n b off.0 at_own here far refl refl refl makes)))
 
   pub ran_as_counted : (call : CallNo) (run : Run) (begun : MachineView) → IsKept s → s.events + (run.steps + 1) < 2 ^ 64 → p.events + (run.steps + 1) < 2 ^ 64 → Makes s.machine (Begin p.number request) (Call call) begun → GoesThrough begun call run n
       → books ≡ set items (p.number.0 - 1) (book_after (record run { steps = run.steps + 1 }) b) → events ≡ s.events + (run.steps + 1) → q ≡ pass_after (record run { steps = run.steps + 1 }) p
-      → IsStarted Does s p request (Ran call run.last) (record { machine = n; events = events; books = books; trace = s.trace }) q
+      → IsStarted Does s p request (Ran call run.last) (record { machine = n; events = events; books = books; trace = s.trace; tidies = s.tidies }) q
   ran_as_counted call run begun k here far makes went books_are events_are pass_is' =
       let more : Run = record run { steps = run.steps + 1 } in
-      subst (λ (e : ℕ). IsStarted Does s p request (Ran call run.last) (record { machine = n; events = e; books = books; trace = s.trace }) q) (sym events_are)
-      (subst (λ (bs : List Book). IsStarted Does s p request (Ran call run.last) (record { machine = n; events = s.events + (run.steps + 1); books = bs; trace = s.trace }) q) (set_own more books_are)
-      (subst (λ (r : PassView). IsStarted Does s p request (Ran call run.last) (record { machine = n; events = s.events + (run.steps + 1); books = set s.books (p.number.0 - 1) (book_after more b); trace = s.trace }) r) (sym pass_is')
+      subst (λ (e : ℕ). IsStarted Does s p request (Ran call run.last) (record { machine = n; events = e; books = books; trace = s.trace; tidies = s.tidies }) q) (sym events_are)
+      (subst (λ (bs : List Book). IsStarted Does s p request (Ran call run.last) (record { machine = n; events = s.events + (run.steps + 1); books = bs; trace = s.trace; tidies = s.tidies }) q) (set_own more books_are)
+      (subst (λ (r : PassView). IsStarted Does s p request (Ran call run.last) (record { machine = n; events = s.events + (run.steps + 1); books = set s.books (p.number.0 - 1) (book_after more b); trace = s.trace; tidies = s.tidies }) r) (sym pass_is')
       (starts_own s p request call run begun n b k off there at_own here far makes went)))
 
 -- what the lock keeps is kept by a start

@@ -27,12 +27,14 @@ use Rattle.mt_shared.specs.Traces.{entry, Gains, IsTraceOf}
 use Rattle.mt_shared.specs.Passes.{PassView, Counts}
 use Rattle.mt_shared.specs.Books.{booked_events, booked_commits, book_with}
 
--- the machine, how many events were made, the book of each pass (that of pass n at n - 1), and the trace of all events
+-- the machine, how many events were made, the book of each pass (that of pass n at n - 1), the trace of all events, and
+-- whether tidies follow removes
 pub record KeptView : Type 0 where
   pub machine : MachineView
   pub events : ℕ
   pub books : List Book
   pub trace : Trace
+  pub tidies : Bool
 
 -- WHAT THE LOCK KEEPS
 pub record IsKept (s : KeptView) : Type 0 where
@@ -75,6 +77,7 @@ pub record IsMade (s : KeptView) (p : PassView) (event : Event) (outcome : Outco
   pub books : t.books ≡ slice_set s.books (p.number.0 - 1) (book_with outcome book)
   pub trace : Gains s.trace (entry p.number event outcome ∷ []) t.trace
   pub counts : Counts p event outcome q
+  pub tidies : t.tidies ≡ s.tidies
 
 -- none was made: refused so, and nothing has changed
 abbrev pub IsUnmade : Refusal → KeptView → PassView → Outcome → KeptView → PassView → Type 0
@@ -123,3 +126,4 @@ pub record IsFresh (options : Options) (passes : ℕ) (s : KeptView) : Type 0 wh
   pub stands : Stands s.machine []
   pub events : s.events ≡ 0
   pub books : length s.books ≡ passes
+  pub tidies : s.tidies ≡ options.tidies

@@ -1,3 +1,4 @@
+pub mod Tidies
 pub mod Traces
 pub mod Passes
 pub mod Books

@@ -4,10 +4,12 @@ ghost use Rattle.std.specs.Prelude.{◌≡◌, ◌≤◌, ◌<◌, ◌⊎◌, If
 ghost use Rattle.mt_types.specs.Limited.{AnswerIsLimited};
 ghost use Rattle.mt_shared.specs.Changes.{ChangeIsLimited, ChangesFully, IsChanged, IsDriveKept, KeepsViews, has_changed, is_change};
 ghost use Rattle.mt_shared.specs.Kept.{Does, IsKept};
+ghost use Rattle.mt_shared.specs.Tidies.{IsDriveTidied};
 
 use crate::driving::{NoGate, Shared, Started, finish};
 use crate::kept::Kept;
 use crate::pass::Pass;
+use crate::tidying::{place_of, tidy_after};
 use crate::views::keep_views;
 use mt_types::event::{Answer, Event, Outcome, Reply, Request};
 use mt_types::numbers::ViewNo;
@@ -94,16 +96,8 @@ impl Kept {
     }
 }
 
-/// Makes one call of a pass, as [`crate::driving::drive`] does without a gate. If it has changed a row or built a view,
-/// views are then kept up, as [`keep_views`] does, in at most `turns` turns. A turn that is refused changes nothing:
-/// views are kept up again after a later change.
-///
-/// Over a `ThroughDoor` the lock is held once for the call and the turns, if the call ends in its first run.
-///
-/// # Errors
-///
-/// Those of [`crate::driving::drive`].
-pub fn drive_and_keep<S: Shared>(
+// Makes one call of a pass, and keeps up views.
+fn drive_and_turn<S: Shared>(
     alloc: Global,
     shared: &mut S,
     pass: &mut Pass,
@@ -121,6 +115,40 @@ pub fn drive_and_keep<S: Shared>(
     let ended = finish(alloc, shared, pass, &mut NoGate, started, seen);
     if has_changed(&ended) {
         let _kept = keep_views(alloc, shared, pass, turns);
+    }
+    ended
+}
+
+/// Makes one call of a pass, as [`crate::driving::drive`] does without a gate. If it has changed a row or built a view,
+/// views are then kept up, as [`keep_views`] does, in at most `turns` turns. A turn that is refused changes nothing:
+/// views are kept up again after a later change.
+///
+/// If it has removed a row, tidies follow removes here (`Options`), and the border of the key is then empty, tidies at
+/// its place follow, at most `MAX_TIDIES`, until one takes nothing out. The nodes are then freed that no open call can
+/// still visit. So memory comes back as rows are removed. What the tidies come to changes nothing of the reply.
+///
+/// Over a `ThroughDoor` the lock is held once for the call and the turns, if the call ends in its first run. After a
+/// remove it is held once more, together with other reads, for a look at the border.
+///
+/// # Errors
+///
+/// Those of [`crate::driving::drive`].
+pub fn drive_and_keep<S: Shared>(
+    alloc: Global,
+    shared: &mut S,
+    pass: &mut Pass,
+    request: Request,
+    turns: u64,
+) -> Result<Reply, Refusal>
+    ensures kept { IsDriveTidied S.does S.looks shared.old pass.old request turns result shared.new pass.new }
+    ensures limited { IfOk result (λ reply. AnswerIsLimited reply.answer) }
+{
+    let place = place_of(&request);
+    let ended = drive_and_turn(alloc, shared, pass, request, turns);
+    if has_changed(&ended) {
+        if let Some(place) = place {
+            tidy_after(alloc, shared, pass, &place);
+        }
     }
     ended
 }

@@ -1,6 +1,6 @@
 //! Drives a call from its begin to its end, run by run, on whatever shares a machine.
 
-ghost use Rattle.std.specs.Prelude.{ℕ, ◌≡◌, ◌≤◌, Option, Result, IfOk, IfErr, IfSome};
+ghost use Rattle.std.specs.Prelude.{ℕ, ◌≡◌, ◌≤◌, Bool, List, Option, Result, IfOk, IfErr, IfSome};
 ghost use Rattle.mt_types.specs.declared.numbers.PassNo.{PassNo};
 ghost use Rattle.mt_types.specs.declared.refusal.Refusal.{Refusal};
 ghost use Rattle.mt_types.specs.declared.event.Answer.{Answer};
@@ -16,6 +16,7 @@ ghost use Rattle.mt_shared.specs.Drives.{Finishes, HasGone, IsReplyTo, IsDriven,
 use crate::changing::Changed;
 use crate::pass::Pass;
 use mt_types::event::{Answer, Event, Outcome, Reply, Request};
+use mt_types::key::Key;
 use mt_types::numbers::{CallNo, PassNo};
 use mt_types::refusal::Refusal;
 use std::alloc::Global;
@@ -93,6 +94,13 @@ pub trait Shared {
         ensures shows { shows self.now pass request.now result }
         ensures answer { IfSome result (λ read. IfOk read (λ now. IsReadAnswer now.1)) }
         ensures limited { IfSome result (λ read. IfOk read (λ now. AnswerIsLimited now.1)) };
+
+    /// What a look says of a key's border, of what is shared.
+    ghost looks: { Self → List ℕ → Bool → Type 0 };
+
+    /// Returns whether tidies are to follow a remove of `key`, as `Kept::is_emptied` does. Makes no event.
+    fn is_emptied(&self, key: &Key) -> bool
+        ensures looks { looks self.now key.now result };
 }
 
 /// What is done between the runs of a call.

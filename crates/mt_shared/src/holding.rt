@@ -2,6 +2,7 @@
 
 ghost use Rattle.mt_shared.specs.Kept.{DoesSomewhere};
 ghost use Rattle.mt_shared.specs.Reads.{ReadsSomewhere};
+ghost use Rattle.mt_shared.specs.Tidies.{LooksSomewhere};
 
 use crate::changing::Changed;
 use crate::driving::{Hold, Shared, Started};
@@ -10,6 +11,7 @@ use crate::kept::Kept;
 use crate::pass::Pass;
 use crate::through::ThroughDoor;
 use mt_types::event::{Answer, Event, Outcome, Request};
+use mt_types::key::Key;
 use mt_types::numbers::{CallNo, PassNo};
 use mt_types::refusal::Refusal;
 use std::alloc::Global;
@@ -125,6 +127,18 @@ impl<'a, W: Wait> Shared for HoldingDoor<'a, W> {
             Held::Nothing => self.door.read(alloc, pass, request),
             Held::Reads(kept) => kept.read(alloc, pass, request),
             Held::Changes(kept) => kept.read(alloc, pass, request),
+        }
+    }
+
+    // somewhere in the order in which the lock is held it was looked at what lay there
+    ghost looks = { λ _ key empty. LooksSomewhere key empty };
+
+    /// Makes one `Kept::is_emptied`, if the lock is kept; otherwise does what `ThroughDoor::is_emptied` does.
+    fn is_emptied(&self, key: &Key) -> bool {
+        match &self.held {
+            Held::Nothing => self.door.is_emptied(key),
+            Held::Reads(kept) => kept.is_emptied(key),
+            Held::Changes(kept) => kept.is_emptied(key),
         }
     }
 }

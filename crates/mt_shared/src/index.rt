@@ -6,6 +6,7 @@ ghost use Rattle.mt_shared.specs.Traces.{IsLegalTrace, HaveHappened};
 ghost use Rattle.mt_shared.specs.Kept.{IsKept, IsRefusedBy, DoesSomewhere, start_fault};
 ghost use Rattle.mt_shared.specs.Feeds.{FeedsSomewhere, CopiesSomewhere};
 ghost use Rattle.mt_shared.specs.Reads.{ReadsSomewhere};
+ghost use Rattle.mt_shared.specs.Tidies.{LooksSomewhere};
 
 use crate::changing::Changed;
 use crate::driving::{Hold, Shared, Started};
@@ -16,6 +17,7 @@ use crate::settling::Totals;
 use crate::trace::Entry;
 use mt_index::options::Options;
 use mt_types::event::{Answer, Event, Outcome, Request};
+use mt_types::key::Key;
 use mt_types::limits::{open_fault, passes_fault};
 use mt_types::numbers::{CallNo, PassNo, ViewNo};
 use mt_types::refusal::Refusal;
@@ -275,5 +277,14 @@ impl<'a, W: Wait> Shared for Door<'a, W> {
     ) -> Option<Result<(u64, Answer), Refusal>> {
         let index = self.index;
         index.kept.read(self.wait).read(alloc, pass, request)
+    }
+
+    // somewhere in the order in which the lock is held it was looked at what lay there
+    ghost looks = { λ _ key empty. LooksSomewhere key empty };
+
+    /// Holds the lock once, together with other reads, for one `Kept::is_emptied`.
+    fn is_emptied(&self, key: &Key) -> bool {
+        let index = self.index;
+        index.kept.read(self.wait).is_emptied(key)
     }
 }

@@ -29,6 +29,8 @@ pub struct Kept {
     pub(crate) events: u64,
     pub(crate) books: Vec<Book>,
     pub(crate) trace: Trace,
+    /// Whether tidies follow removes.
+    pub(crate) tidies: bool,
 }
 
 impl Model for Kept {
@@ -74,6 +76,7 @@ impl Kept {
             events: 0,
             books,
             trace: Trace::new(alloc, traced),
+            tidies: options.tidies,
         })
     }
 

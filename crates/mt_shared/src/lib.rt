@@ -18,5 +18,6 @@ pub mod reads;
 pub mod runs;
 pub mod settling;
 pub mod through;
+mod tidying;
 pub mod trace;
 pub mod views;

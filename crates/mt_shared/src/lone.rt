@@ -10,6 +10,7 @@ ghost use Rattle.mt_shared.specs.Feeds.{Feeds, Copies};
 ghost use Rattle.mt_shared.specs.Changes.{ChangeIsLimited, IsChanged};
 ghost use Rattle.mt_shared.specs.Drives.{HasGone, IsStarted, StartIsLimited};
 ghost use Rattle.mt_shared.specs.Reads.{IsReadAnswer, ReadsNow};
+ghost use Rattle.mt_shared.specs.Tidies.{Looks};
 ghost use Rattle.mt_shared.specs.Passes.{IsTold};
 
 use crate::changing::Changed;
@@ -18,6 +19,7 @@ use crate::kept::Kept;
 use crate::pass::Pass;
 use mt_index::options::Options;
 use mt_types::event::{Answer, Event, Outcome, Request};
+use mt_types::key::Key;
 use mt_types::numbers::{CallNo, PassNo, ViewNo};
 use mt_types::refusal::Refusal;
 use mt_types::row::Delta;
@@ -149,5 +151,15 @@ impl Shared for Lone {
         ensures kept { IsKept self.now }
     {
         self.kept.read(alloc, pass, request)
+    }
+
+    ghost looks = { Looks };
+
+    /// Does what `Kept::is_emptied` does.
+    fn is_emptied(&self, key: &Key) -> bool
+        ensures looks { Looks self.now key.now result }
+        ensures kept { IsKept self.now }
+    {
+        self.kept.is_emptied(key)
     }
 }

@@ -42,6 +42,7 @@ impl Kept {
             events,
             books,
             trace: _,
+            tidies: _,
         } = self;
         let commits = machine.commits();
         if !add_up(books, passes) {
@@ -68,6 +69,7 @@ impl Kept {
             events: _,
             books,
             trace,
+            tidies: _,
         } = self;
         if !add_up(books, passes) {
             return Err(Refusal::WrongPass);

@@ -2,6 +2,7 @@
 
 ghost use Rattle.mt_shared.specs.Kept.{DoesSomewhere};
 ghost use Rattle.mt_shared.specs.Reads.{ReadsSomewhere};
+ghost use Rattle.mt_shared.specs.Tidies.{LooksSomewhere};
 
 use crate::changing::Changed;
 use crate::driving::{Hold, Shared, Started};
@@ -9,6 +10,7 @@ use crate::index::{Door, Index};
 use crate::moment::Moment;
 use crate::pass::Pass;
 use mt_types::event::{Answer, Event, Outcome, Request};
+use mt_types::key::Key;
 use mt_types::numbers::{CallNo, PassNo};
 use mt_types::refusal::Refusal;
 use std::alloc::Global;
@@ -87,5 +89,13 @@ impl<'a, W: Wait> Shared for ThroughDoor<'a, W> {
         request: &Request,
     ) -> Option<Result<(u64, Answer), Refusal>> {
         self.door.read(alloc, pass, request)
+    }
+
+    // somewhere in the order in which the lock is held it was looked at what lay there
+    ghost looks = { λ _ key empty. LooksSomewhere key empty };
+
+    /// Holds the lock once, together with other reads, for one `Kept::is_emptied`.
+    fn is_emptied(&self, key: &Key) -> bool {
+        self.door.is_emptied(key)
     }
 }

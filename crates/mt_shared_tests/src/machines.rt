@@ -17,6 +17,7 @@ const OPTIONS: Options = Options {
     columns: 1,
     feed: 4096,
     keep: 1,
+    tidies: true,
 };
 
 // A put of column 0 of key a, and a build of a view of all rows, each stepped until it is done.

@@ -22,6 +22,7 @@ const OPTIONS: Options = Options {
     columns: 1,
     feed: 4096,
     keep: 0,
+    tidies: true,
 };
 
 const KEY: &[u8] = b"a";

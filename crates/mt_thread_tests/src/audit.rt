@@ -18,6 +18,7 @@ pub(crate) const OPTIONS: Options = Options {
     columns: 1,
     feed: 65_536,
     keep: 65_536,
+    tidies: true,
 };
 
 /// All deltas of an index that has made up to 65,536 commits.

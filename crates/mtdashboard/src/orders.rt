@@ -17,6 +17,7 @@ pub(crate) const OPTIONS: Options = Options {
     columns: 1,
     feed: 4096,
     keep: 1024,
+    tidies: true,
 };
 
 // How many orders are written, each second one on the day that is shown.

@@ -58,6 +58,7 @@ fn options_of(matches: &ArgMatches<'_>) -> Options
         columns: columns(matches),
         feed: feed(matches),
         keep: keep(matches),
+        tidies: true,
     }
 }
 

@@ -23,7 +23,9 @@ with_socket_rules app =
 -- the options of mtserve
 abbrev pub mtserve_app : App
 mtserve_app =
-    with_index_rules (with_rule (with_socket_rules (new_app (codes "mtserve"))) (flag_rule (codes "forever")))
+    with_index_rules
+    (with_rule (with_rule (with_socket_rules (new_app (codes "mtserve"))) (flag_rule (codes "forever")))
+    (flag_rule (codes "no-tidies")))
 
 -- what was found on a command line
 pub record AreFound (matches : ArgMatches) (settings : Settings) : Type 0 where
@@ -35,6 +37,8 @@ pub record AreFound (matches : ArgMatches) (settings : Settings) : Type 0 where
   pub columns : IsColumns 64 matches settings.options.columns
   pub feed : IsFeed matches settings.options.feed
   pub keep : IsKeep matches settings.options.keep
+  pub untidied : one_text (found_of matches) (codes "no-tidies") ≡ Some (codes "true") → settings.options.tidies ≡ false
+  pub tidied : one_text (found_of matches) (codes "no-tidies") ≡ Some (codes "false") → settings.options.tidies ≡ true
 
 -- what these words say: what a parse of them finds
 abbrev pub AreSaid : List (List ℕ) → Settings → Type 0

@@ -64,7 +64,10 @@ fn command<'a>(alloc: Global) -> Result<Command<'a>, AllocError>
 {
     let forever = "Serves until the process is ended, instead of --sessions";
     let named = Command::new(alloc, "mtserve").about(ABOUT).after_help(MORE);
-    let flagged = socket_options(named, alloc)?.arg(flag(alloc, "forever", forever))?;
+    let no_tidies = "Makes no tidies after removes, so that emptied nodes stay";
+    let flagged = socket_options(named, alloc)?
+        .arg(flag(alloc, "forever", forever))?
+        .arg(flag(alloc, "no-tidies", no_tidies))?;
     index_options(flagged, alloc)
 }
 
@@ -76,6 +79,7 @@ fn settings_of(matches: &ArgMatches<'_>) -> Settings
             columns: columns(matches),
             feed: feed(matches),
             keep: keep(matches),
+            tidies: !matches.get_flag("no-tidies"),
         },
         port: number(matches, "port", 0),
         workers: number(matches, "workers", 1),

@@ -1,5 +1,5 @@
 -- What each call does with what a handle holds, and what it reports.
-use Rattle.std.specs.Prelude.{ℕ, ◌≡◌, ◌⊎◌, List, ◌∷◌, Result, Ok, Err, Option, Some, None}
+use Rattle.std.specs.Prelude.{ℕ, ◌≡◌, ◌⊎◌, List, ◌∷◌, Result, Err, Option, Some, None}
 use Rattle.mt_types.specs.Limits.{open_fault, request_fault}
 use Rattle.mt_types.specs.RefusalNumbers.{refusal_number}
 use Rattle.mt_types.specs.declared.event.Event.{Event}
@@ -9,23 +9,21 @@ use Rattle.mt_types.specs.declared.event.Reply.{Reply}
 use Rattle.mt_types.specs.declared.refusal.Refusal.{Refusal}
 use Rattle.mt_promise.specs.History.{History, happening}
 use Rattle.mt_index.specs.declared.options.Options.{Options}
-use Rattle.mt_index.specs.Alone.{AnswersPlainly, RefusesPlainly}
-use Rattle.mt_index.specs.Events.{Happens, HappensAlone, IsOpened, last_outcome}
+use Rattle.mt_index.specs.Events.{Happens, IsOpened}
 use Rattle.mt_index.specs.Stands.{MachineView, Stands}
+use Rattle.mt_map.specs.Tidies.{DoesAndTidies}
 use Rattle.rowanspan_c.specs.declared.status.TheConstants.{DONE, CLOSED, HELD}
 use Rattle.rowanspan_c.specs.Questions.{IsCausedBy}
 use Rattle.rowanspan_c.specs.Told.{Tells, TellsEnd, TellsOutcome, TellsRead}
 
 -- ---- what comes of it
--- A CALL ALONE ENDS SO: it is answered or refused as by a plain map, by its begin and its steps and nothing else. Or
--- the copy of its bytes was refused memory: then it is refused for the first limit that it breaks, or as out of memory
--- if it breaks none, and nothing happened.
+-- A CALL ALONE ENDS SO: it is answered or refused as by a plain map, by its begin and its steps; and if it has removed a
+-- row, tidies may follow. Or the copy of its bytes was refused memory: then it is refused for the first limit that it
+-- breaks, or as out of memory if it breaks none, and nothing happened.
 abbrev pub EndsAlone : MachineView → Request → Result Reply Refusal → MachineView → Type 0
-EndsAlone s request (Ok reply) t =
-    AnswersPlainly s request reply t × HappensAlone s request (last_outcome (Ok reply)) t
-EndsAlone s request (Err refusal) t =
-    (RefusesPlainly s request refusal t × HappensAlone s request (last_outcome (Err refusal)) t)
-    ⊎ (IsCausedBy (request_fault s.columns request) refusal × (t ≡ s))
+EndsAlone s request ended t =
+    DoesAndTidies s request ended t
+    ⊎ ((refusal : Refusal) × (ended ≡ Err refusal) × IsCausedBy (request_fault s.columns request) refusal × (t ≡ s))
 
 -- a call on a handle that holds no index reports so, and the handle still holds none
 abbrev pub TellsClosed : Option MachineView → ℕ → ℕ → Type 0

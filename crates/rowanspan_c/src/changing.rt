@@ -14,19 +14,20 @@ use crate::handle::Handle;
 use crate::reading::{Question, read};
 use crate::status::CLOSED;
 use mt_index::machine::Machine;
+use mt_map::tidying::do_and_tidy;
 use mt_types::event::{Event, Outcome, Reply};
 use mt_types::refusal::Refusal;
 use std::alloc::Global;
 
-// Makes a change by a call alone. If there is no memory to copy its bytes, it is still refused for a limit that it
-// breaks.
+// Makes a change by a call alone, and the tidies that follow a remove. If there is no memory to copy its bytes, it is
+// still refused for a limit that it breaks.
 fn end_of(alloc: Global, index: &mut Machine, asked: &Asked<'_>) -> Result<Reply, Refusal>
     requires { IsIdle index.old }
     ensures ends { EndsAlone index.old (request_of asked.now) result index.new }
     ensures idle { IsIdle index.new }
 {
     match asked.request(alloc) {
-        Ok(request) => index.do_alone(alloc, request),
+        Ok(request) => do_and_tidy(alloc, index, request),
         Err(_) => match asked.fault(index.columns()) {
             Some(refusal) => Err(refusal),
             None => Err(Refusal::NoMemory),

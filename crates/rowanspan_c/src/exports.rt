@@ -2,7 +2,7 @@
 //!
 //! The header, `include/rowanspan.h`, says what each does, what it costs and when it is refused.
 
-ghost use Rattle.std.specs.Prelude.{◌≡◌, ◌<◌, ◌≤◌, MatchResult, OnOk, Some as SomeOf, None as NoneOf};
+ghost use Rattle.std.specs.Prelude.{◌≡◌, ◌<◌, ◌≤◌, MatchResult, OnOk, Some as SomeOf, None as NoneOf, true};
 ghost use Rattle.mt_types.specs.declared.event.Request.TheVariants.{Put, PutIf, Remove, Tidy, Build};
 ghost use Rattle.mt_types.specs.declared.event.Event.TheVariants.{Apply, ViewDrop, Advance, Collect};
 ghost use Rattle.mt_types.specs.declared.view.ViewSpec.TheVariants.{Range as RangeOf, Prefix as PrefixOf};
@@ -51,7 +51,7 @@ pub extern "C" fn rowanspan_open(
     feed: u64,
     keep: u64,
 ) -> u16
-    ensures { Opens handle.old.held (record { columns = columns; feed = feed; keep = keep }) handle.new.held result }
+    ensures { Opens handle.old.held (record { columns = columns; feed = feed; keep = keep; tidies = true }) handle.new.held result }
 {
     if let Some(index) = handle.take(alloc) {
         handle.fill(index);
@@ -61,6 +61,7 @@ pub extern "C" fn rowanspan_open(
         columns,
         feed,
         keep,
+        tidies: true,
     };
     match opened(alloc, options) {
         Ok(index) => {

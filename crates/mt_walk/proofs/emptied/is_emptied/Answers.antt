@@ -18,10 +18,9 @@ loop-next-smaller c =
 
 pub loop-next-preserved : goal.loop-next-preserved
 loop-next-preserved c =
-    let (sought, visits, reaches) = c.loop-next.invariant in
-    (
+    let (sought, visits, reaches) = c.loop-next.invariant in (
       (sought_goes c.args.tree.now c.args.key.now c.loop-next.way c.in-To.next sought
-      (subst (λ (w : Went). Visits c.args.tree.now c.args.key.now c.loop-next.way w) c.in-To.is c.visit.ensures.visits)).0,
+          (subst (λ (w : Went). Visits c.args.tree.now c.args.key.now c.loop-next.way w) c.in-To.is c.visit.ensures.visits)).0,
       suc visits,
       (c.loop-next.way, reaches, subst (λ (w : Went). VisitIs c.args.tree.now c.args.key.now c.loop-next.way w) c.in-To.is c.visit.ensures.value),
     )

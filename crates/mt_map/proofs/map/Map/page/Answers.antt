@@ -1,15 +1,16 @@
-use Rattle.std.proofs.Common.{subst}
+use Rattle.std.proofs.Common.{ap, subst}
 use Rattle.mt_index.specs.Stands.{MachineView, ReadsView}
 use Rattle.mt_index.specs.Viewing.{page_outcome}
+use Rattle.mt_map.specs.Tidies.{MapView}
 use Rattle.mt_map.proofs.MapLemmas.{pages_floor, pages_show}
 use Rattle.mt_map.proofs.map.Map.page.Goals as goal
 
 pub returns-clause-exact : goal.returns-clause-exact
 returns-clause-exact c =
-    pages_show c.args.self.now c.args.view.0 c.args.floor c.args.start.now c.args.limit c.page.result c.states_show_pages.ensures
-    (subst (λ (m : MachineView). ReadsView m c.args.view.0 c.args.floor c.args.start.now c.args.limit (page_outcome c.page.result)) c.self.view_is c.page.ensures)
+    pages_show c.args.self.now.machine c.args.view.0 c.args.floor c.args.start.now c.args.limit c.page.result c.states_show_pages.ensures
+    (subst (λ (m : MachineView). ReadsView m c.args.view.0 c.args.floor c.args.start.now c.args.limit (page_outcome c.page.result)) (ap (λ (v : MapView). v.machine) c.self.view_is) c.page.ensures)
 
 pub returns-clause-floor : goal.returns-clause-floor
 returns-clause-floor c =
-    pages_floor c.args.self.now c.args.view.0 c.args.floor c.args.start.now c.args.limit c.page.result
-    (subst (λ (m : MachineView). ReadsView m c.args.view.0 c.args.floor c.args.start.now c.args.limit (page_outcome c.page.result)) c.self.view_is c.page.ensures)
+    pages_floor c.args.self.now.machine c.args.view.0 c.args.floor c.args.start.now c.args.limit c.page.result
+    (subst (λ (m : MachineView). ReadsView m c.args.view.0 c.args.floor c.args.start.now c.args.limit (page_outcome c.page.result)) (ap (λ (v : MapView). v.machine) c.self.view_is) c.page.ensures)

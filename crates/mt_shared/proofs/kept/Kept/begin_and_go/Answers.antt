@@ -16,7 +16,7 @@ use Rattle.mt_shared.proofs.kept.Kept.begin_and_go.Goals as goal
 
 pub count-requires-clause-book : goal.count-requires-clause-book
 count-requires-clause-book c = λ book at.
-    let s : KeptView = record { machine = c.self.inside.machine; events = c.self.inside.events; books = c.self.inside.books.items; trace = c.self.inside.trace } in
+    let s : KeptView = record { machine = c.self.inside.machine; events = c.self.inside.events; books = c.self.inside.books.items; trace = c.self.inside.trace; tidies = c.self.inside.tidies } in
     let there = rw (← c.self.view_is) at c.requires.there in
     let off = rw (← c.self.view_is) at c.requires.off in
     let room = rw (← c.self.view_is) at c.requires.room in
@@ -32,7 +32,7 @@ count-requires-clause-book c = λ book at.
 -- its begin is refused
 pub invariant_of-self : goal.invariant_of-self
 invariant_of-self c =
-    let s : KeptView = record { machine = c.self.inside.machine; events = c.self.inside.events; books = c.self.inside.books.items; trace = c.self.inside.trace } in
+    let s : KeptView = record { machine = c.self.inside.machine; events = c.self.inside.events; books = c.self.inside.books.items; trace = c.self.inside.trace; tidies = c.self.inside.tidies } in
     let there = rw (← c.self.view_is) at c.requires.there in
     let off = rw (← c.self.view_is) at c.requires.off in
     let room = rw (← c.self.view_is) at c.requires.room in
@@ -41,11 +41,11 @@ invariant_of-self c =
     let here = room.0 in
     let far = room.1 in
     let does = refused_as_counted s c.args.pass.now c.count.new.pass c.args.request c.call-called.new.self book.0 c.self.inside.books.items c.count.new.books.items c.count.new.events off there refl book.1 c.in-Refused.refusal (omega (arith, here)) (omega (arith, far)) makes book.2 c.count.ensures.events c.count.ensures.pass in
-    does_keep s c.args.pass.now (Begin c.args.pass.now.number c.args.request) (Refused c.in-Refused.refusal) (record { machine = c.call-called.new.self; events = c.count.new.events; books = c.count.new.books.items; trace = c.self.inside.trace }) c.count.new.pass c.self.invariant does
+    does_keep s c.args.pass.now (Begin c.args.pass.now.number c.args.request) (Refused c.in-Refused.refusal) (record { machine = c.call-called.new.self; events = c.count.new.events; books = c.count.new.books.items; trace = c.self.inside.trace; tidies = c.self.inside.tidies }) c.count.new.pass c.self.invariant does
 
 pub returns-in-Refused-count-clause-starts : goal.returns-in-Refused-count-clause-starts
 returns-in-Refused-count-clause-starts c =
-    let s : KeptView = record { machine = c.self.inside.machine; events = c.self.inside.events; books = c.self.inside.books.items; trace = c.self.inside.trace } in
+    let s : KeptView = record { machine = c.self.inside.machine; events = c.self.inside.events; books = c.self.inside.books.items; trace = c.self.inside.trace; tidies = c.self.inside.tidies } in
     let there = rw (← c.self.view_is) at c.requires.there in
     let off = rw (← c.self.view_is) at c.requires.off in
     let room = rw (← c.self.view_is) at c.requires.room in
@@ -54,10 +54,10 @@ returns-in-Refused-count-clause-starts c =
     let here = room.0 in
     let far = room.1 in
     let does = refused_as_counted s c.args.pass.now c.count.new.pass c.args.request c.call-called.new.self book.0 c.self.inside.books.items c.count.new.books.items c.count.new.events off there refl book.1 c.in-Refused.refusal (omega (arith, here)) (omega (arith, far)) makes book.2 c.count.ensures.events c.count.ensures.pass in
-    let told = does_tell s c.args.pass.now (Begin c.args.pass.now.number c.args.request) (Refused c.in-Refused.refusal) (record { machine = c.call-called.new.self; events = c.count.new.events; books = c.count.new.books.items; trace = c.self.inside.trace }) c.count.new.pass c.self.invariant does in
+    let told = does_tell s c.args.pass.now (Begin c.args.pass.now.number c.args.request) (Refused c.in-Refused.refusal) (record { machine = c.call-called.new.self; events = c.count.new.events; books = c.count.new.books.items; trace = c.self.inside.trace; tidies = c.self.inside.tidies }) c.count.new.pass c.self.invariant does in
     let same = sym c.count.ensures.last ∙ c.in-Refused-count.is in (
-      subst (λ (k : KeptView). Does k c.args.pass.now (Begin c.args.pass.now.number c.args.request) (Refused c.in-Refused-count.refusal) (record { machine = c.call-called.new.self; events = c.count.new.events; books = c.count.new.books.items; trace = c.self.inside.trace }) c.count.new.pass) c.self.view_is
-          (subst (λ (o : Outcome). Does s c.args.pass.now (Begin c.args.pass.now.number c.args.request) o (record { machine = c.call-called.new.self; events = c.count.new.events; books = c.count.new.books.items; trace = c.self.inside.trace }) c.count.new.pass) same does),
+      subst (λ (k : KeptView). Does k c.args.pass.now (Begin c.args.pass.now.number c.args.request) (Refused c.in-Refused-count.refusal) (record { machine = c.call-called.new.self; events = c.count.new.events; books = c.count.new.books.items; trace = c.self.inside.trace; tidies = c.self.inside.tidies }) c.count.new.pass) c.self.view_is
+          (subst (λ (o : Outcome). Does s c.args.pass.now (Begin c.args.pass.now.number c.args.request) o (record { machine = c.call-called.new.self; events = c.count.new.events; books = c.count.new.books.items; trace = c.self.inside.trace; tidies = c.self.inside.tidies }) c.count.new.pass) same does),
       subst (λ (o : Outcome). IsTold c.args.pass.now (Begin c.args.pass.now.number c.args.request) o c.count.new.pass) same told,
     )
 
@@ -70,7 +70,7 @@ count-last-requires-clause-commits c = let (begun, begins, goes) = c.in-Ran.ensu
 
 pub count-last-requires-clause-book : goal.count-last-requires-clause-book
 count-last-requires-clause-book c = λ book at.
-    let s : KeptView = record { machine = c.self.inside.machine; events = c.self.inside.events; books = c.self.inside.books.items; trace = c.self.inside.trace } in
+    let s : KeptView = record { machine = c.self.inside.machine; events = c.self.inside.events; books = c.self.inside.books.items; trace = c.self.inside.trace; tidies = c.self.inside.tidies } in
     let there = rw (← c.self.view_is) at c.requires.there in
     let off = rw (← c.self.view_is) at c.requires.off in
     let room = rw (← c.self.view_is) at c.requires.room in
@@ -89,7 +89,7 @@ count-last-requires-clause-book c = λ book at.
 
 pub invariant_of-self-in-Ran : goal.invariant_of-self-in-Ran
 invariant_of-self-in-Ran c =
-    let s : KeptView = record { machine = c.self.inside.machine; events = c.self.inside.events; books = c.self.inside.books.items; trace = c.self.inside.trace } in
+    let s : KeptView = record { machine = c.self.inside.machine; events = c.self.inside.events; books = c.self.inside.books.items; trace = c.self.inside.trace; tidies = c.self.inside.tidies } in
     let there = rw (← c.self.view_is) at c.requires.there in
     let off = rw (← c.self.view_is) at c.requires.off in
     let room = rw (← c.self.view_is) at c.requires.room in
@@ -104,11 +104,11 @@ invariant_of-self-in-Ran c =
     let more = room.1 in
     let starts = ran_as_counted s c.args.pass.now c.count-last.new.pass c.args.request c.call-called.new.self book.0 c.self.inside.books.items c.count-last.new.books.items c.count-last.new.events off there refl book.1 c.in-Ran.call c.in-Ran.run' begun c.self.invariant
     (omega (arith, here, least, few, some)) (omega (arith, far, least, few, more)) makes goes book.2 c.count-last.ensures.events c.count-last.ensures.pass in
-    started_keeps s c.args.pass.now c.args.request c.in-Ran.call c.in-Ran.run'.last (record { machine = c.call-called.new.self; events = c.count-last.new.events; books = c.count-last.new.books.items; trace = c.self.inside.trace }) c.count-last.new.pass c.self.invariant starts
+    started_keeps s c.args.pass.now c.args.request c.in-Ran.call c.in-Ran.run'.last (record { machine = c.call-called.new.self; events = c.count-last.new.events; books = c.count-last.new.books.items; trace = c.self.inside.trace; tidies = c.self.inside.tidies }) c.count-last.new.pass c.self.invariant starts
 
 pub returns-in-Ran-clause-starts : goal.returns-in-Ran-clause-starts
 returns-in-Ran-clause-starts c =
-    let s : KeptView = record { machine = c.self.inside.machine; events = c.self.inside.events; books = c.self.inside.books.items; trace = c.self.inside.trace } in
+    let s : KeptView = record { machine = c.self.inside.machine; events = c.self.inside.events; books = c.self.inside.books.items; trace = c.self.inside.trace; tidies = c.self.inside.tidies } in
     let there = rw (← c.self.view_is) at c.requires.there in
     let off = rw (← c.self.view_is) at c.requires.off in
     let room = rw (← c.self.view_is) at c.requires.room in
@@ -123,8 +123,8 @@ returns-in-Ran-clause-starts c =
     let more = room.1 in
     let starts = ran_as_counted s c.args.pass.now c.count-last.new.pass c.args.request c.call-called.new.self book.0 c.self.inside.books.items c.count-last.new.books.items c.count-last.new.events off there refl book.1 c.in-Ran.call c.in-Ran.run' begun c.self.invariant
     (omega (arith, here, least, few, some)) (omega (arith, far, least, few, more)) makes goes book.2 c.count-last.ensures.events c.count-last.ensures.pass in
-    subst (λ (o : Outcome). IsStarted Does c.args.self.now c.args.pass.now c.args.request (Ran c.in-Ran.call o) (record { machine = c.call-called.new.self; events = c.count-last.new.events; books = c.count-last.new.books.items; trace = c.self.inside.trace }) c.count-last.new.pass) (sym c.count-last.ensures.last)
-    (subst (λ (k : KeptView). IsStarted Does k c.args.pass.now c.args.request (Ran c.in-Ran.call c.in-Ran.run'.last) (record { machine = c.call-called.new.self; events = c.count-last.new.events; books = c.count-last.new.books.items; trace = c.self.inside.trace }) c.count-last.new.pass) c.self.view_is starts)
+    subst (λ (o : Outcome). IsStarted Does c.args.self.now c.args.pass.now c.args.request (Ran c.in-Ran.call o) (record { machine = c.call-called.new.self; events = c.count-last.new.events; books = c.count-last.new.books.items; trace = c.self.inside.trace; tidies = c.self.inside.tidies }) c.count-last.new.pass) (sym c.count-last.ensures.last)
+    (subst (λ (k : KeptView). IsStarted Does k c.args.pass.now c.args.request (Ran c.in-Ran.call c.in-Ran.run'.last) (record { machine = c.call-called.new.self; events = c.count-last.new.events; books = c.count-last.new.books.items; trace = c.self.inside.trace; tidies = c.self.inside.tidies }) c.count-last.new.pass) c.self.view_is starts)
 
 pub returns-in-Ran-clause-kept : goal.returns-in-Ran-clause-kept
 returns-in-Ran-clause-kept c = (subst IsKept c.self.view_is c.self.invariant, invariant_of-self-in-Ran c)

@@ -6,7 +6,7 @@ use Rattle.mt_shared.proofs.kept.Kept.event.Goals as goal
 
 pub with-requires-clause-events : goal.with-requires-clause-events
 with-requires-clause-events c =
-    let s : KeptView = record { machine = c.self.inside.machine; events = c.self.inside.events; books = c.self.inside.books.items; trace = c.self.inside.trace } in
+    let s : KeptView = record { machine = c.self.inside.machine; events = c.self.inside.events; books = c.self.inside.books.items; trace = c.self.inside.trace; tidies = c.self.inside.tidies } in
     let right = rw (← c.self.view_is) at c.if-is_wrong.ensures in
     let within = (in_books s c.number-number.result c.args.event.now right).0 in
     let b = (book_bounds s (c.number-number.result.0 - 1) c.index.result.now c.self.invariant within c.index.ensures).0 in
@@ -16,7 +16,7 @@ with-requires-clause-events c =
 
 pub with-requires-clause-commits : goal.with-requires-clause-commits
 with-requires-clause-commits c =
-    let s : KeptView = record { machine = c.self.inside.machine; events = c.self.inside.events; books = c.self.inside.books.items; trace = c.self.inside.trace } in
+    let s : KeptView = record { machine = c.self.inside.machine; events = c.self.inside.events; books = c.self.inside.books.items; trace = c.self.inside.trace; tidies = c.self.inside.tidies } in
     let right = rw (← c.self.view_is) at c.if-is_wrong.ensures in
     let within = (in_books s c.number-number.result c.args.event.now right).0 in
     let b = (book_bounds s (c.number-number.result.0 - 1) c.index.result.now c.self.invariant within c.index.ensures).1 in
@@ -28,7 +28,7 @@ with-requires-clause-commits c =
 
 pub invariant_of-self : goal.invariant_of-self
 invariant_of-self c =
-    let s : KeptView = record { machine = c.self.inside.machine; events = c.self.inside.events; books = c.self.inside.books.items; trace = c.self.inside.trace } in
+    let s : KeptView = record { machine = c.self.inside.machine; events = c.self.inside.events; books = c.self.inside.books.items; trace = c.self.inside.trace; tidies = c.self.inside.tidies } in
     let right = rw (← c.self.view_is) at c.if-is_wrong.ensures in
     let within = (in_books s c.number-number.result c.args.event.now right).0 in
     let makes : Makes c.self.inside.machine c.args.event.now c.event-outcome.result c.event-outcome.new.self = record { stands = c.event-outcome.ensures.stands; happens = record { does = c.event-outcome.ensures.does; caused = c.event-outcome.ensures.caused; one_step = c.event-outcome.ensures.one_step; one_field = c.event-outcome.ensures.one_field }; columns = c.event-outcome.ensures.columns; bounds = c.event-outcome.ensures.bounds } in
@@ -36,10 +36,10 @@ invariant_of-self c =
 
 pub returns-clause-does : goal.returns-clause-does
 returns-clause-does c =
-    let s : KeptView = record { machine = c.self.inside.machine; events = c.self.inside.events; books = c.self.inside.books.items; trace = c.self.inside.trace } in
+    let s : KeptView = record { machine = c.self.inside.machine; events = c.self.inside.events; books = c.self.inside.books.items; trace = c.self.inside.trace; tidies = c.self.inside.tidies } in
     let right = rw (← c.self.view_is) at c.if-is_wrong.ensures in
     let makes : Makes c.self.inside.machine c.args.event.now c.event-outcome.result c.event-outcome.new.self = record { stands = c.event-outcome.ensures.stands; happens = record { does = c.event-outcome.ensures.does; caused = c.event-outcome.ensures.caused; one_step = c.event-outcome.ensures.one_step; one_field = c.event-outcome.ensures.one_field }; columns = c.event-outcome.ensures.columns; bounds = c.event-outcome.ensures.bounds } in
-    subst (λ (k : KeptView). Does k c.args.pass.now c.args.event.now c.event-outcome.result (record { machine = c.event-outcome.new.self; events = c.self.inside.events + 1; books = set c.self.inside.books.items (c.number-number.result.0 - 1) c.with.result; trace = c.note.new.self }) c.count.new.self) c.self.view_is
+    subst (λ (k : KeptView). Does k c.args.pass.now c.args.event.now c.event-outcome.result (record { machine = c.event-outcome.new.self; events = c.self.inside.events + 1; books = set c.self.inside.books.items (c.number-number.result.0 - 1) c.with.result; trace = c.note.new.self; tidies = c.self.inside.tidies }) c.count.new.self) c.self.view_is
     (makes_own s c.event-outcome.new.self c.args.pass.now c.args.event.now c.event-outcome.result c.index.result.now c.with.result c.note.new.self c.count.new.self
     c.if-self.false (λ e. c.if-events-eq18446744073709551615.false (c.events.ensures ∙ e)) makes c.with.ensures c.count.ensures c.number-number.result c.number-number.ensures right c.index.ensures c.note.ensures)
 

@@ -21,13 +21,13 @@ returns-then-is_traced-clause-goes c =
 
 pub count-requires-clause-there : goal.count-requires-clause-there
 count-requires-clause-there c =
-    let s : KeptView = record { machine = c.self.inside.machine; events = c.self.inside.events; books = c.self.inside.books.items; trace = c.self.inside.trace } in
+    let s : KeptView = record { machine = c.self.inside.machine; events = c.self.inside.events; books = c.self.inside.books.items; trace = c.self.inside.trace; tidies = c.self.inside.tidies } in
     let right = rw (← c.self.view_is) at c.if-is_wrong.ensures in
     subst (λ (m : PassNo). has_book m s.books ≡ true) c.number-number.ensures (has_its_book s c.number-number.result (Step c.args.call) right)
 
 pub count-requires-clause-book : goal.count-requires-clause-book
 count-requires-clause-book c = λ book at.
-    let s : KeptView = record { machine = c.self.inside.machine; events = c.self.inside.events; books = c.self.inside.books.items; trace = c.self.inside.trace } in
+    let s : KeptView = record { machine = c.self.inside.machine; events = c.self.inside.events; books = c.self.inside.books.items; trace = c.self.inside.trace; tidies = c.self.inside.tidies } in
     let fits = book_fits s c.args.pass.now c.self.inside.books.items book c.self.invariant (count-requires-clause-there c) refl at in
     let events = fits.0 in
     let commits = fits.1 in
@@ -45,7 +45,7 @@ count-requires-clause-commits c = run_commits c.self.inside.machine c.args.call 
 
 pub returns-clause-goes : goal.returns-clause-goes
 returns-clause-goes c =
-    let s : KeptView = record { machine = c.self.inside.machine; events = c.self.inside.events; books = c.self.inside.books.items; trace = c.self.inside.trace } in
+    let s : KeptView = record { machine = c.self.inside.machine; events = c.self.inside.events; books = c.self.inside.books.items; trace = c.self.inside.trace; tidies = c.self.inside.tidies } in
     let right = rw (← c.self.view_is) at c.if-is_wrong.ensures in
     let off = (rw (← c.self.view_is) at c.if-is_traced.ensures).0 refl in
     let here = rw (← c.self.view_is) at c.room-room.ensures.here in
@@ -53,8 +53,8 @@ returns-clause-goes c =
     let most = c.go-run.ensures.most in
     let some = c.if-room-eq0.false in
     let book = c.count.ensures.books in
-    subst (λ (o : Outcome). HasGone Does c.args.self.now c.args.pass.now c.args.call o (record { machine = c.go-run.new.self; events = c.count.new.events; books = c.count.new.books.items; trace = c.self.inside.trace }) c.count.new.pass) (sym c.count.ensures.last)
-    (subst (λ (k : KeptView). HasGone Does k c.args.pass.now c.args.call c.go-run.result.last (record { machine = c.go-run.new.self; events = c.count.new.events; books = c.count.new.books.items; trace = c.self.inside.trace }) c.count.new.pass) c.self.view_is
+    subst (λ (o : Outcome). HasGone Does c.args.self.now c.args.pass.now c.args.call o (record { machine = c.go-run.new.self; events = c.count.new.events; books = c.count.new.books.items; trace = c.self.inside.trace; tidies = c.self.inside.tidies }) c.count.new.pass) (sym c.count.ensures.last)
+    (subst (λ (k : KeptView). HasGone Does k c.args.pass.now c.args.call c.go-run.result.last (record { machine = c.go-run.new.self; events = c.count.new.events; books = c.count.new.books.items; trace = c.self.inside.trace; tidies = c.self.inside.tidies }) c.count.new.pass) c.self.view_is
     (gone_as_counted s c.args.pass.now c.count.new.pass c.args.call c.go-run.result c.go-run.new.self book.0 c.count.new.books.items c.count.new.events c.number-number.result c.self.invariant off c.number-number.ensures right
     book.1 (omega (arith, here, most, some)) (omega (arith, there, most, some)) c.go-run.ensures.goes book.2 c.count.ensures.events c.count.ensures.pass))
 

@@ -9,13 +9,13 @@ use Rattle.mt_shared.proofs.kept.Kept.settle_trace.Goals as goal
 
 pub returns-clause-legal : goal.returns-clause-legal
 returns-clause-legal c =
-    let s : KeptView = record { machine = c.self.inside.machine; events = c.self.inside.events; books = c.self.inside.books.items; trace = c.self.inside.trace } in
+    let s : KeptView = record { machine = c.self.inside.machine; events = c.self.inside.events; books = c.self.inside.books.items; trace = c.self.inside.trace; tidies = c.self.inside.tidies } in
     subst (λ (k : KeptView). (h : History) × Tells c.in_ok-entries.entries.items h × Legal k.machine.columns h × KeepsPromise k.machine.columns h) c.self.view_is
     (settles s c.in_ok-entries.entries.items c.self.invariant c.in_ok-entries.ensures.kept)
 
 pub returns-clause-count : goal.returns-clause-count
 returns-clause-count c =
-    let s : KeptView = record { machine = c.self.inside.machine; events = c.self.inside.events; books = c.self.inside.books.items; trace = c.self.inside.trace } in
+    let s : KeptView = record { machine = c.self.inside.machine; events = c.self.inside.events; books = c.self.inside.books.items; trace = c.self.inside.trace; tidies = c.self.inside.tidies } in
     let all = settles_all s c.in_ok-entries.entries.items c.self.invariant c.in_ok-entries.ensures.kept in
     let booked = c.self.invariant.events in
     let passed = c.if-not-add_up.ensures.events refl in

@@ -1,0 +1,116 @@
+-- A map as contracts see it, and the tidies that follow a remove.
+use Rattle.std.specs.Prelude.{ℕ, zero, suc, ◌≡◌, ◌≢◌, ◌<◌, ◌⊎◌, ◌&&◌, Bool, true, false, List, Option, None, Result, Ok, Err, IfOk, IfErr, MatchBool, is_some, length}
+use Rattle.mt_types.specs.Limits.{key_fault, request_fault}
+use Rattle.mt_types.specs.declared.limits.TheConstants.{MAX_KEY_BYTES}
+use Rattle.mt_types.specs.declared.refusal.Refusal.{Refusal}
+use Rattle.mt_types.specs.declared.refusal.Refusal.TheVariants.{NoMemory}
+use Rattle.mt_types.specs.declared.event.Answer.{Answer}
+use Rattle.mt_types.specs.declared.event.Answer.TheVariants.{Removed, Tidied}
+use Rattle.mt_types.specs.declared.event.Event.{Event}
+use Rattle.mt_types.specs.declared.event.Event.TheVariants.{Collect}
+use Rattle.mt_types.specs.declared.event.Outcome.{Outcome}
+use Rattle.mt_types.specs.declared.event.Outcome.TheVariants.{Freed}
+use Rattle.mt_types.specs.declared.event.Reply.{Reply}
+use Rattle.mt_types.specs.declared.event.Request.{Request}
+use Rattle.mt_types.specs.declared.event.Request.TheVariants.{Remove, Tidy}
+use Rattle.mt_types.specs.declared.event.TidyRule.{TidyRule}
+use Rattle.mt_types.specs.declared.event.TidyRule.TheVariants.{Nothing}
+use Rattle.mt_index.specs.Alone.{AnswersPlainly, RefusesPlainly}
+use Rattle.mt_index.specs.Events.{HappensAlone, Makes, last_outcome}
+use Rattle.mt_index.specs.Stands.{MachineView}
+use Rattle.mt_walk.specs.Emptied.{IsEmptied}
+use Rattle.mt_map.specs.Calls.{CameTo, removed_by}
+use Rattle.mt_map.specs.declared.tidying.TheConstants.{MAX_TIDIES}
+
+-- a machine on which no call is open, and whether tidies follow its removes
+pub record MapView : Type 0 where
+  pub machine : MachineView
+  pub tidies : Bool
+
+-- this many tidies at a place, one after the other, each of which took something out
+abbrev pub Tidies : ℕ → MachineView → List ℕ → MachineView → Type 0
+Tidies zero s key t = t ≡ s
+Tidies (suc tidies) s key t = (m : MachineView) × (rule : TidyRule) × Tidies tidies s key m
+    × CameTo m (Tidy key) (Ok (Tidied rule)) t × (rule ≢ Nothing)
+
+-- a tidy at a place took something out, or nothing, or was refused
+abbrev pub TidiesOnce : MachineView → List ℕ → Bool → MachineView → Type 0
+TidiesOnce s key took t =
+    MatchBool took ((rule : TidyRule) × CameTo s (Tidy key) (Ok (Tidied rule)) t × (rule ≢ Nothing))
+    (CameTo s (Tidy key) (Ok (Tidied Nothing)) t ⊎ ((refusal : Refusal) × CameTo s (Tidy key) (Err refusal) t))
+
+-- TIDIES AT A PLACE, one after the other, until one takes nothing out, but at most MAX_TIDIES. After the first there is
+-- no other if memory for one more copy of the key is refused.
+abbrev pub TidiesAll : MachineView → List ℕ → MachineView → Type 0
+TidiesAll s key t = ((tidies : ℕ) × (0 < tidies) × Tidies tidies s key t)
+    ⊎ ((tidies : ℕ) × (m : MachineView) × (tidies < MAX_TIDIES) × Tidies tidies s key m × TidiesOnce m key false t)
+
+-- and then the nodes are freed that they took out
+pub record Purges (s : MachineView) (key : List ℕ) (t : MachineView) : Type 0 where
+  pub tidied : MachineView
+  pub tidies : TidiesAll s key tidied
+  pub count : ℕ
+  pub frees : Makes tidied Collect (Freed count) t
+
+-- this follows if the border in which the key's way ends is empty, and else nothing
+abbrev pub PurgesIfEmptied : MachineView → List ℕ → MachineView → Type 0
+PurgesIfEmptied s key t = (empty : Bool) × IsEmptied s.tree key empty × MatchBool empty (Purges s key t) (t ≡ s)
+
+-- ---- calls of a machine
+
+abbrev pub removes : Answer → Bool
+removes (Removed commit) = true
+removes _ = false
+
+abbrev pub has_removed : Result Reply Refusal → Bool
+has_removed (Ok reply) = removes reply.answer
+has_removed (Err refusal) = false
+
+-- what follows a call alone: tidies if it has removed a row
+abbrev pub PurgesAfter : Request → Result Reply Refusal → MachineView → MachineView → Type 0
+PurgesAfter (Remove key) ended s t = MatchBool (has_removed ended) (PurgesIfEmptied s key t) (t ≡ s)
+PurgesAfter request ended s t = t ≡ s
+
+-- a request that removes no row: it is no remove, or its key is too long
+abbrev pub RemovesNone : Request → Type 0
+RemovesNone (Remove key) = MAX_KEY_BYTES < length key
+RemovesNone request = Unit {0}
+
+-- A CALL ALONE, AND WHAT FOLLOWS
+pub record DoesAndTidies (s : MachineView) (request : Request) (ended : Result Reply Refusal) (t : MachineView) : Type 0 where
+  pub done : MachineView
+  pub answered : IfOk ended (λ reply. AnswersPlainly s request reply done)
+  pub refused : IfErr ended (λ refusal. RefusesPlainly s request refusal done)
+  pub happens : HappensAlone s request (last_outcome ended) done
+  pub follows : PurgesAfter request ended done t
+
+-- or memory for a copy of the key was refused before it: then nothing happened
+pub record IsShort (s : MachineView) (request : Request) (ended : Result Reply Refusal) (t : MachineView) : Type 0 where
+  pub within : request_fault s.columns request ≡ None
+  pub short : ended ≡ Err NoMemory
+  pub same : t ≡ s
+
+-- ---- calls of a map
+
+-- WHAT A CALL OF A MAP CAME TO (see `CameTo`); whether tidies follow removes is as before
+pub record MapCameTo (s : MapView) (request : Request) (result : Result Answer Refusal) (t : MapView) : Type 0 where
+  pub came : CameTo s.machine request result t.machine
+  pub tidies : t.tidies ≡ s.tidies
+
+-- an event happens to the machine of a map; whether tidies follow removes is as before
+pub record MapMakes (s : MapView) (event : Event) (outcome : Outcome) (t : MapView) : Type 0 where
+  pub makes : Makes s.machine event outcome t.machine
+  pub tidies : t.tidies ≡ s.tidies
+
+-- A REMOVE THAT WAS ANSWERED, and what followed if it removed a row and tidies follow removes
+pub record RemovesAndTidies (s : MapView) (key : List ℕ) (found : Option ℕ) (t : MapView) : Type 0 where
+  pub removed : MachineView
+  pub came : CameTo s.machine (Remove key) (removed_by (Ok found)) removed
+  pub then : MatchBool (s.tidies && is_some found) (PurgesIfEmptied removed key t.machine) (t.machine ≡ removed)
+  pub tidies : t.tidies ≡ s.tidies
+
+-- WHAT A REMOVE CAME TO. It is also refused if memory for a copy of the key was refused: then nothing happened.
+abbrev pub Removes : MapView → List ℕ → Result (Option ℕ) Refusal → MapView → Type 0
+Removes s key (Ok found) t = RemovesAndTidies s key found t
+Removes s key (Err refusal) t = MapCameTo s (Remove key) (Err refusal) t
+    ⊎ ((refusal ≡ NoMemory) × (key_fault key ≡ None) × (t ≡ s))
