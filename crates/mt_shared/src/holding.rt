@@ -20,8 +20,8 @@ use std::sync::{RwLockReadGuard, RwLockWriteGuard, Wait};
 
 /// The access of one thread to an index, for lists of calls. It is a `ThroughDoor` that may keep the lock: after
 /// `hold(Hold::Reads)` gets and ranges at once are read in one holding, and after `hold(Hold::Changes)` changes, and the
-/// turns of views after them, are made in one. Any other call releases the lock first, and so does a change that has to
-/// wait for another call.
+/// turns of views and the tidies after them, are made in one. Any other call releases the lock first, and so does a change
+/// or a tidy that has to wait for another call.
 ///
 /// While the lock is kept, other threads wait. So a caller keeps it for a list of short calls, and then calls
 /// `hold(Hold::Nothing)`. Before that its thread must not wait for another thread, or use another door of the index.
@@ -81,14 +81,26 @@ impl<'a, W: Wait> Shared for HoldingDoor<'a, W> {
     // somewhere in the order in which the lock is held it was an event on what lay there
     ghost does = { λ _ p event outcome _ q. DoesSomewhere p event outcome q };
 
-    /// Releases the lock, and does what `ThroughDoor::event` does.
+    /// Makes one `Kept::event`, if the event frees nodes or advances the epoch and the lock is kept for changes; otherwise
+    /// releases it, and does what `ThroughDoor::event` does.
     fn event(&mut self, alloc: Global, pass: &mut Pass, event: &Event) -> Outcome {
+        if let (Held::Changes(kept), Event::Advance | Event::Collect) = (&mut self.held, event) {
+            return kept.event(alloc, pass, event);
+        }
         self.held = Held::Nothing;
         self.door.event(alloc, pass, event)
     }
 
-    /// Releases the lock, and does what `ThroughDoor::begin` does.
+    /// Makes one `Kept::begin`, if the request is a tidy and the lock is kept for changes; otherwise releases it, and does
+    /// what `ThroughDoor::begin` does.
     fn begin(&mut self, alloc: Global, pass: &mut Pass, request: Request) -> Started {
+        if let (Held::Changes(kept), Request::Tidy { .. }) = (&mut self.held, &request) {
+            let started = kept.begin(alloc, pass, request, self.door.most);
+            if matches!(started, Started::Ran(_, Outcome::Again)) {
+                self.held = Held::Nothing;
+            }
+            return started;
+        }
         self.held = Held::Nothing;
         self.door.begin(alloc, pass, request)
     }
