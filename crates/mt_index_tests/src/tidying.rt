@@ -60,7 +60,7 @@ fn emptied(
     Ok(map.nodes())
 }
 
-// How many nodes are left after the rows of so many numbers were put and removed.
+// How many nodes are left after the rows of the numbers below `many` were put and removed.
 fn left(alloc: Global, shape: Shape, many: u64, step: u64) -> Result<usize, Refusal> {
     let mut map = filled(alloc, Options::default(), shape, many)?;
     emptied(alloc, &mut map, shape, many, step)

@@ -115,7 +115,7 @@ and_off : (b : Bool) → (b && false) ≡ false
 and_off true = refl
 and_off false = refl
 
--- where no tidies follow removes
+-- if no tidies follow removes
 pub removes_untidied : (s t : MapView) (key : List ℕ) (result : Result (Option ℕ) Refusal) → MapCameTo s (Remove key) (removed_by result) t → s.tidies ≡ false → Removes s key result t
 removes_untidied s t key (Ok found) came off = untaken s t key found came (off_and s.tidies (is_some found) off)
 removes_untidied s t key (Err refusal) came off = inl came

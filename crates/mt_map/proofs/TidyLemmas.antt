@@ -6,5 +6,5 @@ use Rattle.mt_map.specs.declared.tidying.TheConstants.{MAX_TIDIES}
 
 -- one more, which is the last
 pub tidied_once : (s m t : MachineView) (key : List ℕ) (tidies : ℕ) (took : Bool) → Tidies tidies s key m → TidiesOnce m key took t → tidies < MAX_TIDIES → TidiesAll s key t
-tidied_once s m t key tidies true before (rule, came, some) few = inl (suc tidies, omega arith, (m, rule, before, came, some))
+tidied_once s m t key tidies true before (rule, came, some) few = inl (suc tidies, omega arith, omega (arith, few), (m, rule, before, came, some))
 tidied_once s m t key tidies false before once few = inr (tidies, m, few, before, once)

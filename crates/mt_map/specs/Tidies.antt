@@ -1,5 +1,5 @@
 -- A map as contracts see it, and the tidies that follow a remove.
-use Rattle.std.specs.Prelude.{ℕ, zero, suc, ◌≡◌, ◌≢◌, ◌<◌, ◌⊎◌, ◌&&◌, Bool, true, false, List, Option, None, Result, Ok, Err, IfOk, IfErr, MatchBool, is_some, length}
+use Rattle.std.specs.Prelude.{ℕ, zero, suc, ◌≡◌, ◌≢◌, ◌<◌, ◌≤◌, ◌⊎◌, ◌&&◌, Bool, true, false, List, Option, None, Result, Ok, Err, IfOk, IfErr, MatchBool, is_some, length}
 use Rattle.mt_types.specs.Limits.{key_fault, request_fault}
 use Rattle.mt_types.specs.declared.limits.TheConstants.{MAX_KEY_BYTES}
 use Rattle.mt_types.specs.declared.refusal.Refusal.{Refusal}
@@ -42,7 +42,7 @@ TidiesOnce s key took t =
 -- TIDIES AT A PLACE, one after the other, until one takes nothing out, but at most MAX_TIDIES. After the first there is
 -- no other if memory for one more copy of the key is refused.
 abbrev pub TidiesAll : MachineView → List ℕ → MachineView → Type 0
-TidiesAll s key t = ((tidies : ℕ) × (0 < tidies) × Tidies tidies s key t)
+TidiesAll s key t = ((tidies : ℕ) × (0 < tidies) × (tidies ≤ MAX_TIDIES) × Tidies tidies s key t)
     ⊎ ((tidies : ℕ) × (m : MachineView) × (tidies < MAX_TIDIES) × Tidies tidies s key m × TidiesOnce m key false t)
 
 -- and then the nodes are freed that they took out
