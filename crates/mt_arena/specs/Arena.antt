@@ -1,5 +1,5 @@
 -- What a contract sees of an `Arena`, and what each call makes of it.
-use Rattle.std.specs.Prelude.{◌≢◌, ℕ, ◌≤◌, List, [], ◌∷◌, ◌++◌, drop, None, IsSome, slice_set, All, AllPairs}
+use Rattle.std.specs.Prelude.{◌≡◌, ◌≢◌, ℕ, ◌≤◌, ◌+◌, List, [], ◌∷◌, ◌++◌, None, IsSome, slice_set, All, AllPairs}
 use Rattle.std.specs.List.Sorted.{IsNonDecreasingBy}
 use Rattle.std.specs.Option.{option_map}
 use Rattle.mt_border.specs.Border.{BorderView}
@@ -7,7 +7,7 @@ use Rattle.mt_interior.specs.Head.{HeadView}
 use Rattle.mt_interior.specs.Interior.{InteriorView}
 use Rattle.mt_types.specs.declared.numbers.NodeNo.{NodeNo}
 use Rattle.mt_types.specs.declared.limits.TheConstants.{MAX_NODES}
-use Rattle.mt_arena.specs.Node.{Nodes, node_at, occupied, with_node, NamesNoneFrom}
+use Rattle.mt_arena.specs.Node.{Nodes, node_at, occupied, with_node, Updates, NamesNoneFrom}
 use Rattle.mt_arena.specs.declared.node.Node.{Node}
 use Rattle.mt_arena.specs.declared.node.Node.TheVariants.{Head, Interior, Border}
 use Rattle.mt_arena.specs.declared.retired.Retired.{Retired}
@@ -66,14 +66,12 @@ without_node a number = record a { nodes = slice_set a.nodes number None }
 abbrev pub with_retired : ArenaView → NodeNo → ℕ → ArenaView
 with_retired a number epoch = record a { retired = a.retired ++ record { node = number; epoch = epoch } ∷ [] }
 
--- the nodes without that which was retired first
-abbrev pub nodes_left : Nodes → List Retired → Nodes
-nodes_left nodes [] = nodes
-nodes_left nodes (first ∷ later) = slice_set nodes first.node.0 None
-
--- the arena once the node that was retired first is freed
-abbrev pub without_first_retired : ArenaView → ArenaView
-without_first_retired a = record { nodes = nodes_left a.nodes a.retired; retired = drop 1 a.retired }
+-- the node that was retired first is freed: its number names nothing, and every other what it named
+pub record FreesFirst (a after : ArenaView) : Type 0 where
+  pub first : Retired
+  pub retired : a.retired ≡ first ∷ after.retired
+  pub updates : Updates a.nodes after.nodes first.node.0 None
+  pub fewer : occupied after.nodes + 1 ≡ occupied a.nodes
 
 -- each retired node has its number still, and none is retired twice; their epochs do not fall
 pub record AreRetired (nodes : Nodes) (retired : List Retired) : Type 0 where

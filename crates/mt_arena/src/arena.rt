@@ -7,7 +7,8 @@ ghost use Rattle.mt_arena.specs.Node.{node_at, head_at, interior_at, border_at, 
 ghost use Rattle.mt_border.specs.Order.{IsBorder};
 ghost use Rattle.mt_interior.specs.Head.{IsHead};
 ghost use Rattle.mt_interior.specs.Interior.{IsInterior};
-ghost use Rattle.mt_arena.specs.Arena.{without_node, with_retired, without_first_retired, IsArena};
+ghost use Rattle.mt_arena.specs.Arena.{without_node, with_retired, FreesFirst, IsArena};
+ghost use Rattle.slab.specs.Slab.{slab_len, SameValues};
 
 use crate::node::Node;
 use crate::retired::Retired;
@@ -30,6 +31,22 @@ use std::marker::Model;
 pub struct Arena {
     nodes: Slab<Node>,
     retired: VecDeque<Retired>,
+}
+
+/// The arena keeps room for this many nodes.
+const KEPT_ROOM: usize = 64;
+
+// Returns the room past the last node, if fewer than a quarter of the nodes are left for which there is room. It looks
+// only when their number has halved, so the moves of nodes cost less than what put them in.
+fn give_room_back(nodes: &mut Slab<Node>)
+    ensures nodes { SameValues nodes.old nodes.new }
+    ensures count { slab_len nodes.new ≡ slab_len nodes.old }
+{
+    let count = nodes.len();
+    let room = nodes.capacity();
+    if count.is_power_of_two() && room > KEPT_ROOM && count < room / 4 {
+        nodes.shrink_to_fit();
+    }
 }
 
 impl Model for Arena {
@@ -187,14 +204,16 @@ impl Arena {
         self.retired.front().copied()
     }
 
-    /// Frees the node that was retired first, and drops it. Constant cost.
+    /// Frees the node that was retired first, and drops it. Constant cost, but for a move of all nodes when few are left
+    /// of those for which there is room.
     pub fn free_first_retired(&mut self)
         requires { 0 < length self.old.retired }
-        ensures value { self.new ≡ without_first_retired self.old }
+        ensures frees { FreesFirst self.old self.new }
         ensures sound { IsArena self.new }
     {
         if let Some(first) = self.retired.pop_front() {
             drop(self.nodes.remove(first.node.0 as usize));
+            give_room_back(&mut self.nodes);
         }
     }
 }

@@ -1,6 +1,7 @@
 -- What the contracts cite, in the order in which a reader takes it.
 pub mod Keys
 pub mod Rows
+pub mod Block
 pub mod Packed
 pub mod Ranges
 pub mod Views

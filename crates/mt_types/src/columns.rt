@@ -5,6 +5,7 @@ ghost use Rattle.std.specs.Option.{option_copied};
 ghost use Rattle.mt_types.specs.Rows.{new_columns, chosen, shown};
 ghost use Rattle.mt_types.specs.Packed.{packed, are_packable, ArePackable};
 
+use crate::block::{Block, Making};
 use crate::copying::TryCopy;
 use crate::piece::{MAX_PIECE, are_packable, new_bytes, push_piece, split_first};
 use crate::refusal::NoMemory;
@@ -12,15 +13,15 @@ use crate::row::{Column, ColumnNumbers, Row};
 use std::alloc::Global;
 use std::iter::FusedIterator;
 use std::marker::Model;
-use std::sync::ArcSlice;
 
 /// The columns of a row, in the order of their numbers, which begin at 0.
 ///
-/// They are one block of bytes: the number of columns, a byte, then for each column its length, a byte, and its bytes.
-/// Copies share the block. A row has at most 255 columns of at most 255 bytes; an index has narrower limits.
+/// They are one block of bytes: the number of columns, a byte, then for each column its length, a byte, and its bytes. A
+/// block of at most 22 bytes, such as that of one column of 20 bytes, lies in place, and copies share a longer one. A row
+/// has at most 255 columns of at most 255 bytes; an index has narrower limits.
 #[derive(Debug, Drop)]
 pub struct Columns {
-    block: ArcSlice<u8, Global>,
+    block: Block,
 }
 
 impl Model for Columns {
@@ -29,14 +30,23 @@ impl Model for Columns {
 
     ghost Value = { List (List ℕ) };
 
-    ghost view = { λ s. unpacked s.block.items.value.items };
+    ghost view = { λ s. unpacked s.block };
 
-    ghost invariant = { λ s. s.block.items.value.items ≡ packed (unpacked s.block.items.value.items) };
+    ghost invariant = { λ s. s.block ≡ packed (unpacked s.block) };
 }
 
 impl Columns {
+    /// Returns no columns. Allocates nothing.
+    pub fn none() -> Columns
+        ensures { result ≡ [] }
+    {
+        Columns {
+            block: Block::few(&[0]),
+        }
+    }
+
     /// Returns the columns with these bytes, or `None` if there are more than 255 of them, or if one of them has more
-    /// than 255 bytes. O(n) in the bytes, with two allocations.
+    /// than 255 bytes. O(n) in the bytes, with at most two allocations.
     ///
     /// # Errors
     ///
@@ -60,19 +70,19 @@ impl Columns {
         for part in parts {
             room = room.saturating_add(1).saturating_add(part.len());
         }
-        let mut made = Vec::with_capacity(alloc, room)?;
+        let mut made = Making::with_room(alloc, room)?;
         made.push(parts.len() as u8)?;
         for part in parts {
             push_piece(&mut made, part.as_slice())?;
         }
         Ok(Columns {
-            block: ArcSlice::from_vec(made)?,
+            block: made.done()?,
         })
     }
 
     /// Returns the `count` columns that a put makes if there is no row. If `sets` names a column twice, its first set
     /// counts, and a set of a column that does not exist does nothing. O(n) in the bytes and in the columns times the
-    /// sets, with two allocations.
+    /// sets, with at most two allocations.
     ///
     /// # Errors
     ///
@@ -86,13 +96,13 @@ impl Columns {
                 .saturating_add(1)
                 .saturating_add(new_bytes(sets, number, &[]).len());
         }
-        let mut made = Vec::with_capacity(alloc, room)?;
+        let mut made = Making::with_room(alloc, room)?;
         made.push(count)?;
         for number in 0..count {
             push_piece(&mut made, new_bytes(sets, number, &[]))?;
         }
         Ok(Columns {
-            block: ArcSlice::from_vec(made)?,
+            block: made.done()?,
         })
     }
 
@@ -182,7 +192,7 @@ impl Columns {
 
     /// Returns what a put makes of these columns: those that `sets` names get new bytes, as in
     /// [`of_new_row`](Self::of_new_row), and the others keep theirs. O(n) in the bytes and in the columns times the
-    /// sets, with two allocations.
+    /// sets, with at most two allocations.
     ///
     /// # Errors
     ///
@@ -192,7 +202,7 @@ impl Columns {
     {
         let block = self.as_packed();
         let (_, mut rest) = block.split_at(1);
-        let mut made = Vec::with_capacity(alloc, self.room_with(sets))?;
+        let mut made = Making::with_room(alloc, self.room_with(sets))?;
         made.push(block[0])?;
         for number in 0..block[0] {
             let (old, others) = split_first(rest);
@@ -200,7 +210,7 @@ impl Columns {
             rest = others;
         }
         Ok(Columns {
-            block: ArcSlice::from_vec(made)?,
+            block: made.done()?,
         })
     }
 
@@ -220,13 +230,13 @@ impl Columns {
         if asked.len() > MAX_PIECE {
             return Err(NoMemory);
         }
-        let mut made = Vec::with_capacity(alloc, self.as_packed().len())?;
+        let mut made = Making::with_room(alloc, self.as_packed().len())?;
         made.push(asked.len() as u8)?;
         for number in asked {
             push_piece(&mut made, self.get_or_empty(*number as usize))?;
         }
         Ok(Columns {
-            block: ArcSlice::from_vec(made)?,
+            block: made.done()?,
         })
     }
 }
@@ -235,7 +245,7 @@ impl TryCopy for Columns {
     /// Shares the block. Allocates nothing.
     fn copy(&self, _alloc: Global) -> Result<Columns, NoMemory> {
         Ok(Columns {
-            block: self.block.clone()?,
+            block: self.block.copy()?,
         })
     }
 }

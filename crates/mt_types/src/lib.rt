@@ -3,6 +3,7 @@
 //! A function takes O(1) time unless its documentation says otherwise.
 #![tactic(auto)]
 
+mod block;
 pub mod columns;
 pub mod copying;
 pub mod event;

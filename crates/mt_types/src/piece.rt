@@ -5,6 +5,7 @@ ghost use Rattle.std.specs.List.{list_any};
 ghost use Rattle.mt_types.specs.Packed.{are_packable};
 ghost use Rattle.mt_types.specs.Rows.{new_bytes};
 
+use crate::block::Making;
 use crate::refusal::NoMemory;
 use crate::row::Column;
 
@@ -41,14 +42,14 @@ pub(crate) fn split_first(pieces: &[u8]) -> (&[u8], &[u8])
 }
 
 // Adds a column. It is refused if its length is not a byte.
-pub(crate) fn push_piece(pieces: &mut Vec<u8>, column: &[u8]) -> Result<(), NoMemory>
-    ensures { OnOk result (pieces.new.items ≡ pieces.old.items ++ length column.now ∷ column.now) }
+pub(crate) fn push_piece(pieces: &mut Making, column: &[u8]) -> Result<(), NoMemory>
+    ensures { OnOk result (pieces.new ≡ pieces.old ++ length column.now ∷ column.now) }
 {
     if column.len() > MAX_PIECE {
         return Err(NoMemory);
     }
     pieces.push(column.len() as u8)?;
-    pieces.extend_from_slice(column)?;
+    pieces.extend(column)?;
     Ok(())
 }
 

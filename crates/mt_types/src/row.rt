@@ -1,6 +1,6 @@
 //! Rows of columns, and what changes them.
 
-ghost use Rattle.std.specs.Prelude.{◌≡◌, IfOk};
+ghost use Rattle.std.specs.Prelude.{◌≡◌, [], IfOk};
 
 pub use crate::columns::Columns;
 use crate::copying::TryCopy;
@@ -29,6 +29,18 @@ pub struct Row {
     pub version: u64,
     /// The columns: one for each column of the index, or those that were asked for.
     pub columns: Columns,
+}
+
+impl Row {
+    /// Returns the row of no commit, without columns. Allocates nothing.
+    pub fn none() -> Row
+        ensures { result ≡ record { version = 0; columns = [] } }
+    {
+        Row {
+            version: 0,
+            columns: Columns::none(),
+        }
+    }
 }
 
 /// A change of the rows.

@@ -21,8 +21,8 @@ pub(crate) fn add(sums: &mut [u128], row: &Row)
     }
 }
 
-/// Takes the amounts of a row away from the sums. O(n) in the columns.
-pub(crate) fn subtract(sums: &mut [u128], row: &Row)
+// Takes the amounts of a row away from the sums. O(n) in the columns.
+fn subtract(sums: &mut [u128], row: &Row)
     requires { (column : ℕ) → column < length sums.old
         → amount (column_of column row.now) ≤ slice_index sums.old column }
     ensures same_length { length sums.new ≡ length sums.old }
@@ -34,19 +34,30 @@ pub(crate) fn subtract(sums: &mut [u128], row: &Row)
     }
 }
 
-/// Takes the amounts of a row away from the sums and adds those of another. O(n) in the columns.
-pub(crate) fn replace(sums: &mut [u128], old: &Row, row: &Row)
+/// Takes the amounts of a row that goes away from the sums. O(n) in the columns.
+pub(crate) fn take_away(sums: &mut [u128], old: Row)
+    requires { (column : ℕ) → column < length sums.old
+        → amount (column_of column old) ≤ slice_index sums.old column }
+    ensures same_length { length sums.new ≡ length sums.old }
+    ensures subtracted { (column : ℕ) → column < length sums.old
+        → slice_index sums.new column + amount (column_of column old) ≡ slice_index sums.old column }
+{
+    subtract(sums, &old);
+}
+
+/// Takes the amounts of a row that goes away from the sums, and adds those of another. O(n) in the columns.
+pub(crate) fn replace(sums: &mut [u128], old: Row, row: &Row)
     requires covered { (column : ℕ) → column < length sums.old
-        → amount (column_of column old.now) ≤ slice_index sums.old column }
+        → amount (column_of column old) ≤ slice_index sums.old column }
     requires room { (column : ℕ) → column < length sums.old
         → slice_index sums.old column + 2 ^ 64 ≤ 2 ^ 128 }
     ensures same_length { length sums.new ≡ length sums.old }
     ensures replaced { (column : ℕ) → column < length sums.old
-        → slice_index sums.new column + amount (column_of column old.now)
+        → slice_index sums.new column + amount (column_of column old)
         ≡ slice_index sums.old column + amount (column_of column row.now) }
     ensures small { (column : ℕ) → column < length sums.old
         → amount (column_of column row.now) < 2 ^ 64 }
 {
-    subtract(sums, old);
+    take_away(sums, old);
     add(sums, row);
 }

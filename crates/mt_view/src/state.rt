@@ -178,7 +178,7 @@ impl ViewState {
         prove!(self.rows.len() < MAX_ROWS);
         let copied = row.copy(self.alloc)?;
         match self.rows.insert(key.copy(self.alloc)?, copied)? {
-            Some(old) => amounts::replace(&mut self.sums, &old, row),
+            Some(old) => amounts::replace(&mut self.sums, old, row),
             None => amounts::add(&mut self.sums, row),
         }
         Ok(())
@@ -188,7 +188,7 @@ impl ViewState {
         ensures { self.new ≡ record self.old { rows = map.remove self.old.rows key.now } }
     {
         if let Some(old) = self.rows.remove(key) {
-            amounts::subtract(&mut self.sums, &old);
+            amounts::take_away(&mut self.sums, old);
         }
     }
 

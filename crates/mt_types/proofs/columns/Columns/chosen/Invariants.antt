@@ -4,4 +4,4 @@ use Rattle.mt_types.proofs.columns.Columns.chosen.Given as goal
 
 abbrev pub invariant-loop-number : goal.invariant-loop-number
 invariant-loop-number l =
-    l.made.items ++ pieces (map (λ k. slice_index_or l.self k []) (drop l.number-index l.asked)) ≡ packed (map (λ k. slice_index_or l.self k []) l.asked)
+    l.made ++ pieces (map (λ k. slice_index_or l.self k []) (drop l.number-index l.asked)) ≡ packed (map (λ k. slice_index_or l.self k []) l.asked)

@@ -6,7 +6,7 @@ use Rattle.mt_types.proofs.columns.Columns.of_new_row.Goals as goal
 
 pub loop-number-2-init : goal.loop-number-2-init
 loop-number-2-init c =
-    put_start c.args.sets.now (replicate c.args.count []) _ _ _ c.in_ok-made.ensures.items c.in_ok-push.ensures.items (sym (length-replicate c.args.count []))
+    put_start c.args.sets.now (replicate c.args.count []) _ _ _ c.in_ok-made.ensures c.in_ok-push.ensures (sym (length-replicate c.args.count []))
 
 pub loop-number-2-preserved : goal.loop-number-2-preserved
 loop-number-2-preserved c =
@@ -18,10 +18,10 @@ pub invariant_of-result : goal.invariant_of-result
 invariant_of-result c =
     let none : List (List ℕ) = replicate c.args.count [] in
     let n : length none ≡ c.args.count = length-replicate c.args.count [] in
-    packed_holds (new_columns c.args.sets.now 0 none) _ (c.in_ok-from_vec.ensures ∙ put_end c.args.sets.now none c.loop-number-2.number _ _ (omega arith) c.loop-number-2.invariant)
+    packed_holds (new_columns c.args.sets.now 0 none) _ (c.in_ok-done.ensures ∙ put_end c.args.sets.now none c.loop-number-2.number _ _ (omega arith) c.loop-number-2.invariant)
 
 pub returns : goal.returns
 returns c =
     let none : List (List ℕ) = replicate c.args.count [] in
     let n : length none ≡ c.args.count = length-replicate c.args.count [] in
-    unpacked_of (new_columns c.args.sets.now 0 none) _ (c.in_ok-from_vec.ensures ∙ put_end c.args.sets.now none c.loop-number-2.number _ _ (omega arith) c.loop-number-2.invariant)
+    unpacked_of (new_columns c.args.sets.now 0 none) _ (c.in_ok-done.ensures ∙ put_end c.args.sets.now none c.loop-number-2.number _ _ (omega arith) c.loop-number-2.invariant)

@@ -6,7 +6,7 @@ use Rattle.mt_types.proofs.columns.Columns.with_sets.Goals as goal
 pub loop-number-init : goal.loop-number-init
 loop-number-init c = (
   c.split_at.ensures.back ∙ ap (drop 1) c.as_packed-block.ensures,
-  put_start c.args.sets.now c.args.self.now _ _ _ c.in_ok-made.ensures.items c.in_ok-push.ensures.items (ap (λ b. get_or b 0 0) c.as_packed-block.ensures),
+  put_start c.args.sets.now c.args.self.now _ _ _ c.in_ok-made.ensures c.in_ok-push.ensures (ap (λ b. get_or b 0 0) c.as_packed-block.ensures),
 )
 
 pub split_first-requires-clause-some : goal.split_first-requires-clause-some
@@ -30,9 +30,9 @@ loop-number-preserved c =
 pub invariant_of-result : goal.invariant_of-result
 invariant_of-result c =
     let n : get_or c.as_packed-block.result.now 0 0 ≡ length c.args.self.now = ap (λ b. get_or b 0 0) c.as_packed-block.ensures in
-    packed_holds (new_columns c.args.sets.now 0 c.args.self.now) _ (c.in_ok-from_vec.ensures ∙ put_end c.args.sets.now c.args.self.now c.loop-number.number _ _ (omega arith) c.loop-number.invariant.1)
+    packed_holds (new_columns c.args.sets.now 0 c.args.self.now) _ (c.in_ok-done.ensures ∙ put_end c.args.sets.now c.args.self.now c.loop-number.number _ _ (omega arith) c.loop-number.invariant.1)
 
 pub returns : goal.returns
 returns c =
     let n : get_or c.as_packed-block.result.now 0 0 ≡ length c.args.self.now = ap (λ b. get_or b 0 0) c.as_packed-block.ensures in
-    unpacked_of (new_columns c.args.sets.now 0 c.args.self.now) _ (c.in_ok-from_vec.ensures ∙ put_end c.args.sets.now c.args.self.now c.loop-number.number _ _ (omega arith) c.loop-number.invariant.1)
+    unpacked_of (new_columns c.args.sets.now 0 c.args.self.now) _ (c.in_ok-done.ensures ∙ put_end c.args.sets.now c.args.self.now c.loop-number.number _ _ (omega arith) c.loop-number.invariant.1)
