@@ -38,6 +38,7 @@ begin 2 remove 61
 finish 9
 step 8
 step 8
+finish 8
 alone put 30313233343536374142 0=61
 begin 1 get 30313233343536374142 all
 step 11

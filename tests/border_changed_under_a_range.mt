@@ -18,6 +18,7 @@ finish 7
 step 3
 step 3
 step 3
+finish 3
 begin 1 range - 10 all
 step 8
 step 8
@@ -32,6 +33,7 @@ finish 10
 step 8
 step 8
 step 8
+finish 8
 begin 1 range - 10 all
 step 11
 step 11

@@ -5358,6 +5358,7 @@ step 628
 step 628
 finish 616
 step 619
+finish 619
 step 632
 begin 2 put 609a0d7cc7322d16 0=2d16
 step 632

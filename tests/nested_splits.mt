@@ -2799,6 +2799,7 @@ step 1189
 step 1188
 step 1189
 step 1191
+finish 1191
 begin 5 put 0f99 0=84
 step 1190
 step 1182
@@ -3747,6 +3748,7 @@ step 1228
 step 1232
 step 1230
 step 1228
+finish 1228
 step 1231
 step 1231
 step 1229
@@ -4081,6 +4083,7 @@ step 1237
 begin 2 range 40f0 20 all
 step 1248
 step 1243
+finish 1243
 step 1244
 begin 4 put 3ebb 0=76
 step 1246
@@ -4803,6 +4806,7 @@ step 1281
 step 1283
 step 1281
 step 1281
+finish 1281
 begin 1 put 45b0 -
 finish 1284
 begin 1 put 45c0 -

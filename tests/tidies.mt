@@ -3592,6 +3592,7 @@ step 1069
 collect
 step 1074
 step 1070
+finish 1070
 begin 2 remove 0000000000000009
 step 1078
 step 1069
@@ -3630,6 +3631,7 @@ step 1076
 view 3 0 - 1000
 step 1078
 step 1069
+finish 1069
 step 1074
 begin 3 remove 000000000000021b
 step 1077
@@ -3651,6 +3653,7 @@ step 1077
 step 1077
 step 1076
 step 1074
+finish 1074
 step 1076
 step 1076
 step 1076
@@ -3674,18 +3677,21 @@ step 1077
 step 1078
 step 1079
 step 1077
+finish 1077
 begin 3 remove 0000000000000163
 step 1079
 step 1080
 step 1082
 step 1081
 step 1078
+finish 1078
 apply 3
 begin 1 remove 0000000000000188
 step 1083
 step 1076
 step 1082
 step 1076
+finish 1076
 begin 3 remove 00000000000000bb
 step 1083
 finish 1082
@@ -3809,6 +3815,7 @@ step 1113
 step 1112
 step 1114
 step 1112
+finish 1112
 begin 1 remove 0000000000000267
 step 1111
 step 1111
@@ -3837,6 +3844,7 @@ step 1115
 step 1115
 step 1116
 step 1111
+finish 1111
 begin 1 remove 000000000000007d
 step 1114
 step 1114
@@ -3849,12 +3857,14 @@ step 1114
 step 1114
 step 1114
 step 1113
+finish 1113
 begin 3 remove 00000000000001bb
 step 1117
 step 1119
 step 1119
 step 1118
 step 1114
+finish 1114
 step 1115
 step 1118
 begin 1 remove 00000000000001bf
@@ -3886,7 +3896,9 @@ step 1118
 step 1117
 step 1120
 step 1115
+finish 1115
 step 1116
+finish 1116
 apply 0
 begin 3 remove 00000000000000c0
 step 1117
@@ -3906,10 +3918,12 @@ step 1122
 collect
 step 1117
 step 1117
+finish 1117
 step 1122
 step 1118
 begin 3 put 00000000000001ef 0=95ff40
 step 1118
+finish 1118
 begin 1 remove 00000000000000f1
 step 1119
 finish 1119
@@ -3975,6 +3989,7 @@ step 1135
 step 1134
 step 1136
 step 1136
+finish 1136
 begin 1 remove 00000000000001ed
 step 1135
 step 1123
@@ -4006,6 +4021,7 @@ step 1138
 step 1138
 step 1137
 step 1138
+finish 1138
 step 1139
 step 1135
 step 1135
@@ -4019,6 +4035,7 @@ step 1135
 begin 2 remove 0000000000000298
 step 1134
 step 1135
+finish 1135
 step 1139
 begin 2 remove 0000000000000085
 step 1123
@@ -4054,6 +4071,7 @@ step 1141
 step 1141
 step 1141
 step 1139
+finish 1139
 step 1142
 step 1137
 step 1137
@@ -4073,6 +4091,7 @@ step 1143
 step 1142
 advance
 step 1141
+finish 1141
 begin 3 remove 000000000000029c
 step 1142
 step 1142
@@ -4088,10 +4107,12 @@ step 1140
 collect
 step 1144
 step 1134
+finish 1134
 begin 1 remove 0000000000000044
 step 1143
 step 1145
 step 1137
+finish 1137
 begin 1 remove 000000000000008a
 step 1145
 step 1145
@@ -4107,12 +4128,14 @@ step 1140
 step 1140
 step 1140
 step 1142
+finish 1142
 begin 3 remove 0000000000000018
 step 1147
 step 1140
 step 1147
 step 1144
 step 1140
+finish 1140
 begin 1 remove 000000000000002b
 step 1145
 step 1144
@@ -4158,6 +4181,7 @@ step 1143
 step 1148
 step 1144
 step 1144
+finish 1144
 begin 2 remove 00000000000002b8
 advance
 step 1148
@@ -4165,7 +4189,9 @@ step 1149
 step 1147
 step 1148
 step 1147
+finish 1147
 step 1145
+finish 1145
 step 1148
 step 1148
 step 1148
@@ -4186,6 +4212,7 @@ step 1148
 step 1150
 step 1146
 step 1143
+finish 1143
 view 3 0 - 1
 step 1151
 begin 3 remove 00000000000000aa
@@ -4194,6 +4221,7 @@ step 1150
 step 1152
 step 1152
 step 1148
+finish 1148
 drop 3
 begin 3 remove 0000000000000029
 step 1153
@@ -4222,6 +4250,7 @@ step 1153
 step 1153
 step 1151
 step 1149
+finish 1149
 step 1152
 begin 1 remove 00000000000000c4
 step 1154
@@ -4251,8 +4280,10 @@ step 1150
 step 1152
 step 1150
 step 1146
+finish 1146
 begin 1 remove 0000000000000212
 step 1152
+finish 1152
 step 1154
 begin 3 remove 00000000000001f8
 step 1155
@@ -4276,6 +4307,7 @@ step 1154
 step 1155
 step 1156
 step 1153
+finish 1153
 begin 2 remove 0000000000000122
 feed 525 10
 step 1154
@@ -4287,9 +4319,12 @@ step 1156
 step 1157
 step 1157
 step 1150
+finish 1150
 feed 482 1
 step 1154
+finish 1154
 step 1151
+finish 1151
 begin 2 remove 000000000000025b
 step 1156
 begin 3 remove 00000000000001b4
@@ -4304,6 +4339,7 @@ step 1157
 step 1157
 step 1155
 step 1157
+finish 1157
 step 1159
 begin 1 remove 000000000000019f
 begin 2 remove 0000000000000019
@@ -4345,7 +4381,9 @@ step 1158
 step 1161
 step 1158
 step 1158
+finish 1158
 step 1155
+finish 1155
 step 1160
 step 1160
 step 1160
@@ -4368,8 +4406,10 @@ begin 3 remove 0000000000000270
 step 1163
 step 1163
 step 1161
+finish 1161
 step 1162
 step 1160
+finish 1160
 step 1162
 begin 1 remove 00000000000001da
 step 1159
@@ -4388,9 +4428,11 @@ step 1159
 step 1164
 step 1156
 step 1159
+finish 1159
 begin 2 remove 000000000000022b
 step 1165
 step 1156
+finish 1156
 begin 2 remove 00000000000000e3
 finish 1162
 step 1165
@@ -4725,6 +4767,7 @@ step 1268
 step 1268
 step 1258
 step 1258
+finish 1258
 step 1269
 begin 2 remove 000000000000012d
 step 1267
@@ -4750,16 +4793,20 @@ step 1267
 step 1270
 step 1269
 step 1269
+finish 1269
 step 1270
 begin 2 remove 000000000000002e
 step 1264
 step 1268
 step 1264
+finish 1264
 begin 2 remove 000000000000007a
 step 1268
+finish 1268
 step 1273
 begin 1 remove 000000000000014c
 step 1267
+finish 1267
 step 1274
 begin 3 remove 0000000000000197
 step 1272
@@ -4816,10 +4863,12 @@ step 1275
 step 1275
 step 1275
 step 1272
+finish 1272
 begin 3 remove 000000000000006a
 step 1271
 step 1276
 step 1271
+finish 1271
 step 1275
 begin 1 remove 00000000000001c5
 step 1279
@@ -4830,6 +4879,7 @@ step 1278
 step 1278
 step 1278
 step 1275
+finish 1275
 begin 1 remove 00000000000001e3
 step 1278
 step 1279
@@ -4852,6 +4902,7 @@ step 1278
 step 1276
 step 1278
 step 1278
+finish 1278
 begin 3 remove 00000000000000a4
 step 1279
 step 1279
@@ -4863,6 +4914,7 @@ step 1279
 begin 3 remove 0000000000000093
 step 1282
 step 1277
+finish 1277
 begin 1 remove 0000000000000048
 step 1280
 step 1283
@@ -4879,6 +4931,7 @@ step 1273
 step 1281
 step 1283
 step 1276
+finish 1276
 step 1280
 step 1280
 step 1280
@@ -4891,6 +4944,7 @@ step 1283
 step 1280
 step 1283
 step 1280
+finish 1280
 begin 1 remove 0000000000000255
 step 1281
 step 1282
@@ -4921,14 +4975,17 @@ step 1281
 step 1283
 step 1284
 step 1283
+finish 1283
 begin 1 remove 0000000000000268
 step 1273
+finish 1273
 begin 2 remove 0000000000000112
 step 1285
 step 1285
 collect
 feed 399 3
 step 1281
+finish 1281
 feed 1096 1
 begin 3 remove 0000000000000001
 step 1288
@@ -4944,6 +5001,7 @@ step 1288
 step 1286
 feed 352 3
 step 1285
+finish 1285
 finish 1282
 step 1287
 finish 1284
@@ -5001,7 +5059,9 @@ step 1289
 step 1286
 step 1287
 step 1287
+finish 1287
 step 1290
+finish 1290
 begin 3 remove 0000000000000166
 step 1292
 begin 2 remove 00000000000001c7
@@ -5012,6 +5072,7 @@ step 1292
 step 1293
 step 1291
 step 1291
+finish 1291
 step 1292
 step 1286
 step 1286
@@ -5032,6 +5093,7 @@ step 1292
 step 1292
 step 1289
 step 1288
+finish 1288
 begin 3 remove 0000000000000117
 step 1289
 step 1289
@@ -5046,12 +5108,14 @@ step 1289
 step 1295
 step 1293
 step 1289
+finish 1289
 step 1294
 step 1293
 step 1294
 begin 1 remove 00000000000001b6
 step 1286
 step 1286
+finish 1286
 begin 3 remove 00000000000000d8
 step 1295
 step 1295
@@ -5059,6 +5123,7 @@ step 1296
 advance
 step 1296
 step 1292
+finish 1292
 begin 2 remove 0000000000000025
 step 1296
 step 1297
@@ -5097,9 +5162,12 @@ step 1296
 step 1296
 step 1296
 step 1293
+finish 1293
 begin 1 remove 000000000000003d
 step 1296
+finish 1296
 step 1295
+finish 1295
 step 1297
 step 1299
 begin 3 remove 000000000000011f
@@ -5442,6 +5510,7 @@ step 1410
 step 1405
 step 1407
 step 1405
+finish 1405
 step 1409
 begin 2 remove 000000000000008b
 step 1408
@@ -5461,6 +5530,7 @@ step 1409
 step 1411
 step 1411
 step 1407
+finish 1407
 step 1392
 step 1409
 step 1409
@@ -5470,7 +5540,9 @@ step 1409
 begin 1 remove 000000000000014b
 step 1409
 step 1392
+finish 1392
 step 1409
+finish 1409
 begin 3 remove 000000000000017c
 step 1408
 step 1413
@@ -5481,6 +5553,7 @@ step 1408
 step 1408
 step 1408
 step 1410
+finish 1410
 finish 1408
 begin 1 remove 0000000000000260
 step 1411
@@ -5511,6 +5584,7 @@ step 1413
 collect
 step 1415
 step 1413
+finish 1413
 begin 2 remove 000000000000009c
 step 1414
 step 1415
@@ -5533,6 +5607,7 @@ step 1414
 step 1414
 step 1414
 step 1415
+finish 1415
 step 1416
 finish 1411
 begin 3 remove 0000000000000242
@@ -5559,6 +5634,7 @@ step 1419
 step 1421
 step 1412
 step 1412
+finish 1412
 step 1418
 finish 1417
 begin 1 remove 0000000000000205
@@ -5724,6 +5800,7 @@ collect
 step 1462
 step 1461
 step 1449
+finish 1449
 step 1461
 step 1461
 step 1461
@@ -5742,8 +5819,11 @@ step 1461
 step 1463
 step 1458
 step 1458
+finish 1458
 step 1459
+finish 1459
 step 1461
+finish 1461
 begin 1 remove 00000000000000c2
 advance
 begin 3 remove 00000000000000dd
@@ -5770,6 +5850,7 @@ step 1466
 step 1468
 step 1468
 step 1462
+finish 1462
 step 1467
 begin 2 remove 00000000000000ba
 step 1464
@@ -5789,6 +5870,7 @@ step 1468
 step 1469
 step 1467
 step 1467
+finish 1467
 begin 3 remove 000000000000024d
 step 1470
 step 1465
@@ -5818,6 +5900,7 @@ step 1464
 step 1464
 step 1471
 step 1468
+finish 1468
 begin 3 remove 00000000000001c4
 step 1472
 step 1470
@@ -5831,6 +5914,7 @@ step 1469
 step 1472
 step 1464
 step 1464
+finish 1464
 begin 2 tidy 0000000000000081
 step 1473
 step 1473
@@ -5851,6 +5935,7 @@ step 1465
 step 1473
 step 1472
 step 1465
+finish 1465
 step 1473
 step 1473
 step 1473
@@ -5858,12 +5943,14 @@ step 1473
 step 1473
 step 1473
 step 1470
+finish 1470
 begin 2 tidy 0000000000000152
 step 1473
 feed 1150 3
 begin 3 tidy 00000000000001d4
 step 1473
 step 1469
+finish 1469
 step 1475
 step 1474
 begin 1 tidy 000000000000019e
@@ -5878,11 +5965,13 @@ step 1473
 collect
 step 1474
 step 1472
+finish 1472
 begin 2 tidy 00000000000000ee
 step 1475
 step 1477
 collect
 step 1471
+finish 1471
 advance
 begin 2 tidy 0000000000000143
 step 1475

@@ -320,6 +320,7 @@ step 15
 feed 7 1
 step 17
 step 15
+finish 15
 begin 1 remove 62626262626262620000
 step 2
 step 17
@@ -1668,6 +1669,7 @@ step 212
 step 214
 step 216
 step 210
+finish 210
 step 214
 step 214
 step 214
@@ -1717,6 +1719,7 @@ step 219
 step 212
 begin 2 remove 626262626262626203
 step 212
+finish 212
 begin 2 tidy 626262626262626203
 step 216
 step 216
@@ -1747,6 +1750,7 @@ step 214
 step 218
 step 220
 step 214
+finish 214
 begin 1 remove 616161616161616162626262626262620303
 step 218
 step 217
@@ -3577,6 +3581,7 @@ begin 1 remove 616161616161616162626262626262620303
 step 389
 step 386
 step 386
+finish 386
 begin 3 tidy 616161616161616100
 step 391
 step 391
@@ -3691,6 +3696,7 @@ begin 2 tidy 62626262626262620202
 begin 3 tidy 626262626262626201
 step 389
 step 389
+finish 389
 begin 3 tidy 616161616161616162626262626262620101
 feed 59 10
 step 399
@@ -4427,6 +4433,7 @@ step 469
 step 469
 step 469
 step 471
+finish 471
 begin 3 remove 62626262626262620202
 step 470
 step 473
@@ -4482,6 +4489,7 @@ step 472
 step 470
 feed 105 3
 step 475
+finish 475
 step 473
 step 473
 step 473
@@ -4590,6 +4598,7 @@ step 476
 drop 2
 begin 1 tidy 61616161616161610303
 step 476
+finish 476
 finish 481
 begin 2 tidy 616161616161616162626262626262620101
 begin 1 tidy 616161616161616102
@@ -5654,6 +5663,7 @@ advance
 step 614
 step 612
 step 608
+finish 608
 step 613
 begin 1 remove 61616161616161610303
 step 603
@@ -5682,6 +5692,7 @@ step 611
 step 612
 step 611
 step 611
+finish 611
 step 603
 begin 2 remove 626262626262626203
 step 616
@@ -5732,10 +5743,12 @@ step 612
 step 613
 step 617
 step 614
+finish 614
 begin 3 get 616161616161616162626262626262620303 all
 step 615
 step 615
 step 612
+finish 612
 feed 36 1
 begin 3 tidy 616161616161616100
 step 616
@@ -5769,6 +5782,7 @@ step 613
 step 613
 step 613
 step 615
+finish 615
 step 617
 step 617
 step 617
@@ -6058,6 +6072,7 @@ step 644
 step 648
 step 648
 step 646
+finish 646
 step 647
 step 647
 step 647
@@ -6747,6 +6762,7 @@ step 752
 step 745
 begin 2 put 6161616161616161626262626262626200 0=a350
 step 745
+finish 745
 begin 1 put 61616161616161610101 0=1c
 step 759
 step 752
@@ -7176,6 +7192,7 @@ step 773
 step 773
 step 772
 step 770
+finish 770
 step 774
 begin 1 tidy 6161616161616161626262626262626202
 step 757
@@ -7227,6 +7244,7 @@ step 773
 step 777
 step 775
 step 774
+finish 774
 begin 2 get 61616161616161610101 all
 step 773
 step 776
@@ -7327,6 +7345,7 @@ step 778
 step 778
 step 782
 step 773
+finish 773
 step 780
 step 782
 step 782
@@ -7643,6 +7662,7 @@ step 811
 step 813
 step 813
 step 807
+finish 807
 step 813
 step 813
 step 813
@@ -8372,12 +8392,14 @@ feed 135 1
 step 881
 feed 52 3
 step 883
+finish 883
 begin 1 remove 616161616161616100
 step 880
 step 880
 step 884
 step 880
 step 882
+finish 882
 collect
 feed 7 3
 begin 3 remove 62626262626262620202
@@ -8413,8 +8435,10 @@ step 888
 step 887
 feed 110 1
 step 884
+finish 884
 begin 3 get 616161616161616162626262626262620101 all
 step 887
+finish 887
 collect
 begin 1 remove 61616161616161610303
 step 888
@@ -8501,6 +8525,7 @@ step 890
 step 893
 step 891
 step 891
+finish 891
 step 893
 step 893
 step 893
@@ -8534,6 +8559,7 @@ step 890
 step 890
 step 890
 step 890
+finish 890
 begin 2 tidy 616161616161616162626262626262620303
 step 893
 step 893
@@ -8573,6 +8599,7 @@ step 892
 step 897
 step 894
 step 892
+finish 892
 begin 3 tidy 626262626262626203
 step 895
 step 895
@@ -8619,6 +8646,7 @@ step 895
 begin 1 tidy 616161616161616100
 step 899
 step 893
+finish 893
 finish 901
 begin 2 tidy 62626262626262620202
 begin 2 tidy 61616161616161610303
@@ -9313,6 +9341,7 @@ step 983
 begin 2 remove 626262626262626201
 step 977
 step 979
+finish 979
 begin 1 tidy 626262626262626201
 step 985
 step 980
@@ -9815,6 +9844,7 @@ step 1017
 step 1014
 step 1016
 step 1014
+finish 1014
 begin 2 tidy 616161616161616102
 step 1009
 step 1009
@@ -9935,6 +9965,7 @@ step 1022
 step 1022
 step 1020
 step 1016
+finish 1016
 step 1024
 step 1024
 step 1024
@@ -10019,6 +10050,7 @@ feed 34 1
 step 1027
 step 1022
 step 1020
+finish 1020
 step 1026
 step 1022
 step 1026
@@ -10034,6 +10066,7 @@ step 1027
 begin 3 remove 616161616161616162626262626262620101
 step 1022
 step 1024
+finish 1024
 step 1026
 step 1026
 step 1026
@@ -10122,6 +10155,7 @@ step 1033
 step 1033
 step 1033
 step 1026
+finish 1026
 begin 2 put 61616161616161610303 0=4b48
 step 1034
 step 1034
@@ -10166,6 +10200,7 @@ step 1031
 begin 3 put 62626262626262620202 0=5ba492
 step 1032
 step 1022
+finish 1022
 step 1034
 step 1034
 step 1034
@@ -10178,6 +10213,7 @@ begin 1 put 62626262626262620000 0=6869f266
 step 1034
 step 1035
 step 1032
+finish 1032
 begin 2 remove 61616161616161610101
 step 1036
 step 1038
@@ -10538,6 +10574,7 @@ step 1055
 step 1061
 step 1058
 step 1055
+finish 1055
 step 1057
 step 1057
 step 1057
@@ -10565,6 +10602,7 @@ step 1063
 feed 261 3
 step 1062
 step 1056
+finish 1056
 begin 3 tidy 62626262626262620202
 step 1062
 step 1062
@@ -10684,6 +10722,7 @@ step 1068
 step 1068
 step 1068
 step 1054
+finish 1054
 step 1061
 step 1061
 step 1061
@@ -10884,6 +10923,7 @@ step 1081
 step 1078
 step 1081
 step 1081
+finish 1081
 step 1078
 step 1078
 step 1078
@@ -10972,6 +11012,7 @@ step 1088
 step 1089
 step 1090
 step 1086
+finish 1086
 begin 3 remove 6161616161616161626262626262626200
 step 1090
 step 1091
@@ -11634,6 +11675,7 @@ step 1168
 step 1168
 step 1168
 step 1165
+finish 1165
 step 1169
 begin 2 tidy 62626262626262620202
 step 1169
@@ -11713,6 +11755,7 @@ begin 2 tidy 626262626262626203
 step 1170
 step 1173
 step 1164
+finish 1164
 step 1170
 step 1170
 step 1170
@@ -11957,3 +12000,4 @@ step 1204
 step 1204
 step 1204
 step 1204
+finish 1204

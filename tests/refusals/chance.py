@@ -126,4 +126,5 @@ def judge(stepping: Stepping, run: Run, own: int) -> ByChance:
     Held(stepping.script.columns, whole.said)
     want(stepping.is_ended(whole), "a call behind the script doesn't end")
     lines = sum(REFUSED in one.answers for one in whole.said)
-    return ByChance(len(refused) + own, own, lines, stepping.judge_growth(whole, refused, range(MOST_UNPOSTED)))
+    more = stepping.judge_growth(whole, refused, range(MOST_UNPOSTED)) if stepping.has_kept_room else 0
+    return ByChance(len(refused) + own, own, lines, more)

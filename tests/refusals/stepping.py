@@ -21,6 +21,8 @@ REFUSED = "refused 1"
 # new keys in their order split a border after each 8 of them
 KEYS_OF_A_SPLIT = 8
 KEYS_OF_NODES = 600
+# the memory of nodes begins with room for 4, and is looked at from room for as many on: smaller pieces may be others
+FIRST_NODES, FEWEST_NODES = 4, 16
 
 # what a refusal came to
 OWN = "ended the program"
@@ -55,10 +57,10 @@ def played(lines: Sequence[str], run: Run) -> Played:
     return Played(tuple(lines), run, tuple(said), tuple(begins))
 
 
-def is_doubled(one: int, other: int) -> bool:
-    """Whether one is the other, doubled or halved some times."""
-    least, most = sorted((one, other))
-    return most % least == 0 and (most // least).bit_count() == 1
+def rooms_of(it: Played, node: int, begin: int) -> List[Tuple[int, int]]:
+    """The pieces of memory that the nodes get from line `begin` on, each with the line and how many nodes have room."""
+    return [(it.at(told.written)[0], told.size // node) for told in it.run.told
+            if told.written >= it.begins[begin] and told.size % node == 0 and told.size // node >= FEWEST_NODES]
 
 
 class Stepping:
@@ -68,14 +70,16 @@ class Stepping:
         self.shim, self.script = shim, script
         self.others: Dict[Tuple[Tuple[int, str], ...], Played] = {}
         self.counts: Counter[str] = Counter()
-        # the memory of the nodes of an index that is put in order is its greatest piece
-        self.nodes = max(told.size for told in self.play(growing(KEYS_OF_NODES)).run.told)
+        self.node = self.size_of_node()
         plain = self.play(script.lines)
         held = Held(script.columns, plain.said)
         self.tail = len(script.lines)
         self.lines = list(script.lines) + ending(script, held.gathered, len(held.specs))
         self.grown = len(self.lines)
-        self.add_growing()
+        # if room for nodes is returned, what is left of it depends on what was refused, and says nothing of numbers
+        self.has_kept_room = self.keeps_room(self.play(self.lines))
+        if self.has_kept_room:
+            self.add_growing()
         self.whole = self.play(self.lines)
         self.held = Held(script.columns, self.whole.said)
         want(all(one.answer != REFUSED for one in self.whole.said), "memory is wanting without refusals")
@@ -101,10 +105,26 @@ class Stepping:
             count *= 2
             want(count < 100_000, "the memory of nodes doesn't grow")
 
+    def size_of_node(self) -> int:
+        """The bytes of a node. The memory of the nodes of an index that is put in order is its greatest piece."""
+        sizes = [told.size for told in self.play(growing(KEYS_OF_NODES)).run.told]
+        first = min(size for size in sizes if max(sizes) % size == 0 and (max(sizes) // size).bit_count() == 1)
+        want(first % FIRST_NODES == 0, "the memory of nodes doesn't begin with room for four")
+        return first // FIRST_NODES
+
+    def keeps_room(self, it: Played) -> bool:
+        """Whether the memory of nodes only grows."""
+        rooms = [room for _, room in rooms_of(it, self.node, 0)]
+        return rooms == sorted(rooms)
+
     def growth_of(self, it: Played) -> List[Tuple[int, int]]:
-        """The lines of new keys at which the memory of nodes grows, and to how many bytes."""
-        return [(it.at(told.written)[0], told.size) for told in it.run.told
-                if told.written >= it.begins[self.grown] and is_doubled(self.nodes, told.size)]
+        """The lines of new keys at which the memory of nodes grows, and to room for how many. It is greater than other
+        pieces whose size is by chance a multiple of a node's."""
+        found: List[Tuple[int, int]] = []
+        for at, room in rooms_of(it, self.node, self.grown):
+            if not found or room > found[-1][1]:
+                found.append((at, room))
+        return found
 
     def places_of_each(self) -> Dict[int, Tuple[int, int]]:
         """For each allocation the first and the last line that may be in work there, up to the end of the script."""
@@ -137,7 +157,8 @@ class Stepping:
         self.counts[kind] += 1
         want(self.is_ended(it), "a call behind the script doesn't end")
         # a border that was not posted is found from its left alone, so no tidy takes it out
-        self.judge_growth(it, [number], (0, 1) if kind == LEFT_OUT else (0,))
+        if self.has_kept_room:
+            self.judge_growth(it, [number], (0, 1) if kind == LEFT_OUT else (0,))
 
     def judge_growth(self, it: Played, refused: Sequence[int], nodes: Sequence[int]) -> int:
         """Behind the script, the memory of nodes grows at the same new key as without refusals, so no number of a

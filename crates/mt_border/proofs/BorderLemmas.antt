@@ -10,12 +10,12 @@ use Rattle.mt_types.specs.declared.row.Row.{Row}
 use Rattle.mt_types.specs.declared.numbers.NodeNo.{NodeNo}
 use Rattle.mt_word.specs.Slots.{with_first}
 use Rattle.mt_word.specs.Version.{VersionView}
-use Rattle.mt_border.specs.Entry.{entry_rank, IsEntry, IsContent, with_row, with_link, content_with_row, content_class, entry_suffix}
+use Rattle.mt_border.specs.Entry.{entry_rank, IsEntry, IsContent, no_row, with_row, with_link, content_with_row, content_class, entry_suffix}
 use Rattle.mt_border.specs.Table.{first_changed, changed_at, left_slot, left_slots, number_at, slot_changed, with_entry, filled, blank_slot, picked, suffix_of_first}
-use Rattle.mt_border.specs.Border.{BorderView, entries_of, first_suffix, inserting_version, with_filled, with_hidden, with_value, with_unstable, with_link_at, with_half_linked, suffix_at}
+use Rattle.mt_border.specs.Border.{BorderView, entries_of, first_suffix, inserting_version, with_filled, with_hidden, with_forgotten, with_value, with_unstable, with_link_at, with_half_linked, suffix_at}
 use Rattle.mt_border.specs.Order.{IsBorder, IsUnwritten, AwaitsValue, AwaitsLink, IsOrdered, AreEntries, HoldEntries, AreBelow, IsLeftOf}
 use Rattle.mt_border.proofs.TableLemmas.{live_below, suffix_read}
-use Rattle.mt_border.proofs.SlotLemmas.{live_count, seen_changed, seen_hidden, seen_filled, seen_split}
+use Rattle.mt_border.proofs.SlotLemmas.{live_count, seen_changed, seen_hidden, seen_next_changed, seen_filled, seen_split}
 use Rattle.mt_border.specs.declared.entry.Entry.{Entry}
 use Rattle.mt_border.specs.declared.entry.Content.{Content}
 use Rattle.mt_border.specs.declared.entry.Content.TheVariants.{Short, Long, Link}
@@ -265,6 +265,32 @@ border_filled b entry room g h = record {
   unspent = h.unspent;
   counters = h.counters;
   pending = tt;
+}
+
+hold_forgotten : (slots : List Slot) → HoldEntries slots → HoldEntries (first_changed (with_entry (with_row no_row)) slots)
+hold_forgotten [] h = h
+hold_forgotten (slot ∷ slots) h = record { each = holds }
+  where
+    holds : All (λ (s : Slot). IsEntry s.entry) (with_entry (with_row no_row) slot ∷ slots)
+    holds zero d within = let g = h.each 0 d (omega arith) in record { slice_fits = g.slice_fits; content = IsContent-with_row no_row slot.entry.content g.content }
+    holds (suc k) d within = h.each (suc k) d within
+
+pub border_forgotten : (b : BorderView) → length b.live < 15 → b.unwritten ≡ Nothing → IsBorder b → IsBorder (with_forgotten b)
+border_forgotten b room written h = record {
+  seen = seen_next_changed b.live b.unused b.slots b.order h.seen (with_entry (with_row no_row)) room;
+  slots = rw (length-first_changed (with_entry (with_row no_row)) b.unused) h.slots;
+  low_fits = h.low_fits;
+  ordered = h.ordered;
+  entries = h.entries;
+  held_back = hold_forgotten b.unused h.held_back;
+  from_low = h.from_low;
+  left_of = h.left_of;
+  deleted_empty = h.deleted_empty;
+  border = h.border;
+  flags = h.flags;
+  unspent = h.unspent;
+  counters = h.counters;
+  pending = all_written (with_forgotten b) written;
 }
 
 take_none : (k : ℕ) (xs : List Entry) → xs ≡ [] → take k xs ≡ []

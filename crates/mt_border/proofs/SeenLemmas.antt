@@ -5,13 +5,13 @@ use Rattle.mt_types.specs.declared.row.Row.{Row}
 use Rattle.mt_types.specs.declared.numbers.NodeNo.{NodeNo}
 use Rattle.mt_word.specs.Slots.{Slots, with_first_unused_at, without_place, with_first}
 use Rattle.mt_word.specs.Version.{VersionView}
-use Rattle.mt_border.specs.Entry.{IsEntry, entry_with, at_version, with_row, with_link}
+use Rattle.mt_border.specs.Entry.{IsEntry, entry_with, at_version, no_row, with_row, with_link}
 use Rattle.mt_border.specs.Table.{TableView, IsSlotTable, blank_slot, live_slots, number_at, next_number, slot_changed, left_slot, with_entry, filled, marked, with_all_filled, with_more_live, row_of_first, suffix_of_first}
-use Rattle.mt_border.specs.Border.{BorderView, border_view, entries_of, first_row, first_suffix, with_filled, with_shown, with_hidden, with_value, with_link_at, with_entries, with_half_linked, suffix_at}
+use Rattle.mt_border.specs.Border.{BorderView, border_view, entries_of, first_row, first_suffix, with_filled, with_shown, with_hidden, with_forgotten, with_value, with_link_at, with_entries, with_half_linked, suffix_at}
 use Rattle.mt_border.specs.Order.{IsBorder, AreBelow}
 use Rattle.mt_border.proofs.TableLemmas.{length-picked, next_below, room_left}
 use Rattle.mt_border.proofs.SlotLemmas.{view_of_seen, length-with_all_filled}
-use Rattle.mt_border.proofs.BorderLemmas.{suffix_seen, border_value, border_unstable, border_link, border_hidden, awaits, border_filled, border_half_linked}
+use Rattle.mt_border.proofs.BorderLemmas.{suffix_seen, border_value, border_unstable, border_link, border_hidden, border_forgotten, awaits, border_filled, border_half_linked}
 use Rattle.mt_border.specs.declared.entry.Entry.{Entry}
 use Rattle.mt_border.specs.declared.entry.RightLink.{RightLink}
 use Rattle.mt_border.specs.declared.slot_table.Slot.{Slot}
@@ -110,6 +110,14 @@ module _ (layer low : ℕ) (right : Option RightLink) (version : VersionView) (t
   sound_value i row within written h =
       let whole = border_value b i row within written h in
       let seen = view_of_seen (with_value b i row) whole.seen in
+      (seen, subst IsBorder (sym seen) whole)
+
+  pub sound_forgotten : length b.live < 15 → left ≡ Nothing → IsBorder b →
+      let new : BorderView = with_slots (slot_changed (next_number t.order) (with_entry (with_row no_row)) t.slots) in
+      (new ≡ with_forgotten b) × IsBorder new
+  sound_forgotten room written h =
+      let whole = border_forgotten b room written h in
+      let seen = view_of_seen (with_forgotten b) whole.seen in
       (seen, subst IsBorder (sym seen) whole)
 
   pub sound_link : (i number : ℕ) (head : NodeNo) (suffix : List ℕ) → i < length b.live → IsSome (first_suffix (drop i b.live)) → left ≡ LinkAt (number_at i t.order) → number ≡ number_at i t.order → suffix_of_first (drop i (live_slots t)) ≡ Some suffix → IsBorder b →

@@ -103,9 +103,12 @@ module _ (live : List Entry) (unused : List Slot) (xs : List Slot) (s : Slots) (
   pub unused_there : length live < 15 → 0 < length s.unused
   unused_there room = omega (arith, live_count, fifteen_together s h.table.arranged)
 
+  pub seen_next_changed : (change : Slot → Slot) → length live < 15 → AreInSlots live (first_changed change unused) (slot_changed (next_number s) change xs) s
+  seen_next_changed change room =
+      seen_from _ s live _ _ (table_changed xs s (next_number s) change h.table) (lists-unused xs s change h.table (unused_there room)) h.live_is (ap (λ (t : List Slot). first_changed change t) h.unused_is) h.held
+
   pub seen_filled : (entry : Entry) → length live < 15 → AreInSlots live (first_changed (filled entry) unused) (slot_changed (next_number s) (filled entry) xs) s
-  seen_filled entry room =
-      seen_from _ s live _ _ (table_changed xs s (next_number s) (filled entry) h.table) (lists-unused xs s (filled entry) h.table (unused_there room)) h.live_is (ap (λ (t : List Slot). first_changed (filled entry) t) h.unused_is) h.held
+  seen_filled entry room = seen_next_changed (filled entry) room
 
   pub seen_hidden : (i : ℕ) → AreInSlots (remove live i) (left_slots (take 1 (drop i live)) ++ unused) xs (without_place s i)
   seen_hidden i =

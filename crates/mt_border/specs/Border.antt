@@ -8,7 +8,7 @@ use Rattle.mt_word.specs.Version.{VersionView, unlocked}
 use Rattle.mt_word.specs.Slots.{Slots, with_first_unused_at, without_place, with_first}
 use Rattle.mt_word.specs.declared.permutation_word.TheConstants.{SLOTS}
 use Rattle.mt_word.specs.declared.version_word.TheConstants.{MAX_INSERTS}
-use Rattle.mt_border.specs.Entry.{entry_row, entry_suffix, at_version, with_row, with_link}
+use Rattle.mt_border.specs.Entry.{entry_row, entry_suffix, at_version, no_row, with_row, with_link}
 use Rattle.mt_border.specs.Table.{TableView, blank_slot, live_slots, unused_slots, none_live, number_at, next_number, slot_changed, left_slots, with_entry, filled, shown, with_all_filled, with_more_live, first_changed, changed_at}
 use Rattle.mt_border.specs.declared.entry.Entry.{Entry}
 use Rattle.mt_border.specs.declared.entry.RightLink.{RightLink}
@@ -125,6 +125,13 @@ with_filled b entry = record b {
   unused = first_changed (filled entry) b.unused;
   slots = slot_changed (next_number b.order) (filled entry) b.slots;
   unwritten = Nothing;
+}
+
+-- the border once the row is dropped that the first unused slot held
+abbrev pub with_forgotten : BorderView → BorderView
+with_forgotten b = record b {
+  unused = first_changed (with_entry (with_row no_row)) b.unused;
+  slots = slot_changed (next_number b.order) (with_entry (with_row no_row)) b.slots;
 }
 
 -- the border once what the first unused slot holds is live at a place, its row made by the commit of this number

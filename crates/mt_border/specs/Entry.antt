@@ -1,5 +1,5 @@
 -- Entries: their places in their layer, and what they hold.
-use Rattle.std.specs.Prelude.{ℕ, ◌≤◌, ◌<◌, ◌+◌, ◌*◌, ◌^◌, List, length, drop, Option, Some, None}
+use Rattle.std.specs.Prelude.{ℕ, ◌≤◌, ◌<◌, ◌+◌, ◌*◌, ◌^◌, List, length, drop, [], Option, Some, None}
 use Rattle.mt_types.specs.declared.row.Row.{Row}
 use Rattle.mt_types.specs.declared.numbers.NodeNo.{NodeNo}
 use Rattle.mt_slice.specs.Place.{AreBytes, slice_number}
@@ -93,6 +93,10 @@ abbrev pub content_at_version : ℕ → Content → Content
 content_at_version version (Short bytes row) = Short bytes (record row { version = version })
 content_at_version version (Long suffix row) = Long suffix (record row { version = version })
 content_at_version version (Link head) = Link head
+
+-- the row of no commit, without columns
+abbrev pub no_row : Row
+no_row = record { version = 0; columns = [] }
 
 abbrev pub with_row : Row → Entry → Entry
 with_row row entry = record entry { content = content_with_row row entry.content }

@@ -6,7 +6,7 @@ ghost use Rattle.std.specs.Bool.{IsFalse};
 ghost use Rattle.mt_word.specs.declared.permutation_word.TheConstants.{SLOTS};
 ghost use Rattle.mt_word.specs.declared.version_word.TheConstants.{MAX_SPLITS};
 ghost use Rattle.mt_border.specs.Entry.{IsEntry};
-ghost use Rattle.mt_border.specs.Border.{new_border, with_hidden, with_value, with_entries, with_right, with_locked, with_unlocked, with_deleted, right_for, row_at};
+ghost use Rattle.mt_border.specs.Border.{new_border, with_hidden, with_forgotten, with_value, with_entries, with_right, with_locked, with_unlocked, with_deleted, right_for, row_at};
 ghost use Rattle.mt_border.specs.Keys.{IsKeyPart};
 ghost use Rattle.mt_border.specs.Parts.{IsValueOf};
 ghost use Rattle.mt_border.specs.Slots.{slot_at, key_at, order_shown};
@@ -238,6 +238,19 @@ impl Border {
         ensures sound { IsBorder self.new }
     {
         self.table.remove_at(place);
+    }
+
+    /// Drops the row that the first unused slot holds, so that what was hidden takes no memory. The slot holds a row
+    /// without columns then, and the key that it held. Others may still read a slot that held a key, so the border must be
+    /// marked as one into which keys are being inserted. Constant cost.
+    pub fn forget_row(&mut self)
+        requires room { length self.old.live < SLOTS }
+        requires marked { self.old.version.inserting ≡ true }
+        requires written { self.old.unwritten ≡ Nothing }
+        ensures value { self.new ≡ with_forgotten self.old }
+        ensures sound { IsBorder self.new }
+    {
+        self.table.forget_row();
     }
 
     /// Replaces the row of the entry at this place, which has one, and returns the old row. Constant cost.

@@ -4,7 +4,7 @@ ghost use Rattle.std.specs.Prelude.{◌≡◌, ℕ, ◌+◌, ◌<◌, ◌≤◌,
 ghost use Rattle.arrayvec.specs.ArrayVec.{array_vec_len};
 ghost use Rattle.mt_word.specs.Slots.{with_first_unused_at, without_place, with_first};
 ghost use Rattle.mt_word.specs.declared.permutation_word.TheConstants.{SLOTS};
-ghost use Rattle.mt_border.specs.Entry.{at_version, with_row, with_link, entry_row, entry_suffix};
+ghost use Rattle.mt_border.specs.Entry.{at_version, no_row, with_row, with_link, entry_row, entry_suffix};
 ghost use Rattle.mt_border.specs.Table.{blank_slot, live_slots, unused_slots, none_live, number_at, next_number, slot_changed, with_entry, filled, marked, with_all_filled, with_more_live, row_of_first, suffix_of_first, IsSlotTable};
 
 use crate::entry::{Content, Entry, Suffix};
@@ -106,6 +106,24 @@ fn replace_row(entry: &mut Entry, row: Row) -> Row
         Content::Long(_, held) => mem::replace(held, row),
         Content::Link(_) => unreachable!(),
     }
+}
+
+// Drops the row of an entry, if it has one. It has a row without columns then.
+fn forget(entry: &mut Entry)
+    ensures { entry.new ≡ with_row no_row entry.old }
+{
+    match &mut entry.content {
+        Content::Short(_, row) => *row = Row::none(),
+        Content::Long(_, row) => *row = Row::none(),
+        Content::Link(_) => {}
+    }
+}
+
+fn put_no_row(slots: &mut ArrayVec<Slot, SLOTS, Global>, slot: usize)
+    requires { slot < array_vec_len slots.old }
+    ensures { slots.new.items ≡ slot_changed slot (with_entry (with_row no_row)) slots.old.items }
+{
+    forget(&mut slots.as_mut_slice()[slot].entry);
 }
 
 fn put_row(slots: &mut ArrayVec<Slot, SLOTS, Global>, slot: usize, row: Row) -> Row
@@ -231,6 +249,17 @@ impl SlotTable {
     {
         let slot = self.permutation.first_unused();
         put_version(&mut self.slots, slot, version);
+    }
+
+    /// Drops the row in the first unused slot, if it holds one. It holds a row without columns then.
+    pub fn forget_row(&mut self)
+        requires { length (live_slots self.old) < SLOTS }
+        ensures { self.new ≡ record self.old {
+          slots = slot_changed (next_number self.old.order) (with_entry (with_row no_row)) self.old.slots;
+        } }
+    {
+        let slot = self.permutation.first_unused();
+        put_no_row(&mut self.slots, slot);
     }
 
     /// Marks the first unused slot as one that holds a key.

@@ -14,7 +14,7 @@ use Rattle.mt_arena.specs.declared.retired.Retired.{Retired}
 use Rattle.mt_chart.specs.Tree.{Among, first}
 use Rattle.mt_tree.specs.Seen.{arena_seen}
 use Rattle.mt_steps.specs.World.{World, IsGone}
-use Rattle.mt_steps.specs.Collecting.{IsCollected, TakenSince, CollectLaw, Leaves}
+use Rattle.mt_steps.specs.Collecting.{GivesBack, IsCollected, TakenSince, CollectLaw, Leaves}
 use Rattle.mt_steps.proofs.CollectLemmas.{advances}
 use Rattle.mt_steps.proofs.CollectingLemmas.{law_none}
 use Rattle.mt_works.specs.Works.{held}
@@ -116,11 +116,11 @@ pub collects-caused : (s t : MachineView) (h : History) (st : Stands s h) (outco
 collects-caused s t h st outcome o =
     subst (λ (z : Outcome). IsCaused s Collect z t) (sym o.is_outcome) (record {
       few = o.exactly.few;
-      left = ap (λ (m : MachineView). m.tree) o.is_next ∙ o.exactly.left;
+      left = subst (λ (m : MachineView). GivesBack o.count s.tree m.tree) (sym o.is_next) o.exactly.left;
       freed = All-weaker (λ (node : Retired). node.epoch < o.before) (AllBeganAfter s.calls.calls) (λ node less k i. let began = since s h st o.before o.oldest k i in omega (arith, less, began)) (take o.count s.tree.retired) o.exactly.freed;
       kept = kept_for s.tree s.epoch o.before 0 st.w s.calls.calls (drop o.count s.tree.retired) st.in_order o.oldest
           (All-drop (IsGone s.tree s.epoch st.w.chart) o.count s.tree.retired st.world.retired.each)
-          (subst (λ (l : List Retired). All (λ (node : Retired). o.before ≤ node.epoch) l) o.exactly.rest o.exactly.kept);
+          (subst (λ (l : List Retired). All (λ (node : Retired). o.before ≤ node.epoch) l) o.exactly.left.rest o.exactly.kept);
     })
 
 -- ---- as the code takes it
@@ -131,7 +131,7 @@ collects_none s is = record {
   count = 0;
   after = s.tree;
   oldest = subst (IsOldest s.epoch 0) (sym is) refl;
-  exactly = record { few = omega arith; left = refl; rest = refl; freed = All-nil (λ (node : Retired). node.epoch < 0); kept = λ k d within. omega arith };
+  exactly = record { few = omega arith; left = record { nodes = λ number. refl; rest = refl }; freed = All-nil (λ (node : Retired). node.epoch < 0); kept = λ k d within. omega arith };
   keeps = law_none s.tree 0;
   is_outcome = refl;
   is_next = refl;

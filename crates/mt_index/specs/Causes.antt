@@ -7,7 +7,7 @@ use Rattle.mt_types.specs.declared.event.Event.TheVariants.{Step, Collect}
 use Rattle.mt_types.specs.declared.event.Outcome.{Outcome}
 use Rattle.mt_types.specs.declared.event.Outcome.TheVariants.{Again, Moved, Freed, Refused}
 use Rattle.mt_steps.specs.declared.progress.Progress.TheVariants.{Moved as WentOn, Waits}
-use Rattle.mt_steps.specs.Collecting.{given_back}
+use Rattle.mt_steps.specs.Collecting.{GivesBack}
 use Rattle.mt_works.specs.Causes.{WorkWaits, WorkFails, WorkRefuses}
 use Rattle.mt_types.specs.Numbers.{greatest_number}
 use Rattle.mt_works.specs.Works.{IsBuiltWork}
@@ -49,7 +49,7 @@ OneBeganBy calls node = (k : ℕ × Call) × Among k calls × (k.1.epoch ≤ nod
 -- `count` of those that there are
 pub record FreesSo (s : MachineView) (count : ℕ) (t : MachineView) : Type 0 where
   pub few : count ≤ length s.tree.retired
-  pub left : t.tree ≡ given_back count s.tree
+  pub left : GivesBack count s.tree t.tree
   pub freed : All (AllBeganAfter s.calls.calls) (take count s.tree.retired)
   pub kept : All (OneBeganBy s.calls.calls) (drop count s.tree.retired)
 

@@ -39,8 +39,9 @@ TidiesOnce s key took t =
     MatchBool took ((rule : TidyRule) × CameTo s (Tidy key) (Ok (Tidied rule)) t × (rule ≢ Nothing))
     (CameTo s (Tidy key) (Ok (Tidied Nothing)) t ⊎ ((refusal : Refusal) × CameTo s (Tidy key) (Err refusal) t))
 
--- TIDIES AT A PLACE, one after the other, until one takes nothing out, but at most MAX_TIDIES. After the first there is
--- no other if memory for one more copy of the key is refused.
+-- TIDIES AT A PLACE, one after the other, until one takes nothing out, but at most MAX_TIDIES. After one that takes
+-- something out there is no other if the border isn't empty any more, or if memory for one more copy of the key is
+-- refused.
 abbrev pub TidiesAll : MachineView → List ℕ → MachineView → Type 0
 TidiesAll s key t = ((tidies : ℕ) × (0 < tidies) × (tidies ≤ MAX_TIDIES) × Tidies tidies s key t)
     ⊎ ((tidies : ℕ) × (m : MachineView) × (tidies < MAX_TIDIES) × Tidies tidies s key m × TidiesOnce m key false t)

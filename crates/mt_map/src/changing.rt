@@ -65,8 +65,9 @@ impl Map {
     /// Removes the row of `key`. Returns the number of the commit, or `None` if the key has no row.
     ///
     /// If the options of the map ask for tidies, and the border of the key is then empty, tidies follow there, as
-    /// [`Map::tidy`] makes them, until one takes nothing out, and the nodes are freed that they took out. So memory
-    /// comes back as rows are removed. What the tidies come to changes nothing of the answer.
+    /// [`Map::tidy`] makes them, until one takes nothing out or the border isn't empty any more, and the nodes are freed
+    /// that they took out. So memory comes back as rows are removed. What the tidies come to changes nothing of the
+    /// answer.
     ///
     /// Costs the visit of each node on the way to the key, twice if tidies are on, and the steps of the tidies.
     ///

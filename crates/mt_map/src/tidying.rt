@@ -5,6 +5,7 @@ ghost use Rattle.mt_types.specs.Limits.{request_fault};
 ghost use Rattle.mt_types.specs.declared.limits.TheConstants.{MAX_KEY_BYTES};
 ghost use Rattle.mt_index.specs.Alone.{IsIdle};
 ghost use Rattle.mt_types.specs.declared.event.Request.TheVariants.{Remove};
+ghost use Rattle.mt_walk.specs.Emptied.{IsEmptied};
 ghost use Rattle.mt_map.specs.Tidies.{DoesAndTidies, IsShort, PurgesIfEmptied, RemovesNone, TidiesAll, TidiesOnce, has_removed};
 
 use crate::calling::call_alone;
@@ -23,6 +24,15 @@ use std::alloc::Global;
 /// interior node above its border.
 pub const MAX_TIDIES: u64 = 256;
 
+// Returns whether the border of the key `place` is empty.
+fn is_left_empty(machine: &Machine, place: &Key) -> bool
+    requires { IsIdle machine.now }
+    ensures { IsEmptied machine.now.tree place.now result }
+{
+    let _stands = machine.is_idle();
+    is_emptied(machine.tree(), place)
+}
+
 // Makes a tidy alone. Returns whether it has taken something out.
 fn tidy_once(alloc: Global, machine: &mut Machine, place: Key) -> bool
     requires { IsIdle machine.old }
@@ -38,7 +48,7 @@ fn tidy_once(alloc: Global, machine: &mut Machine, place: Key) -> bool
     }
 }
 
-// Makes tidies at a place, one after the other, until one takes nothing out.
+// Makes tidies at a place, one after the other, until one takes nothing out, or the border there isn't empty any more.
 fn tidy_all(alloc: Global, machine: &mut Machine, first: Key)
     requires { IsIdle machine.old }
     ensures all { TidiesAll machine.old first machine.new }
@@ -47,16 +57,18 @@ fn tidy_all(alloc: Global, machine: &mut Machine, first: Key)
     let mut place = first;
     for _ in 0..MAX_TIDIES {
         let next = place.copy(alloc);
-        let took = tidy_once(alloc, machine, place);
+        if !tidy_once(alloc, machine, place) {
+            return;
+        }
         match next {
-            Ok(next) if took => place = next,
+            Ok(next) if is_left_empty(machine, &next) => place = next,
             _ => return,
         }
     }
 }
 
-/// If the border of the key `place` is empty, makes tidies there, at most `MAX_TIDIES`, until one takes nothing out, and
-/// then frees the nodes that they took out. No call may be open. No row changes.
+/// If the border of the key `place` is empty, makes tidies there, at most `MAX_TIDIES`, until one takes nothing out or the
+/// border isn't empty any more, and then frees the nodes that they took out. No call may be open. No row changes.
 ///
 /// Costs the visit of each node on the way to the key, and the steps of the tidies, if there are any. Allocates nothing
 /// but a copy of the key for each tidy.
@@ -65,8 +77,7 @@ pub fn tidy_after(alloc: Global, machine: &mut Machine, place: Key)
     ensures purges { PurgesIfEmptied machine.old place machine.new }
     ensures idle { IsIdle machine.new }
 {
-    let _stands = machine.is_idle();
-    if !is_emptied(machine.tree(), &place) {
+    if !is_left_empty(machine, &place) {
         return;
     }
     tidy_all(alloc, machine, place);

@@ -183,7 +183,8 @@ read_is s t request (Err refusal) (same, read, why) ample =
 
 call_is : (s t : Store) (request : Request) (result : Result Reply Refusal) → 0 < s.machine.log.feed → NoneBehind 0 s → CallEnds s request result t → IsAmple (call_response result) → IsAnswer s.machine.columns (now s) (Call request) (call_response result)
 call_is s t request result feed close (inl runs) ample = runs_is s t request result feed close runs ample
-call_is s t request result feed close (inr read) ample = read_is s t request result read ample
+call_is s t request result feed close (inr (inl read)) ample = read_is s t request result read ample
+call_is s t request result feed close (inr (inr (within, short, same))) ample = absurd (subst (λ (r : Result Reply Refusal). IsAmple (call_response r)) short ample)
 
 -- ---- pages and drops
 shows : (C : ℕ) (m : Moment) (v : StandingView) (start : List ℕ) (limit : ℕ) (behind : Bool) (result : Result Page Refusal) → MayShow C m v start limit (refused_if behind (Behind v.at)) (page_outcome result) → IsAmple (page_response result)

@@ -111,7 +111,10 @@ same_after s t request (Err refusal) read = read.0
 
 call_close : (s t : Store) (request : Request) (result : Result Reply Refusal) → NoneBehind 0 s → CallEnds s request result t → NoneBehind 1 t × (changes (call_response result) ≡ false → NoneBehind 0 t)
 call_close s t request result close (inl runs) = runs_close s t request result close runs
-call_close s t request result close (inr read) =
+call_close s t request result close (inr (inr (within, short, same))) =
+    let still : NoneBehind 0 t = subst (NoneBehind 0) (sym same) close in
+    (close_more (newest t) (newest t) 1 (now t).views (omega arith) still, λ none. still)
+call_close s t request result close (inr (inl read)) =
     let still : NoneBehind 0 t = subst (NoneBehind 0) (sym (same_after s t request result read)) close in
     (close_more (newest t) (newest t) 1 (now t).views (omega arith) still, λ none. still)
 
@@ -137,7 +140,8 @@ tidy_none map n key _ made plain = absurd plain
 
 tidy_quiet : (s t : Store) (key : List ℕ) (result : Result Reply Refusal) → CallEnds s (Tidy key) result t → changes (call_response result) ≡ false
 tidy_quiet s t key (Ok reply) (inl done) = tidy_none (rows s.machine.columns (now s)) (newest s) key reply.answer done.plain.made done.plain.plain
-tidy_quiet s t key (Ok reply) (inr (same, read, within, plain)) = absurd read
+tidy_quiet s t key (Ok reply) (inr (inl (same, read, within, plain))) = absurd read
+tidy_quiet s t key (Ok reply) (inr (inr (within, short, same))) = absurd within
 tidy_quiet s t key (Err refusal) ends = refl
 
 once_close : (s t : Store) (key : List ℕ) (took : Bool) → NoneBehind 0 s → TidiesPlainlyOnce s key took t → NoneBehind 0 t
@@ -167,7 +171,7 @@ tidied_close s t (Call (Remove key)) close (inl done) =
     let (before, (other, later)) = done.advances.0 in
     let tidied : NoneBehind 0 done.tidied = elim done.tidies [
       | inl most ↦ tidies_close s done.tidied key MAX_TIDIES close most
-      | inr fewer ↦ (let (tidies, less, m, before, one) = fewer in once_close m done.tidied key false (tidies_close s m key tidies close before) one)
+      | inr fewer ↦ (let (tidies, less, m, before, (took, one)) = fewer in once_close m done.tidied key took (tidies_close s m key tidies close before) one)
     ] in
     let advanced : NoneBehind 0 done.next =
     subst (λ (h : History). Close 0 (length (moment h).commits) (moment h).views) (sym later)

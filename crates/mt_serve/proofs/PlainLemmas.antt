@@ -43,9 +43,13 @@ drive_rises s t p q request (Err refusal) d = elim d.refused [
   | inr cut ↦ runs_rise s t p q (whole p.number request cut.call cut.steps cut.last) cut.runs
 ]
 
+same_rise : (s t : KeptView) → t ≡ s → s.events ≤ t.events
+same_rise s t is = let equal = ap (λ (k : KeptView). k.events) is in omega (arith, equal)
+
 asks_rise : (s t : KeptView) (p q : PassView) (query : Query) (response : Response) → Asks Does ReadsNow s p query response t q → s.events ≤ t.events
-asks_rise s t p q (Call request) response (result, inl (must, drive), is) = drive_rises s t p q request result drive
-asks_rise s t p q (Call request) response (result, inr read, is) =
+asks_rise s t p q (Call request) response (result, inl (inl (must, drive)), is) = drive_rises s t p q request result drive
+asks_rise s t p q (Call request) response (result, inr (within, short, same, pass), is) = same_rise s t same
+asks_rise s t p q (Call request) response (result, inl (inr read), is) =
     let equal = ap (λ (k : KeptView). k.events) (read_same s t p q request result read) in omega (arith, equal)
 asks_rise s t p q (ViewRead view floor start limit) response (result, does, is) = does_rises s t p q (ReadOf view floor start limit) (page_outcome result) does
 asks_rise s t p q (ViewDrop view) response (result, does, is) = does_rises s t p q (DropOf view) (drop_outcome result) does
@@ -54,31 +58,28 @@ keeps_rise : (s t : KeptView) (p q : PassView) → KeepsViews Does s p t q → s
 keeps_rise s t p q (inl (applied, kept)) = runs_rise s t p q (kept.turned.turns ++ kept.last) kept.turned.runs
 keeps_rise s t p q (inr (refusal, stopped)) = runs_rise s t p q (stopped.turned.turns ++ turn p.number (Refused refusal) ∷ []) stopped.turned.runs
 
-same_rise : (s t : KeptView) → t ≡ s → s.events ≤ t.events
-same_rise s t is = let equal = ap (λ (k : KeptView). k.events) is in omega (arith, equal)
-
 once_rise : (s t : KeptView) (p q : PassView) (key : List ℕ) (took : Bool) → TidiesOnce Does s p key took t q → s.events ≤ t.events
 once_rise s t p q key took (inl (result, drive, is)) = drive_rises s t p q (Tidy key) result drive
 once_rise s t p q key took (inr (none, is, same)) = same_rise s t is
 
-tidies_rise : (s t : KeptView) (p q : PassView) (key : List ℕ) (tidies : ℕ) → Tidies Does s p key tidies t q → s.events ≤ t.events
+tidies_rise : (s t : KeptView) (p q : PassView) (key : List ℕ) (tidies : ℕ) → Tidies Does Looks s p key tidies t q → s.events ≤ t.events
 tidies_rise s t p q key zero (is, same) = same_rise s t is
-tidies_rise s t p q key (suc tidies) (m, r, before, one) =
+tidies_rise s t p q key (suc tidies) (m, r, before, one, still) =
     let a = tidies_rise s m p r key tidies before in
     let b = once_rise m t r q key true one in omega (arith, a, b)
 
-tidies_all_rise : (s t : KeptView) (p q : PassView) (key : List ℕ) → TidiesAll Does s p key t q → s.events ≤ t.events
+tidies_all_rise : (s t : KeptView) (p q : PassView) (key : List ℕ) → TidiesAll Does Looks s p key t q → s.events ≤ t.events
 tidies_all_rise s t p q key (inl all) = tidies_rise s t p q key MAX_TIDIES all
-tidies_all_rise s t p q key (inr (tidies, fewer, m, r, before, one)) =
+tidies_all_rise s t p q key (inr (tidies, fewer, m, r, before, (took, one, last))) =
     let a = tidies_rise s m p r key tidies before in
-    let b = once_rise m t r q key false one in omega (arith, a, b)
+    let b = once_rise m t r q key took one in omega (arith, a, b)
 
 frees_rise : (s t : KeptView) (p q : PassView) → Frees Does s p t q → s.events ≤ t.events
 frees_rise s t p q (m, r, next, freed, advances, collects) =
     let a = does_rises s m p r Advance next advances in
     let b = does_rises m t r q Collect freed collects in omega (arith, a, b)
 
-emptied_rise : (s t : KeptView) (p q : PassView) (key : List ℕ) (empty : Bool) → MatchBool empty (Purges Does s p key t q) ((t ≡ s) × (q ≡ p)) → s.events ≤ t.events
+emptied_rise : (s t : KeptView) (p q : PassView) (key : List ℕ) (empty : Bool) → MatchBool empty (Purges Does Looks s p key t q) ((t ≡ s) × (q ≡ p)) → s.events ≤ t.events
 emptied_rise s t p q key true (m, r, all, frees) =
     let a = tidies_all_rise s m p r key all in
     let b = frees_rise m t r q frees in omega (arith, a, b)
@@ -86,7 +87,7 @@ emptied_rise s t p q key false (is, same) = same_rise s t is
 
 purges_rise : (s t : KeptView) (p q : PassView) (query : Query) → PurgesFor Does Looks query s p t q → s.events ≤ t.events
 purges_rise s t p q (Call (Remove key)) (inl (empty, looks, by)) = emptied_rise s t p q key empty by
-purges_rise s t p q (Call (Remove key)) (inr (is, same)) = same_rise s t is
+purges_rise s t p q (Call (Remove key)) (inr (none, is, same)) = same_rise s t is
 purges_rise s t p q _ same = same_rise s t same.0
 
 then_rise : (s t : KeptView) (p q : PassView) (query : Query) (b : Bool) → MatchBool b (Follows Does Looks query s p t q) ((t ≡ s) × (q ≡ p)) → s.events ≤ t.events
@@ -131,12 +132,18 @@ few_left number (v ∷ views) =
     elim (cases_Bool (v.number == number)) [ inl b ↦ rw b (omega (arith, rest)) | inr b ↦ rw b (omega (arith, rest)) ]
 
 asks_plainly : (s t : KeptView) (p q : PassView) (h : History) (query : Query) (response : Response) → IsAlone s p h → t.events < greatest_number → Asks Does ReadsNow s p query response t q → IsAsked (store_of s h) query response t q
-asks_plainly s t p q h (Call request) response a few (result, inl (must, drive), is) =
+asks_plainly s t p q h (Call request) response a few (result, inl (inl (must, drive)), is) =
     let (final, alone, columns, ends) = drive_ends s t p q h request result a few drive in
     record { final = final; alone = alone; columns = columns; plain = (result, inl ends, is) }
-asks_plainly s t p q h (Call request) response a few (result, inr read, is) =
+asks_plainly s t p q h (Call request) response a few (result, inl (inr read), is) =
     let (alone, ends) = read_ends s t p q h request result a read in
-    record { final = h; alone = alone; columns = ap (λ (k : KeptView). k.machine.columns) (read_same s t p q request result read); plain = (result, inr ends, is) }
+    record { final = h; alone = alone; columns = ap (λ (k : KeptView). k.machine.columns) (read_same s t p q request result read); plain = (result, inr (inl ends), is) }
+asks_plainly s t p q h (Call request) response a few (result, inr (within, short, same, pass), is) = record {
+  final = h;
+  alone = subst (λ (k : KeptView). IsAlone k q h) (sym same) (subst (λ (v : PassView). IsAlone s v h) (sym pass) a);
+  columns = ap (λ (k : KeptView). k.machine.columns) same;
+  plain = (result, inr (inr (within, short, ap (λ (k : KeptView). store_of k h) same)), is);
+}
 asks_plainly s t p q h (ViewRead view floor start limit) response a few (result, does, is) =
     let went = goes s t p q h (ReadOf view floor start limit) (page_outcome result) (keeping s p h a) few refl does in
     record {
@@ -193,11 +200,11 @@ once_plainly s t p q h key took a few (inl (result, drive, is)) =
 once_plainly s t p q h key took a few (inr (none, is, same)) =
     alone_still s t p q h (TidiesPlainlyOnce (store_of s h) key took) a is same (inr (none, ap (λ (k : KeptView). store_of k h) is))
 
-tidies_plainly : (s t : KeptView) (p q : PassView) (h : History) (key : List ℕ) (tidies : ℕ) → IsAlone s p h → t.events < greatest_number → Tidies Does s p key tidies t q
+tidies_plainly : (s t : KeptView) (p q : PassView) (h : History) (key : List ℕ) (tidies : ℕ) → IsAlone s p h → t.events < greatest_number → Tidies Does Looks s p key tidies t q
     → ThenAlone s.machine.columns (TidiesPlainly (store_of s h) key tidies) t q
 tidies_plainly s t p q h key zero a few (is, same) =
     alone_still s t p q h (TidiesPlainly (store_of s h) key zero) a is same (ap (λ (k : KeptView). store_of k h) is)
-tidies_plainly s t p q h key (suc tidies) a few (m, r, before, one) =
+tidies_plainly s t p q h key (suc tidies) a few (m, r, before, one, still) =
     let rises = once_rise m t r q key true one in
     let so_far = tidies_plainly s m p r h key tidies a (omega (arith, few, rises)) before in
     let last = once_plainly m t r q so_far.final key true so_far.alone few one in
@@ -205,25 +212,25 @@ tidies_plainly s t p q h key (suc tidies) a few (m, r, before, one) =
 
 abbrev AllPlainly : Store → List ℕ → Store → Type 0
 AllPlainly s key t = TidiesPlainly s key MAX_TIDIES t
-    ⊎ ((tidies : ℕ) × (tidies < MAX_TIDIES) × (m : Store) × TidiesPlainly s key tidies m × TidiesPlainlyOnce m key false t)
+    ⊎ ((tidies : ℕ) × (tidies < MAX_TIDIES) × (m : Store) × TidiesPlainly s key tidies m × ((took : Bool) × TidiesPlainlyOnce m key took t))
 
-tidies_all_plainly : (s t : KeptView) (p q : PassView) (h : History) (key : List ℕ) → IsAlone s p h → t.events < greatest_number → TidiesAll Does s p key t q
+tidies_all_plainly : (s t : KeptView) (p q : PassView) (h : History) (key : List ℕ) → IsAlone s p h → t.events < greatest_number → TidiesAll Does Looks s p key t q
     → ThenAlone s.machine.columns (AllPlainly (store_of s h) key) t q
 tidies_all_plainly s t p q h key a few (inl all) =
     let done = tidies_plainly s t p q h key MAX_TIDIES a few all in
     record { final = done.final; alone = done.alone; columns = done.columns; plain = inl done.plain }
-tidies_all_plainly s t p q h key a few (inr (tidies, fewer, m, r, before, one)) =
-    let rises = once_rise m t r q key false one in
+tidies_all_plainly s t p q h key a few (inr (tidies, fewer, m, r, before, (took, one, ends))) =
+    let rises = once_rise m t r q key took one in
     let so_far = tidies_plainly s m p r h key tidies a (omega (arith, few, rises)) before in
-    let last = once_plainly m t r q so_far.final key false so_far.alone few one in
+    let last = once_plainly m t r q so_far.final key took so_far.alone few one in
     record {
       final = last.final;
       alone = last.alone;
       columns = last.columns ∙ so_far.columns;
-      plain = inr (tidies, fewer, store_of m so_far.final, so_far.plain, last.plain);
+      plain = inr (tidies, fewer, store_of m so_far.final, so_far.plain, (took, last.plain));
     }
 
-emptied_plainly : (s t : KeptView) (p q : PassView) (h : History) (key : List ℕ) (empty : Bool) → IsAlone s p h → t.events < greatest_number → MatchBool empty (Purges Does s p key t q) ((t ≡ s) × (q ≡ p))
+emptied_plainly : (s t : KeptView) (p q : PassView) (h : History) (key : List ℕ) (empty : Bool) → IsAlone s p h → t.events < greatest_number → MatchBool empty (Purges Does Looks s p key t q) ((t ≡ s) × (q ≡ p))
     → ThenAlone s.machine.columns (MayBeTidied (Call (Remove key)) (store_of s h)) t q
 emptied_plainly s t p q h key true a few (m, r, all, (n, v, next, freed, advances, collects)) =
     let last = does_rises n t v q Collect freed collects in
@@ -259,7 +266,7 @@ emptied_plainly s t p q h key false a few (is, same) =
 purges_plainly : (s t : KeptView) (p q : PassView) (h : History) (query : Query) → IsAlone s p h → t.events < greatest_number → PurgesFor Does Looks query s p t q
     → ThenAlone s.machine.columns (MayBeTidied query (store_of s h)) t q
 purges_plainly s t p q h (Call (Remove key)) a few (inl (empty, looks, by)) = emptied_plainly s t p q h key empty a few by
-purges_plainly s t p q h (Call (Remove key)) a few (inr (is, same)) =
+purges_plainly s t p q h (Call (Remove key)) a few (inr (none, is, same)) =
     alone_still s t p q h (MayBeTidied (Call (Remove key)) (store_of s h)) a is same (inr (ap (λ (k : KeptView). store_of k h) is))
 purges_plainly s t p q h _ a few same =
     alone_still s t p q h (λ (x : Store). x ≡ store_of s h) a same.0 same.1 (ap (λ (k : KeptView). store_of k h) same.0)

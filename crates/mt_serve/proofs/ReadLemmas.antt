@@ -20,6 +20,7 @@ use Rattle.mt_shared.specs.Passes.{PassView}
 use Rattle.mt_shared.specs.Kept.{KeptView, IsRefusedBy}
 use Rattle.mt_shared.specs.Reads.{IsRead, IsPlainNow, IsReadNow, IsToldNow, MustDrive, ReadsNow, read_reply}
 use Rattle.mt_shared.proofs.ReadLemmas.{unbroken}
+use Rattle.mt_shared.specs.Tidies.{RemovesWithin}
 use Rattle.mt_serve.specs.Plain.{AloneReadsAtOnce, IsAlone, IsReadAtOnce, store_of}
 
 -- if no call is open in the history, none is in the machine
@@ -98,6 +99,13 @@ never_driven s p h request a off read (inl other) = other read
 never_driven s p h request a off read (inr none) =
     let some = none.may.1 (read, (a.own, ap changing (no_entries s.machine h a.stands a.ended), off)) in absurd (cc some)
 
+-- a get or a range is no remove
+reads_none : (request : Request) → IsRead request → RemovesWithin request → ⊥
+reads_none (Get key asked) read within = within
+reads_none (Range start limit asked) read within = within
+reads_none _ read within = absurd read
+
 pub reads_at_once : AloneReadsAtOnce
-reads_at_once s t p q h request response a off read (result, inl (must, drive), is) = absurd (never_driven s p h request a off read must)
-reads_at_once s t p q h request response a off read (result, inr now, is) = (result, (read_ends s t p q h request result a now).1, is)
+reads_at_once s t p q h request response a off read (result, inl (inl (must, drive)), is) = absurd (never_driven s p h request a off read must)
+reads_at_once s t p q h request response a off read (result, inl (inr now), is) = (result, (read_ends s t p q h request result a now).1, is)
+reads_at_once s t p q h request response a off read (result, inr (within, short, same, pass), is) = absurd (reads_none request read within)

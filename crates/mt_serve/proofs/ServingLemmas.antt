@@ -1,5 +1,5 @@
 -- Queries, frames that have been answered so far.
-use Rattle.std.proofs.Common.{◌≡◌, inr, ℕ, suc, ◌+◌, ◌*◌, ◌≤◌, List, [], ◌∷◌, ◌++◌, length, fold, refl, ap, subst, sym, ◌∙◌, arith, append_assoc, append-nil, length-append, Option, None, Some, IfSome, Bool, true, false}
+use Rattle.std.proofs.Common.{◌≡◌, inl, inr, ℕ, suc, ◌+◌, ◌*◌, ◌≤◌, List, [], ◌∷◌, ◌++◌, length, fold, refl, ap, subst, sym, ◌∙◌, arith, append_assoc, append-nil, length-append, Option, None, Some, IfSome, Bool, true, false}
 use Rattle.std.specs.Prelude.{sum_by, ⊤, Result, Ok, Err, IfOk, MatchBool}
 use Rattle.std.specs.List.{AllByRecursion}
 use Rattle.std.specs.Io.KnownBytes.{Appends}
@@ -65,10 +65,16 @@ follows_by does looks request m n t v w q false (is, same) (more, other) = (more
 
 pub driven_answers : {S : Type 0} (does : EventLaw S) (shows : ReadLaw S) (looks : LookLaw S) (s t : S) (p r q : PassView) (request : Request) (result : Result Reply Refusal)
     → MustDrive shows s p.number request × (r ≡ p) → IsDriveTidied does looks s r request 64 result t q → Answers does shows looks s p (Call request) (call_response result) t q
-driven_answers does shows looks s t p r q request result must (n, w, (m, v, drive, kept), purges) = (
+driven_answers does shows looks s t p r q request result must (inr (within, short, same, pass)) = (
+  t,
+  q,
+  (result, inr (within, short, same, pass ∙ must.1), refl),
+  subst (λ (b : Bool). MatchBool b (Follows does looks (Call request) t q t q) ((t ≡ t) × (q ≡ q))) (sym (ap (λ (r : Result Reply Refusal). changes (call_response r)) short)) (refl, refl),
+)
+driven_answers does shows looks s t p r q request result must (inl (n, w, (m, v, drive, kept), purges)) = (
   m,
   v,
-  (result, driven_call does shows s m p r v request result must drive, refl),
+  (result, inl (driven_call does shows s m p r v request result must drive), refl),
   subst (λ (b : Bool). MatchBool b (Follows does looks (Call request) m v t q) ((t ≡ m) × (q ≡ v))) (same_change result)
       (follows_by does looks request m n t v w q (has_changed result) kept purges),
 )

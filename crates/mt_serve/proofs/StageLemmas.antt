@@ -28,12 +28,12 @@ use Rattle.mt_write.specs.declared.writing.Halves.{Halves}
 use Rattle.mt_write.specs.declared.writing.Ending.{Ending}
 use Rattle.mt_write.specs.declared.writing.Ending.TheVariants.{Stored as EndStored, Failed as EndFailed}
 use Rattle.mt_write.specs.declared.writing.Stage.{Stage}
-use Rattle.mt_write.specs.declared.writing.Stage.TheVariants.{Seeks, Enters, Rightward, Searched, Copies, GivesBack, Spared, HalfLinked, Halved, Posts, Layered, Filled, Made, Taken, Stored, Failed}
+use Rattle.mt_write.specs.declared.writing.Stage.TheVariants.{Seeks, Enters, Rightward, Searched, Copies, GivesBack, Spared, HalfLinked, Halved, Posts, Layered, Filled, Made, Taken, Hidden, Stored, Failed}
 use Rattle.mt_post.specs.declared.posting.Posting.{Posting}
 use Rattle.mt_write.specs.Held.{ending_stage}
 use Rattle.mt_write.specs.Writing.{entered_stage}
 use Rattle.mt_write.specs.Causes.{edit_fault, fill_fault, FailsBy, StageFails}
-use Rattle.mt_write.specs.Follows.{EndsRefused, StageFollows, StageRests}
+use Rattle.mt_write.specs.Follows.{EndsRefused, StageFollows, StageRests, committed_stage}
 use Rattle.mt_write.specs.Splitting.{copied_stage}
 use Rattle.mt_works.specs.declared.work.Work.{Work}
 use Rattle.mt_works.specs.declared.work.Work.TheVariants.{Get, Write}
@@ -146,6 +146,8 @@ module _ (P : Refusal → Type 0) where
     moved (Filled place stored logged split) new e never fails says = absurd never
     moved (Made place stored columns logged) new e never fails says = absurd never
     moved (Taken place stored before) new e never fails says = absurd never
+    moved (Hidden commit) new e (inl is, to) fails says = subst StageSays (sym is) tt
+    moved (Hidden commit) new e (inr is, to) fails says = subst StageSays (sym is) tt
     moved _ new e stays fails says = subst StageSays (sym stays.0) tt
 
     rests : (stage new : Stage) → StageRests a way stage next new → StageSays stage → StageSays new
@@ -168,8 +170,13 @@ module _ (P : Refusal → Type 0) where
   work_rests a log _ (Write new) follows says = absurd follows
   work_rests a log work _ follows says = tt
 
+  -- a commit is no failure
+  committed_says : (number : ℕ) (stage : Stage) → StageSays (committed_stage number stage)
+  committed_says number (Taken place stored before) = tt
+  committed_says number _ = tt
+
   pub work_commits : (a : ArenaView) (log : LogView) (work new : Work) (number : ℕ) → WorkFollows a log work (Committed number) new → WorkSays new
-  work_commits a log (Write write) (Write new) number follows = subst StageSays (sym follows.1.0) tt
+  work_commits a log (Write write) (Write new) number follows = subst StageSays (sym follows.1.0) (committed_says number write.stage)
   work_commits a log _ (Write new) number follows = absurd follows
   work_commits a log work _ number follows = tt
 

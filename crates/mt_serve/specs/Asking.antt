@@ -7,7 +7,7 @@ use Rattle.mt_types.specs.declared.view.Page.{Page}
 use Rattle.mt_shared.specs.Passes.{PassView}
 use Rattle.mt_shared.specs.Drives.{EventLaw}
 use Rattle.mt_shared.specs.Reads.{ReadLaw, IsCall}
-use Rattle.mt_shared.specs.Tidies.{LookLaw, PurgesAfter}
+use Rattle.mt_shared.specs.Tidies.{IsShort, LookLaw, PurgesAfter}
 use Rattle.mt_index.specs.Viewing.{page_outcome}
 use Rattle.mt_shared.specs.Turns.{drop_outcome, KeepsUp, IsStopped}
 use Rattle.mt_wire.specs.declared.query.Query.{Query}
@@ -35,11 +35,12 @@ drop_response (Err refusal) = Refused refusal
 
 -- ---- one query
 
--- A call is read at once if it may be, and else driven from its begin to its end; a page is read, or a view dropped, by
--- one event. This is the answer.
+-- A call is read at once if it may be, and else driven from its begin to its end, unless memory is short before a remove;
+-- a page is read, or a view dropped, by one event. This is the answer.
 abbrev pub Asks : {S : Type 0} → EventLaw S → ReadLaw S → S → PassView → Query → Response → S → PassView → Type 0
 Asks does shows s p (Call request) response t q =
-    (result : Result Reply Refusal) × IsCall does shows s p request result t q × (response ≡ call_response result)
+    (result : Result Reply Refusal) × (IsCall does shows s p request result t q ⊎ IsShort s p request result t q)
+    × (response ≡ call_response result)
 Asks does shows s p (ViewRead view floor start limit) response t q =
     (result : Result Page Refusal) × does s p (ReadOf view floor start limit) (page_outcome result) t q
     × (response ≡ page_response result)

@@ -31,7 +31,7 @@ use Rattle.mt_shared.specs.declared.trace.Trace.TheVariants.{Off}
 use Rattle.mt_shared.specs.Passes.{PassView, IsNewPass}
 use Rattle.mt_shared.specs.Kept.{KeptView, Does, IsFresh, has_book}
 use Rattle.mt_shared.specs.Reads.{IsRead, ReadsNow}
-use Rattle.mt_shared.specs.Tidies.{Looks, has_taken_out}
+use Rattle.mt_shared.specs.Tidies.{Looks, RemovesWithin, has_taken_out}
 use Rattle.mt_shared.specs.declared.tidying.TheConstants.{MAX_TIDIES}
 use Rattle.mt_index.specs.Viewing.{page_outcome}
 use Rattle.mt_shared.specs.Turns.{drop_outcome, furthest}
@@ -91,9 +91,14 @@ IsReadAtOnce s request (Err refusal) t =
     (t ≡ s) × IsRead request
     × MatchOption (request_fault s.machine.columns request) (refusal ≡ NoMemory) (λ due. refusal ≡ due)
 
+-- memory for a copy of its key was refused before a remove that breaks no limit, and nothing happened
+abbrev pub IsNotBegun : Store → Request → Result Reply Refusal → Store → Type 0
+IsNotBegun s request result t = RemovesWithin request × (result ≡ Err NoMemory) × (t ≡ s)
+
 -- a call has ended
 abbrev pub CallEnds : Store → Request → Result Reply Refusal → Store → Type 0
-CallEnds s request result t = CallRuns s request result t ⊎ IsReadAtOnce s request result t
+CallEnds s request result t =
+    CallRuns s request result t ⊎ (IsReadAtOnce s request result t ⊎ IsNotBegun s request result t)
 
 -- this event happened, and its outcome is one that it may have
 abbrev pub OneHappens : Store → Event → Outcome → Store → Type 0
@@ -152,13 +157,13 @@ abbrev pub TidiesPlainly : Store → List ℕ → ℕ → Store → Type 0
 TidiesPlainly s key zero t = t ≡ s
 TidiesPlainly s key (suc tidies) t = (m : Store) × TidiesPlainly s key tidies m × TidiesPlainlyOnce m key true t
 
--- THE STORE IS TIDIED: by such calls, until one takes nothing out, and at most MAX_TIDIES; then the epoch advances, and
--- nodes are freed. None of it is a change.
+-- THE STORE IS TIDIED: by such calls, at most MAX_TIDIES, each but the last of which takes something out; then the epoch
+-- advances, and nodes are freed. None of it is a change.
 pub record IsTidied (s : Store) (key : List ℕ) (t : Store) : Type 0 where
   pub tidied : Store
   pub tidies : TidiesPlainly s key MAX_TIDIES tidied
       ⊎ ((tidies : ℕ) × (tidies < MAX_TIDIES) × (m : Store) × TidiesPlainly s key tidies m
-      × TidiesPlainlyOnce m key false tidied)
+      × ((took : Bool) × TidiesPlainlyOnce m key took tidied))
   pub next : Store
   pub advanced : Outcome
   pub advances : OneHappens tidied Advance advanced next

@@ -1,5 +1,6 @@
 pub mod HappeningLemmas
 pub mod KeptLemmas
+pub mod TidiedLemmas
 pub mod ToldLemmas
 pub mod DriveLemmas
 pub mod RunCounts

@@ -124,15 +124,17 @@ fn drive_and_turn<S: Shared>(
 /// views are kept up again after a later change.
 ///
 /// If it has removed a row, tidies follow removes here (`Options`), and the border of the key is then empty, tidies at
-/// its place follow, at most `MAX_TIDIES`, until one takes nothing out. The nodes are then freed that no open call can
-/// still visit. So memory comes back as rows are removed. What the tidies come to changes nothing of the reply.
+/// its place follow, at most `MAX_TIDIES`, until one takes nothing out or the border isn't empty any more. The nodes are
+/// then freed that no open call can still visit. So memory comes back as rows are removed. What the tidies come to
+/// changes nothing of the reply.
 ///
 /// Over a `ThroughDoor` the lock is held once for the call and the turns, if the call ends in its first run. After a
 /// remove it is held once more, together with other reads, for a look at the border.
 ///
 /// # Errors
 ///
-/// Those of [`crate::driving::drive`].
+/// Those of [`crate::driving::drive`]. Also `NoMemory` if memory for a copy of the key of a remove is refused: then
+/// nothing has happened.
 pub fn drive_and_keep<S: Shared>(
     alloc: Global,
     shared: &mut S,
@@ -143,7 +145,7 @@ pub fn drive_and_keep<S: Shared>(
     ensures kept { IsDriveTidied S.does S.looks shared.old pass.old request turns result shared.new pass.new }
     ensures limited { IfOk result (λ reply. AnswerIsLimited reply.answer) }
 {
-    let place = place_of(&request);
+    let place = place_of(&request)?;
     let ended = drive_and_turn(alloc, shared, pass, request, turns);
     if has_changed(&ended) {
         if let Some(place) = place {

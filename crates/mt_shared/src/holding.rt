@@ -10,6 +10,7 @@ use crate::index::Index;
 use crate::kept::Kept;
 use crate::pass::Pass;
 use crate::through::ThroughDoor;
+use crate::turn::Taken;
 use mt_types::event::{Answer, Event, Outcome, Request};
 use mt_types::key::Key;
 use mt_types::numbers::{CallNo, PassNo};
@@ -36,7 +37,8 @@ pub struct HoldingDoor<'a, W> {
 enum Held<'a> {
     Nothing,
     Reads(RwLockReadGuard<'a, Kept>),
-    Changes(RwLockWriteGuard<'a, Kept>),
+    // (the turn is given back after the lock)
+    Changes(RwLockWriteGuard<'a, Kept>, Taken<'a>),
 }
 
 // (how the lock is kept is no part of what contracts see)
@@ -64,7 +66,7 @@ impl<'a, W: Wait> Shared for HoldingDoor<'a, W> {
     /// under it too. After `Nothing` it isn't held.
     fn hold(&mut self, hold: Hold) {
         match (&self.held, hold) {
-            (Held::Reads(_), Hold::Reads) | (Held::Changes(_), Hold::Reads | Hold::Changes) =>
+            (Held::Reads(_), Hold::Reads) | (Held::Changes(_, _), Hold::Reads | Hold::Changes) =>
                 return,
             _ => {}
         }
@@ -74,7 +76,10 @@ impl<'a, W: Wait> Shared for HoldingDoor<'a, W> {
         self.held = match hold {
             Hold::Nothing => Held::Nothing,
             Hold::Reads => Held::Reads(index.kept.read(wait)),
-            Hold::Changes => Held::Changes(index.kept.write(wait)),
+            Hold::Changes => {
+                let turn = index.turn.take();
+                Held::Changes(index.kept.write(wait), turn)
+            }
         };
     }
 
@@ -84,7 +89,7 @@ impl<'a, W: Wait> Shared for HoldingDoor<'a, W> {
     /// Makes one `Kept::event`, if the event frees nodes or advances the epoch and the lock is kept for changes; otherwise
     /// releases it, and does what `ThroughDoor::event` does.
     fn event(&mut self, alloc: Global, pass: &mut Pass, event: &Event) -> Outcome {
-        if let (Held::Changes(kept), Event::Advance | Event::Collect) = (&mut self.held, event) {
+        if let (Held::Changes(kept, _), Event::Advance | Event::Collect) = (&mut self.held, event) {
             return kept.event(alloc, pass, event);
         }
         self.held = Held::Nothing;
@@ -94,7 +99,7 @@ impl<'a, W: Wait> Shared for HoldingDoor<'a, W> {
     /// Makes one `Kept::begin`, if the request is a tidy and the lock is kept for changes; otherwise releases it, and does
     /// what `ThroughDoor::begin` does.
     fn begin(&mut self, alloc: Global, pass: &mut Pass, request: Request) -> Started {
-        if let (Held::Changes(kept), Request::Tidy { .. }) = (&mut self.held, &request) {
+        if let (Held::Changes(kept, _), Request::Tidy { .. }) = (&mut self.held, &request) {
             let started = kept.begin(alloc, pass, request, self.door.most);
             if matches!(started, Started::Ran(_, Outcome::Again)) {
                 self.held = Held::Nothing;
@@ -108,7 +113,7 @@ impl<'a, W: Wait> Shared for HoldingDoor<'a, W> {
     /// Makes one `Kept::change`, if the lock is kept for changes; otherwise releases it, and does what
     /// `ThroughDoor::change` does.
     fn change(&mut self, alloc: Global, pass: &mut Pass, request: Request, turns: u64) -> Changed {
-        if let Held::Changes(kept) = &mut self.held {
+        if let Held::Changes(kept, _) = &mut self.held {
             let changed = kept.change(alloc, pass, request, self.door.most, turns);
             if matches!(changed, Changed::Started(Started::Ran(_, Outcome::Again))) {
                 self.held = Held::Nothing;
@@ -138,7 +143,7 @@ impl<'a, W: Wait> Shared for HoldingDoor<'a, W> {
         match &self.held {
             Held::Nothing => self.door.read(alloc, pass, request),
             Held::Reads(kept) => kept.read(alloc, pass, request),
-            Held::Changes(kept) => kept.read(alloc, pass, request),
+            Held::Changes(kept, _) => kept.read(alloc, pass, request),
         }
     }
 
@@ -150,7 +155,7 @@ impl<'a, W: Wait> Shared for HoldingDoor<'a, W> {
         match &self.held {
             Held::Nothing => self.door.is_emptied(key),
             Held::Reads(kept) => kept.is_emptied(key),
-            Held::Changes(kept) => kept.is_emptied(key),
+            Held::Changes(kept, _) => kept.is_emptied(key),
         }
     }
 }

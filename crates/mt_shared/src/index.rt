@@ -15,6 +15,7 @@ use crate::moment::Moment;
 use crate::pass::Pass;
 use crate::settling::Totals;
 use crate::trace::Entry;
+use crate::turn::Turn;
 use mt_index::options::Options;
 use mt_types::event::{Answer, Event, Outcome, Request};
 use mt_types::key::Key;
@@ -30,6 +31,8 @@ use std::sync::{RwLock, Wait};
 /// An index that many threads share. Contracts see it as the number of its columns.
 pub struct Index {
     columns: u64,
+    // (a thread takes the turn before it asks for the lock alone)
+    pub(crate) turn: Turn,
     pub(crate) kept: RwLock<Kept>,
 }
 
@@ -46,6 +49,7 @@ impl Drop for Index {
     fn drop(self) {
         let Index {
             columns: _,
+            turn: _,
             kept: _,
         } = self;
     }
@@ -113,6 +117,7 @@ impl Index {
         let passes = new_passes(alloc, passes as u16, traced)?;
         let index = Index {
             columns: options.columns,
+            turn: Turn::new(),
             kept: RwLock::new(kept),
         };
         Ok((index, passes))
@@ -155,7 +160,11 @@ impl Index {
         ensures kept { IfOk result (λ kept. IsKept kept × (kept.machine.columns ≡ self)) }
         ensures refused { IfErr result (λ refusal. refusal ≡ Refusal.WrongPass) }
     {
-        let Index { columns, kept } = self;
+        let Index {
+            columns,
+            turn: _turn,
+            kept,
+        } = self;
         let kept = kept.into_inner();
         if u64::from(kept.columns()) != columns {
             return Err(Refusal::WrongPass);
@@ -237,6 +246,7 @@ impl<'a, W: Wait> Shared for Door<'a, W> {
     /// Holds the lock once, for one `Kept::event`.
     fn event(&mut self, alloc: Global, pass: &mut Pass, event: &Event) -> Outcome {
         let index = self.index;
+        let _turn = index.turn.take();
         index.kept.write(self.wait).event(alloc, pass, event)
     }
 

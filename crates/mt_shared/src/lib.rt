@@ -20,4 +20,5 @@ pub mod settling;
 pub mod through;
 mod tidying;
 pub mod trace;
+mod turn;
 pub mod views;

@@ -60,6 +60,7 @@ impl<'a, W: Wait> Shared for ThroughDoor<'a, W> {
     /// Holds the lock once, for one `Kept::begin`.
     fn begin(&mut self, alloc: Global, pass: &mut Pass, request: Request) -> Started {
         let index = self.door.index;
+        let _turn = index.turn.take();
         let mut kept = index.kept.write(self.door.wait);
         kept.begin(alloc, pass, request, self.most)
     }
@@ -67,6 +68,7 @@ impl<'a, W: Wait> Shared for ThroughDoor<'a, W> {
     /// Holds the lock once, for one `Kept::change`.
     fn change(&mut self, alloc: Global, pass: &mut Pass, request: Request, turns: u64) -> Changed {
         let index = self.door.index;
+        let _turn = index.turn.take();
         let mut kept = index.kept.write(self.door.wait);
         kept.change(alloc, pass, request, self.most, turns)
     }
@@ -74,6 +76,7 @@ impl<'a, W: Wait> Shared for ThroughDoor<'a, W> {
     /// Holds the lock once, for one `Kept::go`.
     fn go(&mut self, alloc: Global, pass: &mut Pass, call: CallNo) -> Outcome {
         let index = self.door.index;
+        let _turn = index.turn.take();
         let mut kept = index.kept.write(self.door.wait);
         kept.go(alloc, pass, call, self.most)
     }

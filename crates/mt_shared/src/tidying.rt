@@ -1,18 +1,21 @@
 //! The tidies that follow a remove: they take out what it has left empty, and what they take out is freed.
 
-ghost use Rattle.std.specs.Prelude.{◌≡◌, IfSome};
+ghost use Rattle.std.specs.Prelude.{◌≡◌, ◌<◌, ◌≤◌, IfErr, IfOk, IfSome, None, Ok, length};
+ghost use Rattle.mt_types.specs.declared.limits.TheConstants.{MAX_KEY_BYTES};
 ghost use Rattle.mt_types.specs.declared.event.Request.TheVariants.{Remove};
 ghost use Rattle.mt_index.specs.Alone.{IsQuiet};
 ghost use Rattle.mt_shared.specs.Kept.{IsKept};
-ghost use Rattle.mt_shared.specs.Tidies.{Frees, Looks, PurgesIfEmptied, TidiesAll, TidiesOnce, has_taken_out, takes_out};
+ghost use Rattle.mt_shared.specs.Tidies.{Frees, Looks, PurgesIfEmptied, RemovesNone, RemovesWithin, TidiesAll, TidiesOnce, has_taken_out, takes_out};
 
 use crate::driving::{NoGate, Shared, drive};
 use crate::kept::Kept;
 use crate::pass::Pass;
+use bytes::Bytes;
 use mt_types::copying::TryCopy;
 use mt_types::event::{Answer, Event, Reply, Request, TidyRule};
 use mt_types::key::Key;
-use mt_types::refusal::Refusal;
+use mt_types::limits::MAX_KEY_BYTES;
+use mt_types::refusal::{NoMemory, Refusal};
 use mt_walk::is_emptied;
 use std::alloc::Global;
 
@@ -60,13 +63,35 @@ fn has_taken_out(ended: &Result<Reply, Refusal>) -> bool
     }
 }
 
-/// Returns a copy of the key that a request removes, if it is a remove. If memory for it is refused, returns `None`.
-pub(crate) fn place_of(request: &Request) -> Option<Key>
-    ensures { IfSome result (λ key. request.now ≡ Remove key) }
+// Returns a copy of a key, or `None` if it is too long. Copies no bytes.
+fn place_of_key(key: &Bytes) -> Result<Option<Key>, NoMemory>
+    ensures some { IfOk result (λ found. IfSome found (λ place. place ≡ key.now)) }
+    ensures none { result ≡ Ok None → MAX_KEY_BYTES < length key.now }
+    ensures err { IfErr result (λ _. length key.now ≤ MAX_KEY_BYTES) }
+{
+    if key.len() > MAX_KEY_BYTES {
+        return Ok(None);
+    }
+    match Key::new(key.clone()?) {
+        Ok(place) => Ok(Some(place)),
+        Err(_) => unreachable!(),
+    }
+}
+
+/// Returns a copy of the key at which tidies may follow a request, or `None` if it is no remove, or its key is too long.
+/// Copies no bytes.
+///
+/// # Errors
+///
+/// `NoMemory` if memory for it is refused.
+pub(crate) fn place_of(request: &Request) -> Result<Option<Key>, NoMemory>
+    ensures some { IfOk result (λ found. IfSome found (λ key. request.now ≡ Remove key)) }
+    ensures none { result ≡ Ok None → RemovesNone request.now }
+    ensures err { IfErr result (λ _. RemovesWithin request.now) }
 {
     match request {
-        Request::Remove { key } => Key::new(key.clone().ok()?).ok(),
-        _ => None,
+        Request::Remove { key } => place_of_key(key),
+        _ => Ok(None),
     }
 }
 
@@ -82,12 +107,16 @@ fn tidy_once<S: Shared>(alloc: Global, shared: &mut S, pass: &mut Pass, key: &Ke
     has_taken_out(&ended)
 }
 
-// Drives tidies at the place of a key, one after the other, until one takes nothing out.
+// Drives tidies at the place of a key, one after the other, until one takes nothing out, or a look says that the border
+// there isn't empty any more.
 fn tidy_all<S: Shared>(alloc: Global, shared: &mut S, pass: &mut Pass, key: &Key)
-    ensures { TidiesAll S.does shared.old pass.old key.now shared.new pass.new }
+    ensures { TidiesAll S.does S.looks shared.old pass.old key.now shared.new pass.new }
 {
     for _ in 0..MAX_TIDIES {
         if !tidy_once(alloc, shared, pass, key) {
+            return;
+        }
+        if !shared.is_emptied(key) {
             return;
         }
     }
@@ -103,7 +132,8 @@ fn free<S: Shared>(alloc: Global, shared: &mut S, pass: &mut Pass)
 }
 
 /// If a look says that the border of `key` is empty, drives tidies at its place, at most `MAX_TIDIES`, until one takes
-/// nothing out, and then frees the nodes that no open call can still visit. No row changes.
+/// nothing out or the border isn't empty any more, and then frees the nodes that no open call can still visit. No row
+/// changes.
 pub(crate) fn tidy_after<S: Shared>(alloc: Global, shared: &mut S, pass: &mut Pass, key: &Key)
     ensures { PurgesIfEmptied S.does S.looks shared.old pass.old key.now shared.new pass.new }
 {

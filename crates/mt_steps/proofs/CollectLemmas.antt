@@ -10,7 +10,7 @@ use Rattle.mt_border.specs.Border.{BorderView}
 use Rattle.mt_interior.specs.Head.{HeadView}
 use Rattle.mt_interior.specs.Interior.{InteriorView}
 use Rattle.mt_arena.specs.Node.{Nodes, node_at, head_of, interior_of, border_at, border_of, Updates}
-use Rattle.mt_arena.specs.Arena.{ArenaView, IsArena, nodes_left, without_first_retired}
+use Rattle.mt_arena.specs.Arena.{ArenaView, IsArena, FreesFirst}
 use Rattle.mt_arena.specs.declared.retired.Retired.{Retired}
 use Rattle.mt_arena.specs.declared.node.Node.{Node}
 use Rattle.mt_arena.proofs.NodeLemmas.{updates-without}
@@ -114,13 +114,10 @@ pub record Frees (now : ℕ) (a after : ArenaView) (w next : World) (retired_in 
 
 -- Each interior that is taken and gone went after the node was retired: so it is where each call that is open began later, and what is taken is
 -- owned by one of them.
-module _ (a : ArenaView) (now : ℕ) (w : World) (node : Retired) (others : List Retired) (sound : IsArena a) (world : IsWorld a now w) (is : a.retired ≡ node ∷ others) (frees : FreesNode a (without_first_retired a) node.node.0)
+module _ (a : ArenaView) (now : ℕ) (w : World) (node : Retired) (others : List Retired) (sound : IsArena a) (world : IsWorld a now w) (is : a.retired ≡ node ∷ others) (after : ArenaView) (freed : FreesFirst a after) (frees : FreesNode a after node.node.0)
     (later_gone : (number : ℕ) → IsTaken a w number → (below : ℕ) (prefix : List ℕ) (low epoch : ℕ) → w.chart number ≡ Some (spot (at_level (suc below)) prefix low (gone epoch)) → node.epoch < epoch) where
   abbrev n : ℕ
   n = node.node.0
-
-  abbrev after : ArenaView
-  after = without_first_retired a
 
   abbrev next : World
   next = record { twins = w.twins; closing = w.closing; chart = without_spot w.chart n }
@@ -137,14 +134,15 @@ module _ (a : ArenaView) (now : ℕ) (w : World) (node : Retired) (others : List
   named : IsSome (node_at a.nodes n)
   named = All-head (λ (r : Retired). IsSome (node_at a.nodes r.node.0)) node others (subst (λ (l : List Retired). All (λ (r : Retired). IsSome (node_at a.nodes r.node.0)) l) is sound.retired.named)
 
-  nodes_are : after.nodes ≡ set a.nodes n None
-  nodes_are = ap (λ (l : List Retired). nodes_left a.nodes l) is
+  both_are : ◌≡◌ {A = List Retired} (freed.first ∷ after.retired) (node ∷ others)
+  both_are = sym freed.retired ∙ is
 
   updated : Updates a.nodes after.nodes n None
-  updated = subst (λ (x : Nodes). Updates a.nodes x n None) (sym nodes_are) (updates-without a.nodes n named)
+  updated = let same : freed.first ≡ node = (let both = both_are in cc) in
+      subst (λ (r : Retired). Updates a.nodes after.nodes r.node.0 None) same freed.updates
 
   retired_are : after.retired ≡ others
-  retired_are = ap (drop 1) is
+  retired_are = let both = both_are in cc
 
   apart : All (λ (r : Retired). r.node.0 ≢ n) others
   apart = apart_from_first node others (subst (λ (l : List Retired). AllPairs (λ (r later : Retired). r.node.0 ≢ later.node.0) l) is sound.retired.once)

@@ -1,21 +1,29 @@
 -- What a collection frees, and what it leaves to open calls.
-use Rattle.std.specs.Prelude.{ℕ, zero, suc, ◌≡◌, ◌<◌, ◌≤◌, List, length, take, drop, All, Some}
-use Rattle.mt_arena.specs.Arena.{ArenaView, without_first_retired}
+use Rattle.std.specs.Prelude.{ℕ, suc, ◌≡◌, ◌==◌, ◌<◌, ◌≤◌, if◌then◌else◌, List, [], ◌∷◌, length, take, drop, All, Option, Some, None}
+use Rattle.mt_arena.specs.Arena.{ArenaView}
+use Rattle.mt_arena.specs.Node.{Nodes, node_at}
+use Rattle.mt_arena.specs.declared.node.Node.{Node}
+use Rattle.mt_arena.specs.declared.retired.Retired.{Retired}
 use Rattle.mt_chart.specs.Chart.{at_level, spot, gone, Evolves}
 use Rattle.mt_chart.specs.Steps.{SameContent}
 use Rattle.mt_tree.specs.Seen.{arena_seen}
 use Rattle.mt_steps.specs.World.{World, IsWorld, IsTaken, IsSame, BordersAge}
 
--- the arena after the given number of its retired nodes, from the first on, are given back: their numbers name nothing
-abbrev pub given_back : ℕ → ArenaView → ArenaView
-given_back zero a = a
-given_back (suc count) a = without_first_retired (given_back count a)
+-- what a number names once these nodes are freed: nothing, if it is one of theirs
+abbrev pub named_without : List Retired → Nodes → ℕ → Option Node
+named_without [] nodes number = node_at nodes number
+named_without (freed ∷ others) nodes number =
+    if number == freed.node.0 then None else named_without others nodes number
+
+-- the first `count` retired nodes of an arena are freed, and nothing else is changed
+pub record GivesBack (count : ℕ) (a after : ArenaView) : Type 0 where
+  pub nodes : (number : ℕ) → node_at after.nodes number ≡ named_without (take count a.retired) a.nodes number
+  pub rest : after.retired ≡ drop count a.retired
 
 -- EXACTLY THE NODES THAT WERE RETIRED BEFORE the epoch are freed, the first `count` ones, and nothing else is changed
 pub record IsCollected (a after : ArenaView) (before count : ℕ) : Type 0 where
   pub few : count ≤ length a.retired
-  pub left : after ≡ given_back count a
-  pub rest : after.retired ≡ drop count a.retired
+  pub left : GivesBack count a after
   pub freed : All (λ node. node.epoch < before) (take count a.retired)
   pub kept : All (λ node. before ≤ node.epoch) after.retired
 

@@ -9,15 +9,15 @@ use Rattle.mt_slice.specs.Place.{Place, deeper, first_slice, place_of}
 use Rattle.mt_types.specs.declared.row.Row.{Row}
 use Rattle.mt_types.specs.declared.numbers.NodeNo.{NodeNo}
 use Rattle.mt_word.specs.Version.{number_of}
-use Rattle.mt_border.specs.Entry.{entry_suffix, content_with_row, with_row, with_link}
+use Rattle.mt_border.specs.Entry.{entry_suffix, content_with_row, no_row, with_row, with_link}
 use Rattle.mt_border.specs.Table.{blank_slot, picked, number_at, next_number, slot_changed, with_entry, filled}
-use Rattle.mt_border.specs.Border.{BorderView, first_held, first_suffix, suffix_at, inserting_version, with_locked, with_unlocked, with_deleted, with_inserting, with_key, with_filled, with_shown, with_hidden, with_value, with_unstable, with_link_at, with_splitting, with_half_linked, with_written, with_right}
+use Rattle.mt_border.specs.Border.{BorderView, first_held, first_suffix, suffix_at, inserting_version, with_locked, with_unlocked, with_deleted, with_inserting, with_key, with_filled, with_shown, with_hidden, with_forgotten, with_value, with_unstable, with_link_at, with_splitting, with_half_linked, with_written, with_right}
 use Rattle.mt_border.specs.Keys.{entry_key, key_seen}
 use Rattle.mt_border.specs.Order.{IsBorder, AwaitsValue}
 use Rattle.mt_border.proofs.BorderLemmas.{awaits}
 use Rattle.mt_border.specs.Slots.{slot_at, is_live, held_at}
 use Rattle.mt_border.proofs.TableLemmas.{length-picked, picked_at}
-use Rattle.mt_border.proofs.SlotLemmas.{live_count, seen_filled, seen_hidden, seen_changed, seen_split, seen_shown}
+use Rattle.mt_border.proofs.SlotLemmas.{live_count, seen_filled, seen_next_changed, seen_hidden, seen_changed, seen_split, seen_shown}
 use Rattle.mt_border.proofs.ChangeLemmas.{changed_there, changed_elsewhere, first_held_is_next, shown_other, shown_lives_other, number_within, number_live}
 use Rattle.mt_border.proofs.FieldLemmas.{live_entry_in}
 use Rattle.mt_border.specs.declared.entry.Content.{Content}
@@ -31,8 +31,9 @@ use Rattle.mt_chart.specs.Tree.{Among, first, later, Below, no_right, before_rig
 use Rattle.mt_chart.proofs.Basics.{same_number}
 use Rattle.mt_chart.specs.Noted.{SlotSeen, FieldsSeen, AreSlots, IsSameKey, KeepsSlot, StaysQuiet, Ages}
 use Rattle.mt_tree.specs.Seen.{entry_seen, entries_seen, right_seen}
+use Rattle.mt_tree.specs.BorderSteps.{MayForget}
 use Rattle.mt_tree.specs.Fields.{slot_seen, fields_seen, HasSlots, BorderChanges}
-use Rattle.mt_tree.proofs.OneFieldLemmas.{one_version, one_right, one_same, one_keyed, one_filled, one_shown, one_hidden, one_half_linked, one_unstable, one_written, one_value, one_link}
+use Rattle.mt_tree.proofs.OneFieldLemmas.{one_version, one_right, one_same, one_keyed, one_filled, one_shown, one_hidden, one_forgotten, one_half_linked, one_unstable, one_written, one_value, one_link}
 
 -- ---- what is live stands in the border
 among_seen : (entries : List Entry) (entry : Entry) (i : ℕ) → i < length entries → get_or entries i entry ≡ entry → Among (entry_seen entry) (entries_seen entries)
@@ -185,6 +186,17 @@ fields_hidden : (b : BorderView) (place : ℕ) → Ages (fields_seen b) (fields_
 fields_hidden b place =
     still (fields_seen b) (fields_seen (with_hidden b place)) refl refl refl refl (λ d. d) (beside (fields_seen b) (fields_seen (with_hidden b place)) (λ k h. h) (λ k h. refl) (λ k h lives. hidden_lives b.order.live place k lives) (λ slice below. below))
 
+-- THE ROW OF THE FIRST UNUSED SLOT IS DROPPED: the border is not quiet
+fields_forgotten : (b : BorderView) → b.version.inserting ≡ true → Ages (fields_seen b) (fields_seen (with_forgotten b))
+fields_forgotten b flagged = record {
+  inserts = omega arith;
+  splits = omega arith;
+  inserted = λ set not. let clash : true ≡ false = sym set ∙ not in absurd (cc);
+  split = λ set not. let clash : true ≡ false = sym set ∙ not in absurd (cc);
+  deleted = λ d. d;
+  quiet = λ v q r. let clash : true ≡ false = sym flagged ∙ q.no_insert in absurd (cc);
+}
+
 -- THE BORDER IS MARKED for a split: it is then not quiet
 fields_splitting : (b : BorderView) → Ages (fields_seen b) (fields_seen (with_splitting b))
 fields_splitting b = record {
@@ -307,6 +319,12 @@ ages_shown b h room place version fresh written = record { ages = record { low =
 
 pub ages_hidden : {commit : Option ℕ} (b : BorderView) (place : ℕ) → b.unwritten ≡ Nothing → BorderChanges commit b (with_hidden b place)
 ages_hidden b place written = record { ages = record { low = refl; fields = fields_hidden b place; slots = λ seen. seen_hidden b.live b.unused b.slots b.order seen place }; one = one_hidden b place written }
+
+pub ages_forgotten : {commit : Option ℕ} (b : BorderView) → IsBorder b → MayForget b → BorderChanges commit b (with_forgotten b)
+ages_forgotten b h may = record {
+  ages = record { low = refl; fields = fields_forgotten b may.marked; slots = λ seen. seen_next_changed b.live b.unused b.slots b.order seen (with_entry (with_row no_row)) may.room };
+  one = one_forgotten b h may.room;
+}
 
 pub ages_splitting : {commit : Option ℕ} (b : BorderView) → BorderChanges commit b (with_splitting b)
 ages_splitting b = record { ages = record { low = refl; fields = fields_splitting b; slots = λ seen. seen }; one = one_version b _ }

@@ -2,7 +2,7 @@
 -- unwritten, keeps the tree at each chart.
 use Rattle.std.proofs.Common.{ℕ, zero, suc, ◌≡◌, List, [], Option, Some, None, true, Result, Ok, Err, OnOk, OnErr, refl, ap, sym, subst, ◌∙◌}
 use Rattle.std.specs.Option.{option_map}
-use Rattle.mt_border.specs.Border.{BorderView, first_held, with_inserting, with_key, with_filled, with_locked, with_unlocked, with_deleted, with_splitting, with_unstable, with_written}
+use Rattle.mt_border.specs.Border.{BorderView, first_held, with_inserting, with_key, with_filled, with_forgotten, with_locked, with_unlocked, with_deleted, with_splitting, with_unstable, with_written}
 use Rattle.mt_border.specs.Order.{IsBorder}
 use Rattle.mt_types.specs.declared.row.Row.{Row}
 use Rattle.mt_border.specs.Entry.{entry_with}
@@ -115,6 +115,9 @@ mark_keeps a number b is sound = marked_keeps a number b (with_deleted b) is (re
 
 pub key_keeps : (a : ArenaView) (number : ℕ) (b : BorderView) (key : SlotKey) → border_at a.nodes number ≡ Some b → IsBorder (with_key b key) → KeepsTree a (with_node_at a number (Border (with_key b key)))
 key_keeps a number b key is sound = marked_keeps a number b (with_key b key) is (record { low = refl; right = refl; live = refl; deleted = λ marked. marked }) sound
+
+pub forgotten_keeps : (a : ArenaView) (number : ℕ) (b : BorderView) → border_at a.nodes number ≡ Some b → IsBorder (with_forgotten b) → KeepsTree a (with_node_at a number (Border (with_forgotten b)))
+forgotten_keeps a number b is sound = marked_keeps a number b (with_forgotten b) is (record { low = refl; right = refl; live = refl; deleted = λ marked. marked }) sound
 
 pub splitting_keeps : (a : ArenaView) (number : ℕ) (b : BorderView) → border_at a.nodes number ≡ Some b → IsBorder (with_splitting b) → KeepsTree a (with_node_at a number (Border (with_splitting b)))
 splitting_keeps a number b is sound = marked_keeps a number b (with_splitting b) is (record { low = refl; right = refl; live = refl; deleted = λ marked. marked }) sound

@@ -7,9 +7,9 @@ use Rattle.mt_types.specs.declared.row.Row.{Row}
 use Rattle.mt_types.specs.declared.numbers.NodeNo.{NodeNo}
 use Rattle.mt_word.specs.Slots.{Slots, with_first_unused_at}
 use Rattle.mt_word.specs.Version.{VersionView}
-use Rattle.mt_border.specs.Entry.{content_with, entry_with, content_with_row, content_at_version, entry_suffix, with_row, with_link}
+use Rattle.mt_border.specs.Entry.{content_with, entry_with, content_with_row, content_at_version, entry_suffix, no_row, with_row, with_link}
 use Rattle.mt_border.specs.Table.{number_at, next_number, with_entry, filled, shown}
-use Rattle.mt_border.specs.Border.{BorderView, first_held, suffix_at, with_key, with_filled, with_shown, with_hidden, with_value, with_unstable, with_link_at, with_half_linked, with_written, with_right}
+use Rattle.mt_border.specs.Border.{BorderView, first_held, suffix_at, with_key, with_filled, with_shown, with_hidden, with_forgotten, with_value, with_unstable, with_link_at, with_half_linked, with_written, with_right}
 use Rattle.mt_border.specs.Keys.{KeyView, entry_key, key_seen, unstable, unstable_with}
 use Rattle.mt_border.specs.Order.{IsBorder}
 use Rattle.mt_border.specs.Slots.{slot_at, is_live, key_in, key_at, order_in, order_shown}
@@ -218,6 +218,27 @@ module _ (b : BorderView) (h : IsBorder b) (room : length b.live < 15) where
       values = λ k ne. ap (λ (s : Slot). s.entry.content) (changed_elsewhere b.slots next k (filled entry) (apart_value next k ne));
     },
   )
+
+  -- or no row is left there
+  pub one_forgotten : {commit : Option ℕ} → ChangesOneField commit b (with_forgotten b)
+  one_forgotten = inl (
+    ValueField next,
+    record {
+      layer = refl;
+      version = λ ne. refl;
+      right = λ ne. refl;
+      order = λ ne. refl;
+      keys = λ k ne. ap (λ (own : KeyView). key_in b.unwritten (next_number b.order) k own) (own_key k);
+      values = λ k ne. ap (λ (s : Slot). s.entry.content) (changed_elsewhere b.slots next k (with_entry (with_row no_row)) (apart_value next k ne));
+    },
+  )
+    where
+      own_key : (k : ℕ) → own_at (with_forgotten b) k ≡ own_at b k
+      own_key k = elim (same_number k next) [
+        | inl e ↦ subst (λ (m : ℕ). own_at (with_forgotten b) m ≡ own_at b m) (sym e)
+            (ap (λ (s : Slot). entry_key s.entry) (changed_there b.slots next (with_entry (with_row no_row)) next_within) ∙ key_with_row no_row (slot_at b next).entry.slice (slot_at b next).entry.content)
+        | inr differ ↦ ap (λ (s : Slot). entry_key s.entry) (changed_elsewhere b.slots next k (with_entry (with_row no_row)) differ)
+      ]
 
   -- THE ORDER, when that slot is shown, whose row is stamped
   pub one_shown : b.unwritten ≡ Nothing → first_held b.unused ≡ false → (place version : ℕ) → ChangesOneField (Some version) b (with_shown b place version)

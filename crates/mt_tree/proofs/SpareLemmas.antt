@@ -7,7 +7,7 @@ use Rattle.mt_types.specs.declared.numbers.NodeNo.{NodeNo}
 use Rattle.mt_types.specs.declared.refusal.Refusal.{Refusal}
 use Rattle.mt_border.specs.Border.{BorderView}
 use Rattle.mt_arena.specs.Node.{Nodes, node_at, border_at, Updates}
-use Rattle.mt_arena.specs.Arena.{ArenaView, with_node_at, nodes_left, without_first_retired, IsArena}
+use Rattle.mt_arena.specs.Arena.{ArenaView, with_node_at, FreesFirst, IsArena}
 use Rattle.mt_arena.specs.declared.retired.Retired.{Retired}
 use Rattle.mt_arena.specs.declared.node.Node.TheVariants.{Border}
 use Rattle.mt_arena.proofs.NodeLemmas.{updates-without}
@@ -83,13 +83,8 @@ first_of [] first got = absurd (cc)
 first_of (other ∷ later) first got = let same : other ≡ first = cc in ap (λ (r : Retired). r ∷ later) same
 
 -- the node that was retired first is freed
-pub frees_first : (a after : ArenaView) (first : Retired) → slice_get a.retired 0 ≡ Some first → after ≡ without_first_retired a → IsArena a → FreesNode a after first.node.0
-frees_first a after first got same sound =
-    let is = first_of a.retired first got in
-    let named = All-head (λ (r : Retired). IsSome (node_at a.nodes r.node.0)) first (drop 1 a.retired) (subst (λ (rs : List Retired). All (λ (r : Retired). IsSome (node_at a.nodes r.node.0)) rs) is sound.retired.named) in
-    let updates = updates-without a.nodes first.node.0 named in
-    let left : after.nodes ≡ slice_set a.nodes first.node.0 None = ap (λ (x : ArenaView). x.nodes) same ∙ ap (nodes_left a.nodes) is in
-    frees_node a after first.node.0 (record {
-      changed = ap (λ (ns : Nodes). node_at ns first.node.0) left ∙ updates.changed;
-      others = λ other apart. ap (λ (ns : Nodes). node_at ns other) left ∙ updates.others other apart;
-    })
+pub frees_first : (a after : ArenaView) (first : Retired) → slice_get a.retired 0 ≡ Some first → FreesFirst a after → FreesNode a after first.node.0
+frees_first a after first got freed =
+    let both : ◌≡◌ {A = List Retired} (freed.first ∷ after.retired) (first ∷ drop 1 a.retired) = sym freed.retired ∙ first_of a.retired first got in
+    let same : freed.first ≡ first = cc in
+    subst (λ (r : Retired). FreesNode a after r.node.0) same (frees_node a after freed.first.node.0 freed.updates)

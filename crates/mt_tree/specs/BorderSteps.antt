@@ -36,6 +36,13 @@ pub record MayWriteKey (b : BorderView) (key : SlotKey) : Type 0 where
 abbrev pub AwaitsSome : BorderView → Type 0
 AwaitsSome b = (key : SlotKey) × (b.unwritten ≡ Value key)
 
+-- THE ROW OF THE FIRST UNUSED SLOT IS DROPPED: the border has such a slot, and is marked, so that no call takes what it
+-- reads there for the row
+pub record MayForget (b : BorderView) : Type 0 where
+  pub room : length b.live < SLOTS
+  pub marked : b.version.inserting ≡ true
+  pub written : b.unwritten ≡ Nothing
+
 -- A ROW IS SHOWN. The border has room, its first unused slot holds a row, whose key and value are written, and once that
 -- is live at the place, the border is in order and in its interval.
 pub record MayShowAt (b : BorderView) (place version : ℕ) : Type 0 where

@@ -1,7 +1,7 @@
 //! What a call changes in a border node, and what each change keeps of the whole tree.
 
 ghost use Rattle.std.specs.Prelude.{◌≡◌, ◌↔◌, [], Some, true, false, IsSomeAnd, IsTrue, IsErr, OnOk, OnErr, IfErr, length, ◌<◌};
-ghost use Rattle.mt_border.specs.Border.{with_locked, with_unlocked, with_deleted, with_inserting, with_key, with_filled, with_shown, with_hidden, with_value, with_right, insert_is_spent, row_at};
+ghost use Rattle.mt_border.specs.Border.{with_locked, with_unlocked, with_deleted, with_inserting, with_key, with_filled, with_shown, with_hidden, with_forgotten, with_value, with_right, insert_is_spent, row_at};
 ghost use Rattle.mt_word.specs.declared.permutation_word.TheConstants.{SLOTS};
 ghost use Rattle.mt_border.specs.Order.{IsBorder};
 ghost use Rattle.mt_border.specs.declared.unwritten.Unwritten.TheVariants.{Nothing, Value};
@@ -10,7 +10,7 @@ ghost use Rattle.mt_border.specs.Entry.{entry_with};
 ghost use Rattle.mt_arena.specs.Node.{border_at};
 ghost use Rattle.mt_arena.specs.Arena.{with_border_changed};
 ghost use Rattle.mt_tree.specs.Keeping.{KeepsTree};
-ghost use Rattle.mt_tree.specs.BorderSteps.{MayWriteKey, AwaitsSome, MayShowAt, ShowsNext, HasRowAt, HidesRowAt, SetsRowAt, MayUnlink, UnlinksAt};
+ghost use Rattle.mt_tree.specs.BorderSteps.{MayWriteKey, AwaitsSome, MayForget, MayShowAt, ShowsNext, HasRowAt, HidesRowAt, SetsRowAt, MayUnlink, UnlinksAt};
 
 use crate::tree::Tree;
 use mt_border::{RightLink, SlotKey};
@@ -18,7 +18,7 @@ use mt_types::numbers::NodeNo;
 use mt_types::refusal::Refusal;
 use mt_types::row::Row;
 
-#[tactic(auto, using(crate::proofs::SeenLemmas::sound_border, crate::proofs::BorderMarks::lock_keeps, crate::proofs::BorderMarks::unlock_keeps, crate::proofs::BorderMarks::mark_keeps, crate::proofs::BorderMarks::key_keeps, crate::proofs::BorderRows::shows_next, crate::proofs::BorderRows::hides_at, crate::proofs::BorderRows::sets_at))]
+#[tactic(auto, using(crate::proofs::SeenLemmas::sound_border, crate::proofs::BorderMarks::lock_keeps, crate::proofs::BorderMarks::unlock_keeps, crate::proofs::BorderMarks::mark_keeps, crate::proofs::BorderMarks::key_keeps, crate::proofs::BorderMarks::forgotten_keeps, crate::proofs::BorderRows::shows_next, crate::proofs::BorderRows::hides_at, crate::proofs::BorderRows::sets_at))]
 impl Tree {
     /// Locks a border. Constant cost.
     pub fn lock_border(&mut self, number: NodeNo)
@@ -115,6 +115,17 @@ impl Tree {
     {
         let border = self.arena.border_mut(number);
         border.hide(place);
+    }
+
+    /// Drops the row that the first unused slot of a border holds, which is marked as one into which keys are being
+    /// inserted. Constant cost.
+    pub fn forget_row(&mut self, number: NodeNo)
+        requires { IsSomeAnd (border_at self.old.nodes number.0) MayForget }
+        ensures value { self.new ≡ with_border_changed self.old number.0 with_forgotten }
+        ensures sound { IsSomeAnd (border_at self.new.nodes number.0) IsBorder }
+        ensures keeps { KeepsTree self.old self.new }
+    {
+        self.arena.border_mut(number).forget_row();
     }
 
     /// Replaces the row of the entry at a place of a border, which has one, and returns the old row. Constant cost.

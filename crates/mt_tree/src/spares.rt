@@ -5,7 +5,7 @@ ghost use Rattle.mt_types.specs.declared.limits.TheConstants.{MAX_NODES};
 ghost use Rattle.mt_border.specs.Border.{with_entries};
 ghost use Rattle.mt_border.specs.Order.{IsBorder};
 ghost use Rattle.mt_arena.specs.Node.{node_at, border_at, occupied, Updates};
-ghost use Rattle.mt_arena.specs.Arena.{without_node, with_retired, without_first_retired, with_border_changed, IsArena};
+ghost use Rattle.mt_arena.specs.Arena.{without_node, with_retired, FreesFirst, with_border_changed, IsArena};
 ghost use Rattle.mt_tree.specs.Keeping.{KeepsTree, KeepsUnknown, IsUnknown, FreesNode};
 ghost use Rattle.mt_tree.specs.Spares.{MayFill};
 
@@ -80,11 +80,12 @@ impl Tree {
         self.arena.first_retired()
     }
 
-    /// Frees the node that was retired first, and returns its number. Constant cost.
+    /// Frees the node that was retired first, and returns its number. Constant cost, but for a move of all nodes when few
+    /// are left of those for which there is room.
     pub fn free_first_retired(&mut self) -> NodeNo
         requires { 0 < length self.old.retired }
         ensures first { IsSomeAnd (slice_get self.old.retired 0) (λ first. result ≡ first.node) }
-        ensures value { self.new ≡ without_first_retired self.old }
+        ensures value { FreesFirst self.old self.new }
         ensures frees { FreesNode self.old self.new result.0 }
     {
         let Some(first) = self.arena.first_retired() else {

@@ -28,7 +28,7 @@ use Rattle.mt_steps.specs.declared.way.Way.{Way}
 use Rattle.mt_write.specs.declared.writing.Edit.{Edit}
 use Rattle.mt_write.specs.declared.writing.Edit.TheVariants.{Put as PutEdit, Remove as RemoveEdit}
 use Rattle.mt_write.specs.declared.writing.Stage.{Stage}
-use Rattle.mt_write.specs.declared.writing.Stage.TheVariants.{Searched, Filled, Made, Taken, Stored, Failed}
+use Rattle.mt_write.specs.declared.writing.Stage.TheVariants.{Searched, Filled, Made, Taken, Stored, Hidden, Failed}
 use Rattle.mt_write.specs.declared.writing.Halves.{Halves}
 use Rattle.mt_steps.specs.declared.entering.There.{There}
 use Rattle.mt_steps.specs.declared.progress.Progress.{Progress}
@@ -38,7 +38,8 @@ use Rattle.mt_steps.specs.Way.{rest_of, prefix_of, IsLayerOf}
 use Rattle.mt_steps.specs.Step.{Held, Truth, StepLaw, RowIs, IsQuiet, put_row, Commits, Changes, blocked_by, bounds, MayRefuse, TellsVersion, IsRight}
 use Rattle.mt_write.specs.Causes.{version_fault}
 use Rattle.mt_write.specs.Held.{edit_request, written_answer, stage_held, owned}
-use Rattle.mt_write.specs.Writing.{Tells, IsLockedAt, HasLocked, IsFound, StageIsTrue}
+use Rattle.mt_write.specs.Writing.{Tells, IsLockedAt, HasHidden, FirstHeld, HasLocked, IsFound, StageIsTrue}
+use Rattle.mt_write.proofs.ForgetLemmas.{hidden_is}
 use Rattle.mt_write.specs.Ready.{PreparesRemove, LacksRow, put_delta, remove_delta}
 use Rattle.mt_steps.specs.World.{IsLockedBorder}
 use Rattle.mt_steps.proofs.FrameLemmas.{goes_same, quiet_same}
@@ -208,9 +209,12 @@ module _ (C : ℕ) (a : ArenaView) (log : LogView) (key : List ℕ) (edit : Edit
         };
   }
 
+  abbrev HideLaw : ArenaView → LogView → ℕ → Stage → Type 0
+  HideLaw after left number stage = StepLaw C a after log left (edit_request key edit) (stage_held way.node.0 stage) (Committed number) (stage_held way.node.0 (Hidden number)) (λ begun moves past x w. StageIsTrue C key edit way stage begun x w) (λ begun moves past x w. StageIsTrue C key edit way (Hidden number) begun x w)
+
   pub hides : (place : ℕ) (stored : List ℕ) (before : Row) (number : ℕ) (after : ArenaView) (left : LogView) → number ≡ newest log + 1
       → after ≡ with_border_changed a way.node.0 (λ b. with_hidden b place) → HidesRowAt a after way.node.0 place
-      → left ≡ with_delta log (remove_delta (newest log + 1) stored before) → 1 ≤ log.reserved → CommitLaw after left number None (Taken place stored before)
+      → left ≡ with_delta log (remove_delta (newest log + 1) stored before) → 1 ≤ log.reserved → HideLaw after left number (Taken place stored before)
   hides place stored before number after left next is hidden appended room = record {
     steps = λ now begun moves past w world early truth.
         let (b, at, f) = truth in
@@ -224,10 +228,11 @@ module _ (C : ℕ) (a : ArenaView) (log : LogView) (key : List ℕ) (edit : Edit
         next
         (appended ∙ (ap (λ (n : ℕ). with_delta log (remove_delta n stored before)) (sym next) ∙ ap (λ (k : List ℕ). with_delta log (remove_delta number k before)) f.stored_is)) in
         record {
-          goes = subst (λ (x : ArenaView). GoesBy (Some number) now a x w (way.node.0 ∷ []) (way.node.0 ∷ []) (λ next. StageIsTrue C key edit way (Stored number None) begun after next)) (sym is)
+          goes = subst (λ (x : ArenaView). GoesBy (Some number) now a x w (way.node.0 ∷ []) (way.node.0 ∷ []) (λ next. StageIsTrue C key edit way (Hidden number) begun after next)) (sym is)
               (goes_border a way.node.0 b hide at.named now w (way.node.0 ∷ []) (way.node.0 ∷ []) _ world (λ known. (ages_hidden b place at.written, inr refl)) (subst (λ (x : ArenaView). IsIndexAt x now w.twins w.chart) is removes.0)
               (subst (λ (x : ArenaView). RowsAreOfKeys x) is (keys_changed a after log left key (Some before) None number done world.keys)) (own_free a way.node.0 w) (λ other i. inl i) (λ other ne i. i) (λ locked. first) (locked_may a way.node.0 b hide at.named now w world at.locked at.free (inr at.alive))
-              (subst (λ (x : ArenaView). HasLocked (prefix_of key way) x w way.node.0 None) (sym is) (has_changed (prefix_of key way) a way.node.0 b hide at.named w None at.locked at.alive at.written refl (alone a key way b w at))));
+              (subst (λ (x : ArenaView). HasHidden FirstHeld x w way.node.0) (sym is)
+              (hidden_is a w way.node.0 b place at.named (known_on (arena_seen a) w.chart way.node.0 (prefix_of key way) (border_seen b) at.stands.stands) at.locked at.alive at.written at.free f.sound (slice_get_within b.live place e.entry e.stands))));
           does = (
             subst (λ (x : Edit). Commits C a after log left (edit_request key x) number) (sym f.is_remove) (
               before,

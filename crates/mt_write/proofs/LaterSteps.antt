@@ -31,7 +31,7 @@ use Rattle.mt_write.specs.declared.writing.Layer.{Layer}
 use Rattle.mt_write.specs.declared.writing.Ending.{Ending}
 use Rattle.mt_write.specs.declared.writing.Ending.TheVariants.{Stored as EndStored, Failed as EndFailed}
 use Rattle.mt_write.specs.declared.writing.Stage.{Stage}
-use Rattle.mt_write.specs.declared.writing.Stage.TheVariants.{Seeks, Copies, Spared, HalfFilled, HalfLinked, Halved, Posts, LayerSpared, LayerFilled, LayerReady, LayerMarked, LayerLinked, Layered, Reserved, KeyWritten, Filled, Made, Stored, Failed}
+use Rattle.mt_write.specs.declared.writing.Stage.TheVariants.{Seeks, Copies, Spared, HalfFilled, HalfLinked, Halved, Posts, LayerSpared, LayerFilled, LayerReady, LayerMarked, LayerLinked, Layered, Reserved, KeyWritten, Filled, Made, Stored, Hidden, Forgets, Failed}
 use Rattle.mt_write.specs.Held.{write_held, written_answer, ending_stage}
 use Rattle.mt_write.specs.Writing.{WriteIsTrue, way_below}
 use Rattle.mt_write.specs.Splitting.{IsHalfOf}
@@ -44,8 +44,9 @@ use Rattle.mt_write.proofs.HalfLemmas.{fills_half, links, half_prefix, cuts}
 use Rattle.mt_write.proofs.NewLayerLemmas.{fills_root, unlocks_head, marks_unstable, links_layer, marks_layer, goes_below}
 use Rattle.mt_write.proofs.PostLemmas.{unlocks_left, posts_on, posts_again, posts_end}
 use Rattle.mt_write.proofs.InsertLemmas.{keys, values}
+use Rattle.mt_write.proofs.ForgetLemmas.{forgets, marks, skips}
 use Rattle.mt_write.proofs.StageSteps.{closes, leads}
-use Rattle.mt_border.specs.Border.{with_filled, with_key}
+use Rattle.mt_border.specs.Border.{with_filled, with_forgotten, with_inserting, with_key}
 use Rattle.mt_border.specs.Entry.{entry_with}
 use Rattle.mt_border.specs.Order.{IsBorder}
 use Rattle.mt_border.specs.declared.unwritten.SlotKey.{SlotKey}
@@ -129,6 +130,19 @@ module _ (a after : ArenaView) (write : Write) where
       → TreeStep a after write (KeyWritten new row) Moved (record write { stage = Filled new.place new.key new.logged new.split })
   writes_value new row is keeps sound = λ C log.
       leads C a after log log write (KeyWritten new row) Moved (Filled new.place new.key new.logged new.split) write.way refl (values C a log write.key write.edit write.way new row after keeps sound is) tt (tt, tt) (refl, refl) refl tt
+
+  -- ---- a row that was hidden is dropped
+  pub marks_hidden : (commit : ℕ) → after ≡ with_border_changed a write.way.node.0 with_inserting → KeepsTree a after → IsSomeAnd (border_at after.nodes write.way.node.0) IsBorder → TreeStep a after write (Hidden commit) Moved (record write { stage = Forgets commit })
+  marks_hidden commit is keeps sound = λ C log.
+      leads C a after log log write (Hidden commit) Moved (Forgets commit) write.way refl (marks C a log write.key write.edit write.way commit after keeps sound is) tt (tt, tt) (inl refl, refl) refl tt
+
+  pub leaves_hidden : (commit : ℕ) → after ≡ a → TreeStep a after write (Hidden commit) Moved (record write { stage = Stored commit None })
+  leaves_hidden commit same = λ C log.
+      leads C a after log log write (Hidden commit) Moved (Stored commit None) write.way refl (skips C a log write.key write.edit write.way commit after same) tt (tt, tt) (inr refl, refl) refl tt
+
+  pub forgets_row : (commit : ℕ) → after ≡ with_border_changed a write.way.node.0 with_forgotten → KeepsTree a after → TreeStep a after write (Forgets commit) Moved (record write { stage = Stored commit None })
+  forgets_row commit is keeps = λ C log.
+      leads C a after log log write (Forgets commit) Moved (Stored commit None) write.way refl (forgets C a log write.key write.edit write.way commit after keeps is) tt (tt, tt) (refl, refl) refl tt
 
   module _ (keeps : KeepsTree a after) where
     pub enters_layer : (head : NodeNo) → after ≡ with_border_changed a write.way.node.0 with_unlocked → TreeStep a after write (Layered head) Moved (record write { way = way_below write.way head; head = head; stage = Seeks })

@@ -10,6 +10,7 @@ pub mod CommitLemmas
 pub mod HalfLemmas
 pub mod CopyLemmas
 mod InsertLemmas
+mod ForgetLemmas
 pub mod PostLemmas
 pub mod LinkLemmas
 pub mod NewLayerLemmas

@@ -45,14 +45,14 @@ use Rattle.mt_write.specs.declared.writing.Halves.{Halves}
 use Rattle.mt_write.specs.declared.writing.Ending.{Ending}
 use Rattle.mt_write.specs.declared.writing.Ending.TheVariants.{Stored as EndStored, Failed as EndFailed}
 use Rattle.mt_write.specs.declared.writing.Stage.{Stage}
-use Rattle.mt_write.specs.declared.writing.Stage.TheVariants.{Seeks, Enters, Rightward, Searched, Copies, GivesBack, Spared, HalfFilled, HalfLinked, Halved, Posts, LayerSpared, LayerFilled, LayerReady, LayerMarked, LayerLinked, Layered, Reserved, KeyWritten, Filled, Made, Taken, Stored, Failed}
+use Rattle.mt_write.specs.declared.writing.Stage.TheVariants.{Seeks, Enters, Rightward, Searched, Copies, GivesBack, Spared, HalfFilled, HalfLinked, Halved, Posts, LayerSpared, LayerFilled, LayerReady, LayerMarked, LayerLinked, Layered, Reserved, KeyWritten, Filled, Made, Taken, Stored, Hidden, Forgets, Failed}
 use Rattle.mt_write.specs.Held.{edit_request, stage_held, write_held, ending_stage}
 use Rattle.mt_steps.specs.declared.entering.Outline.{Outline}
 use Rattle.mt_write.specs.Splitting.{CopiesOn, copied_stage}
 use Rattle.mt_write.specs.Writing.{StageIsTrue, entered_stage, way_below, way_right}
 use Rattle.mt_write.specs.Causes.{StageWaits, WriteWaits, IsPosting}
 use Rattle.mt_write.specs.Runs.{Advances}
-use Rattle.mt_write.specs.Follows.{IsMadeReady, IsReadyIn, IsReady, PostsOn, ReadsOn, StaysAt, halves_of, StageFollows, Follows, WriteFollows}
+use Rattle.mt_write.specs.Follows.{IsMadeReady, IsReadyIn, IsReady, PostsOn, ReadsOn, StaysAt, committed_stage, StageFollows, Follows, WriteFollows}
 use Rattle.mt_write.proofs.EnterSteps.{right_visits}
 use Rattle.mt_write.proofs.LinkLemmas.{linked_head_is_on}
 use Rattle.mt_write.proofs.LoneStands.{layer_left, times, more, above, locks_times, below_times, moves_times, ends_times, left_by_spot, same_left, still_on, more_left, head_apart, not_only, not_none, head_place}
@@ -83,6 +83,8 @@ stage_left posting_left most a way (Made place stored columns logged) = most + 1
 stage_left posting_left most a way (Taken place stored before) = most + 16
 stage_left posting_left most a way (Stored commit (Some split)) = most + 4
 stage_left posting_left most a way (Stored commit None) = 1
+stage_left posting_left most a way (Hidden commit) = 3
+stage_left posting_left most a way (Forgets commit) = 2
 stage_left posting_left most a way (Failed refusal (Some split)) = most + 4
 stage_left posting_left most a way (Failed refusal None) = 2
 stage_left posting_left most a way (Posts posting ending) = posting_left a posting + 3
@@ -207,7 +209,7 @@ module _ (post_stands : ArenaView → World → Posting → Type 0) (posting_lef
   posted a after next key way posting (EndFailed refusal) = (tt, omega arith)
 
   -- a commit
-  committed : (a after : ArenaView) (next : World) (key : List ℕ) (way : Way) (number : ℕ) (stage : Stage) → IsReady stage → Nearer a after next key way stage way (Stored number (halves_of stage))
+  committed : (a after : ArenaView) (next : World) (key : List ℕ) (way : Way) (number : ℕ) (stage : Stage) → IsReady stage → Nearer a after next key way stage way (committed_stage number stage)
   committed a after next key way number (Filled place stored logged None) ready = (tt, omega arith)
   committed a after next key way number (Filled place stored logged (Some split)) ready = (tt, omega arith)
   committed a after next key way number (Made place stored columns logged) ready = (tt, omega arith)
@@ -332,6 +334,9 @@ module _ (post_stands : ArenaView → World → Posting → Type 0) (posting_lef
     moved (Stored commit None) new truth then stands spots goes (is, split) = absurd (split refl)
     moved (Stored commit (Some split)) new truth then stands spots goes (is, some) = ended a after next key way goal (Stored commit (Some split)) new (EndStored commit) is refl
         (λ posting other at. subst (λ (s : Stage). PostingGoesOn post_stands posting_left most a after next (Stored commit (Some split)) s) at goes)
+    moved (Hidden commit) new truth then stands spots goes (inl is, to) = stays_at a after next key way goal (Hidden commit) new (Forgets commit) (is, to) (tt, omega arith)
+    moved (Hidden commit) new truth then stands spots goes (inr is, to) = stays_at a after next key way goal (Hidden commit) new (Stored commit None) (is, to) (tt, omega arith)
+    moved (Forgets commit) new truth then stands spots goes follows = stays_at a after next key way goal (Forgets commit) new (Stored commit None) follows (tt, omega arith)
     moved (Failed refusal None) new truth then stands spots goes (is, split) = absurd (split refl)
     moved (Failed refusal (Some split)) new truth then stands spots goes (is, some) = ended a after next key way goal (Failed refusal (Some split)) new (EndFailed refusal) is refl
         (λ posting other at. subst (λ (s : Stage). PostingGoesOn post_stands posting_left most a after next (Failed refusal (Some split)) s) at goes)
@@ -346,7 +351,7 @@ module _ (post_stands : ArenaView → World → Posting → Type 0) (posting_lef
         → stage_stands post_stands a w key way stage → KeepsSpots w next (stage_held way.node.0 stage).owns (stage_held goal.node.0 new).owns
         → PostingGoesOn post_stands posting_left most a after next stage new → Advances p → Follows a key way stage p goal new → Nearer a after next key way stage goal new
     got_on stage new Moved truth then stands spots goes gets follows = moved stage new truth then stands spots goes follows
-    got_on stage new (Committed number) truth then stands spots goes gets (ready, at) = stays_at a after next key way goal stage new (Stored number (halves_of stage)) at (committed a after next key way number stage ready)
+    got_on stage new (Committed number) truth then stands spots goes gets (ready, at) = stays_at a after next key way goal stage new (committed_stage number stage) at (committed a after next key way number stage ready)
     got_on stage new Waits truth then stands spots goes gets follows = absurd gets
     got_on stage new (Answered answer) truth then stands spots goes gets follows = absurd gets
     got_on stage new (Refused refusal) truth then stands spots goes gets follows = absurd gets

@@ -44,7 +44,7 @@ use Rattle.mt_write.specs.declared.writing.Halves.{Halves}
 use Rattle.mt_write.specs.declared.writing.Ending.{Ending}
 use Rattle.mt_chart.proofs.Basics.{same_number}
 use Rattle.mt_write.specs.declared.writing.Stage.{Stage}
-use Rattle.mt_write.specs.declared.writing.Stage.TheVariants.{Seeks, Enters, Rightward, Searched, Copies, GivesBack, Spared, HalfFilled, HalfLinked, Halved, Posts, LayerSpared, LayerFilled, LayerReady, LayerMarked, LayerLinked, Layered, Reserved, KeyWritten, Filled, Made, Taken, Stored, Failed}
+use Rattle.mt_write.specs.declared.writing.Stage.TheVariants.{Seeks, Enters, Rightward, Searched, Copies, GivesBack, Spared, HalfFilled, HalfLinked, Halved, Posts, LayerSpared, LayerFilled, LayerReady, LayerMarked, LayerLinked, Layered, Reserved, KeyWritten, Filled, Made, Taken, Stored, Hidden, Forgets, Failed}
 use Rattle.mt_write.specs.Held.{stage_held, write_held, owned}
 use Rattle.mt_write.specs.Writing.{StageIsTrue, HasLocked, HasOthers}
 use Rattle.mt_write.specs.Causes.{WriteWaits}
@@ -148,6 +148,8 @@ module _ (a : ArenaView) (w : World) where
   stage_no_head C begun key edit way (Taken place stored before) (b, at, found) = one_more way.node.0 [] (of_border way.node.0 b at.named) no_others
   stage_no_head C begun key edit way (Posts posting ending) (truth, half, may) = posting_no_head begun truth.0 posting.half posting.low posting.waiting truth.1.border truth.1.waiting posting.stage truth.1.stage
   stage_no_head C begun key edit way (Stored commit split) has = halves_no_head (prefix_of key way) way.node.0 split has
+  stage_no_head C begun key edit way (Hidden commit) has = one_more way.node.0 [] (of_border way.node.0 has.b has.named) no_others
+  stage_no_head C begun key edit way (Forgets commit) has = one_more way.node.0 [] (of_border way.node.0 has.b has.named) no_others
   stage_no_head C begun key edit way (Failed refusal split) (has, may, tells) = halves_no_head (prefix_of key way) way.node.0 split has
 
 -- ---- its posting

@@ -41,9 +41,9 @@ use Rattle.mt_write.specs.Writing.{entered_stage, way_below, way_right}
 use Rattle.mt_write.specs.Follows.{MayLock, TreeStep, WriteStep}
 use Rattle.mt_write.specs.declared.writing.Edit.{Edit}
 use Rattle.mt_write.specs.declared.writing.Edit.TheVariants.{Put as PutEdit, Remove as RemoveEdit}
-use Rattle.mt_write.specs.Runs.{HasRun, IsStraight, IsTrimmed, MayAct, MayRun, PassesAt, WriteState, passed_fields, state, values_read}
+use Rattle.mt_write.specs.Runs.{HasRun, IsStraight, IsTrimmed, MayAct, MayRun, PassesAt, Running, WriteState, passed_fields, state, values_read}
 use Rattle.mt_write.proofs.FindLemmas.{finds_changed, found_is}
-use Rattle.mt_write.proofs.RunLemmas.{Running, ends_run, may_again, may_step, one_step, run_step, runs_further, runs_none, stays_trimmed}
+use Rattle.mt_write.proofs.RunLemmas.{ends_run, may_again, may_step, one_step, run_step, runs_further, runs_none, stays_trimmed}
 use Rattle.mt_write.proofs.StageSteps.{at_step, may_be, may_seek}
 use Rattle.mt_write.proofs.LaterSteps.{enters_layer}
 use Rattle.mt_write.proofs.EnterSteps.{goes_right, locks_border, reads_field}

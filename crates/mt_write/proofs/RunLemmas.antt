@@ -20,7 +20,7 @@ use Rattle.mt_write.specs.declared.writing.Write.{Write}
 use Rattle.mt_write.specs.Held.{write_held, write_request}
 use Rattle.mt_write.specs.Writing.{WriteIsTrue}
 use Rattle.mt_write.specs.Follows.{WriteStep}
-use Rattle.mt_write.specs.Runs.{Advances, HasRun, IsTrimmed, MayRun, RunStep, RunSteps, WriteState, commits_in}
+use Rattle.mt_write.specs.Runs.{Advances, HasRun, IsTrimmed, MayRun, RunStep, RunSteps, Running, WriteState, commits_in}
 
 -- ---- the log
 -- what trimming leaves is trimmed
@@ -99,13 +99,6 @@ module _ (C : ℕ) (s : WriteState) (may : MayRun C s) where
         }
 
 -- ---- a run so far
-pub record Running (C : ℕ) (s : WriteState) (steps commits : ℕ) (t : WriteState) : Type 0 where
-  pub done : List Progress
-  pub advance : All Advances done
-  pub are : RunSteps C s done t
-  pub many : steps ≡ length done
-  pub commits_are : commits ≡ sum_by commits_in done
-
 run_more : (C : ℕ) (s m t : WriteState) (ps : List Progress) (p : Progress) → RunSteps C s ps m → RunStep C m p t → RunSteps C s (ps ++ p ∷ []) t
 run_more C s m t [] p same more = (t, subst (λ (x : WriteState). RunStep C x p t) same more, refl)
 run_more C s m t (q ∷ ps) p (next, one, rest) more = (next, one, run_more C next m t ps p rest more)
@@ -132,6 +125,23 @@ runs_further C s m t steps commits part running run on =
       are = run_all C s m t running.done ps running.are (run_more C m run.before t run.steps part.last run.are run.last);
       many = omega (arith, many, own, a, c);
       commits_are = omega (arith, whole, most, b, d);
+    }
+
+-- and so does another run so far
+pub runs_on : (C : ℕ) (s m t : WriteState) (steps commits more others : ℕ) → Running C s steps commits m → Running C m more others t → Running C s (steps + more) (commits + others) t
+runs_on C s m t steps commits more others one two =
+    let many = length-append one.done two.done in
+    let whole = sum_by-append commits_in one.done two.done in
+    let a = one.many in
+    let b = one.commits_are in
+    let c = two.many in
+    let d = two.commits_are in
+    record {
+      done = one.done ++ two.done;
+      advance = All-append Advances one.done two.done one.advance two.advance;
+      are = run_all C s m t one.done two.done one.are two.are;
+      many = omega (arith, many, a, c);
+      commits_are = omega (arith, whole, b, d);
     }
 
 -- and with a run that ends, it is a run

@@ -22,7 +22,7 @@ use Rattle.mt_tree.specs.Descent.{found_for, row_found, is_marked}
 use Rattle.mt_slice.specs.Place.{AreBytes}
 use Rattle.mt_border.specs.Order.{IsBorder}
 use Rattle.std.specs.Option.{IfSome, option_or}
-use Rattle.mt_tree.specs.BorderSteps.{AwaitsSome, AwaitsSomeCut, AwaitsSomeMark, MayMarkUnstable, MayWriteKey, HasLayerFor, HasRowAt, HidesRowAt, IsUpperHalf, MayShowAt, SetsRowAt, ShowsNext}
+use Rattle.mt_tree.specs.BorderSteps.{MayForget, AwaitsSome, AwaitsSomeCut, AwaitsSomeMark, MayMarkUnstable, MayWriteKey, HasLayerFor, HasRowAt, HidesRowAt, IsUpperHalf, MayShowAt, SetsRowAt, ShowsNext}
 use Rattle.mt_tree.proofs.RowLemmas.{stands_at}
 use Rattle.mt_steps.specs.declared.entering.There.{There}
 use Rattle.mt_steps.specs.declared.way.Way.{Way}
@@ -44,7 +44,7 @@ use Rattle.mt_write.specs.declared.writing.Halves.{Halves}
 use Rattle.mt_write.specs.declared.writing.Layer.{Layer}
 use Rattle.mt_write.specs.declared.writing.Ending.{Ending}
 use Rattle.mt_write.specs.declared.writing.Stage.{Stage}
-use Rattle.mt_write.specs.declared.writing.Stage.TheVariants.{Seeks, Searched, Copies, Spared, HalfFilled, HalfLinked, Posts, LayerSpared, LayerFilled, LayerReady, LayerMarked, LayerLinked, Layered, Reserved, KeyWritten, Filled, Made, Taken, Stored, Failed}
+use Rattle.mt_write.specs.declared.writing.Stage.TheVariants.{Seeks, Searched, Copies, Spared, HalfFilled, HalfLinked, Posts, LayerSpared, LayerFilled, LayerReady, LayerMarked, LayerLinked, Layered, Reserved, KeyWritten, Filled, Made, Taken, Stored, Hidden, Forgets, Failed}
 use Rattle.mt_write.specs.Held.{edit_request, write_held, stage_held, ending_stage}
 use Rattle.mt_write.specs.Writing.{StageIsTrue, WriteIsTrue, MayStage}
 use Rattle.mt_write.specs.Ready.{Prepares, PreparesRemove, put_delta, remove_delta}
@@ -52,6 +52,7 @@ use Rattle.mt_write.specs.Causes.{StageWaits, StageFails, FailsBy, RemoveFailsBy
 use Rattle.mt_write.specs.Follows.{WriteStep, TreeStep, MayBeAt, FindsNone, Follows, HeadGoes, PostsGo, IsMadeReady}
 use Rattle.mt_write.proofs.WriteLemmas.{seek_waits, may_at}
 use Rattle.mt_write.proofs.ReadyLemmas.{readies}
+use Rattle.mt_write.proofs.ForgetLemmas.{may_forget}
 use Rattle.mt_write.proofs.CommitLemmas.{differs, takes, lacks, shows, writes, hides}
 use Rattle.mt_write.proofs.HalfLemmas.{spared_fill, filled_link, linked_cut}
 use Rattle.mt_border.specs.Entry.{key_of_rest}
@@ -158,6 +159,9 @@ module _ (a : ArenaView) (write : Write) where
   may_write_value new row (C, log, may) =
       let (b, at, p, f, k, has) = may.true.0 in
       subst (λ (o : Option BorderView). IsSomeAnd o AwaitsSome) (sym at.named) (key_of_rest (rest_of write.key write.way), k)
+
+  pub may_drop_row : (commit : ℕ) → MayBeAt a write (Forgets commit) → IsSomeAnd (border_at a.nodes write.way.node.0) MayForget
+  may_drop_row commit (C, log, may) = may_forget a may.w write.way.node.0 may.true.0
 
   pub may_post : (posting : Posting) (ending : Ending) → MayBeAt a write (Posts posting ending) → MayPost a posting
   may_post posting ending (C, log, may) = record { now = may.now; begun = may.begun; w = may.w; world = may.world; true = may.true.0.0 }
@@ -293,9 +297,9 @@ module _ (C : ℕ) (a after : ArenaView) (log left : LogView) (write : Write) wh
       (writes C a log write.key write.edit write.way place stored columns logged number after left next written sets appended room) tt (tt, tt) (tt, (refl, refl)) refl tt
 
   pub hides_row : (place : ℕ) (stored : List ℕ) (before : Row) (number : ℕ) → number ≡ newest log + 1 → after ≡ with_border_changed a write.way.node.0 (λ b. with_hidden b place) → HidesRowAt a after write.way.node.0 place → left ≡ with_delta log (remove_delta (newest log + 1) stored before) → 1 ≤ log.reserved
-      → WriteStep C a after log left write (Taken place stored before) (Committed number) (record write { stage = Stored number None })
+      → WriteStep C a after log left write (Taken place stored before) (Committed number) (record write { stage = Hidden number })
   hides_row place stored before number next hidden keeps appended room =
-      leads C a after log left write (Taken place stored before) (Committed number) (Stored number None) write.way refl
+      leads C a after log left write (Taken place stored before) (Committed number) (Hidden number) write.way refl
       (hides C a log write.key write.edit write.way place stored before number after left next hidden keeps appended room) tt (tt, tt) (tt, (refl, refl)) refl tt
 
 -- ---- a commit of what is ready, at a stage that is known to be so
@@ -310,8 +314,8 @@ module _ (C : ℕ) (a after : ArenaView) (log left : LogView) (write : Write) (s
       (writes_row C a after log left write place stored columns logged number next written sets appended (at_stage (Made place stored columns logged) is may).1.room)
 
   pub commits_hidden : (place : ℕ) (stored : List ℕ) (before : Row) (number : ℕ) → stage ≡ Taken place stored before → number ≡ newest log + 1 → after ≡ with_border_changed a write.way.node.0 (λ b. with_hidden b place) → HidesRowAt a after write.way.node.0 place → left ≡ with_delta log (remove_delta (newest log + 1) stored before)
-      → ((D : ℕ) × MayStage D a log write stage) → WriteStep C a after log left write stage (Committed number) (record write { stage = Stored number None })
-  commits_hidden place stored before number is next hidden keeps appended may = subst (λ (st : Stage). WriteStep C a after log left write st (Committed number) (record write { stage = Stored number None })) (sym is)
+      → ((D : ℕ) × MayStage D a log write stage) → WriteStep C a after log left write stage (Committed number) (record write { stage = Hidden number })
+  commits_hidden place stored before number is next hidden keeps appended may = subst (λ (st : Stage). WriteStep C a after log left write st (Committed number) (record write { stage = Hidden number })) (sym is)
       (hides_row C a after log left write place stored before number next hidden keeps appended (at_stage (Taken place stored before) is may).1.room)
 
 module _ (C : ℕ) (a : ArenaView) (log left : LogView) (write : Write) (there : There) (is : write.edit ≡ RemoveEdit) (made : Option Stage) (ready : PreparesRemove write.key write.way a log made left)

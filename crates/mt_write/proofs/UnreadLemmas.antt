@@ -1,6 +1,6 @@
 -- A put or remove of which no delta stays in the log: its two steps, as if the delta were appended and trimmed.
 use Rattle.std.proofs.Common.{ℕ, ◌≡◌, ◌≤◌, ◌<◌, ◌+◌, ◌∙◌, List, [], ◌∷◌, ◌++◌, length, Option, Some, None, IsSome, Result, Ok, Err, Bool, true, false, inl, refl, sym, ap, subst, arith}
-use Rattle.std.specs.Prelude.{IsSomeAnd, IfErr, MatchOption}
+use Rattle.std.specs.Prelude.{IsSomeAnd, IfErr, MatchOption, cond}
 use Rattle.std.specs.Option.{option_or}
 use Rattle.std.proofs.lemmas.List.{length-append}
 use Rattle.mt_types.specs.Limits.{refused_if}
@@ -36,7 +36,7 @@ use Rattle.mt_write.specs.Follows.{WriteStep}
 use Rattle.mt_write.specs.Runs.{CommitsAt, MayAct}
 use Rattle.mt_write.proofs.CauseLemmas.{ready_err, ready_ok, room_ready}
 use Rattle.mt_write.proofs.FindLemmas.{faults_told, found_is, found_stands}
-use Rattle.mt_write.proofs.FinishLemmas.{ReadiedAt, commits_ready, may_next, readied_more, readied_one}
+use Rattle.mt_write.proofs.FinishLemmas.{ReadiedAt, commits_ready, committed_at, may_next, readied_more, readied_one}
 use Rattle.mt_write.proofs.InsertLemmas.{key_there}
 use Rattle.mt_write.proofs.LaterSteps.{writes_key, writes_value}
 use Rattle.mt_border.specs.Entry.{entry_with, key_of_rest}
@@ -77,12 +77,12 @@ room_fails T log key false true refusal is =
 room_fails T log key false false refusal is = subst (λ (r : Refusal). MayFail log (RemoveRequest key) r) (sym is) (tt, tt)
 
 -- ---- its commit, which appends a delta that doesn't stay
-module _ (C : ℕ) (a between after : ArenaView) (log left last : LogView) (write : Write) (there : There) (stage : Stage) (steps number : ℕ) (delta : Delta) where
-  passes : ReadiedAt C a log write there between left stage steps → WriteStep C between after left (with_delta left delta) write stage (Committed number) (record write { stage = Stored number None })
-      → delta.number ≡ newest left + 1 → 1 ≤ left.reserved → last ≡ trimmed (with_delta left delta) → newest last ≡ newest left + 1 → IsLog left → IsArena after → steps + 1 ≤ 4 → CommitsAt C a after log last write there (record { commit = number; steps = steps + 1 })
+module _ (C : ℕ) (a between after : ArenaView) (log left last : LogView) (write : Write) (there : There) (stage : Stage) (steps number : ℕ) (delta : Delta) (hides : Bool) where
+  passes : ReadiedAt C a log write there between left stage steps → WriteStep C between after left (with_delta left delta) write stage (Committed number) (record write { stage = committed_at hides number })
+      → delta.number ≡ newest left + 1 → 1 ≤ left.reserved → last ≡ trimmed (with_delta left delta) → newest last ≡ newest left + 1 → IsLog left → IsArena after → steps + 1 + cond hides 2 0 ≤ 4 → CommitsAt C a after log last write there (record { commit = number; steps = steps + 1; hides = hides })
   passes ready commits next room passed newest_is sound arena few =
       let long = length-append left.deltas (delta ∷ []) in
-      commits_ready C a log write there between left stage steps ready after (with_delta left delta) last number commits (appended_log left delta (left.deltas ++ delta ∷ []) sound room next refl) arena passed (omega (arith, newest_is, long)) few
+      commits_ready C a log write there between left stage steps ready hides after (with_delta left delta) last number commits (appended_log left delta (left.deltas ++ delta ∷ []) sound room next refl) arena passed (omega (arith, newest_is, long)) few
 
 -- there is room for the delta
 pub has_room : (log left : LogView) → left ≡ with_room log → 1 ≤ left.reserved
@@ -124,12 +124,12 @@ module _ (C : ℕ) (a : ArenaView) (log left : LogView) (write : Write) (there :
         (made_ready (List (List ℕ)) (reserve_fault log) made (Made place write.key made made) tt fault)
 
     pub passes_over : MayAct C a log write found there → (after : ArenaView) (last : LogView) (number : ℕ) → number ≡ newest last → after ≡ with_border_changed a write.way.node.0 (λ x. with_value x place (record { version = number; columns = made }))
-        → SetsRowAt a after write.way.node.0 place (record { version = number; columns = made }) → ((delta : Delta) → last ≡ trimmed (with_delta left delta)) → newest last ≡ newest left + 1 → IsLog left → IsArena after → CommitsAt C a after log last write there (record { commit = number; steps = 2 })
+        → SetsRowAt a after write.way.node.0 place (record { version = number; columns = made }) → ((delta : Delta) → last ≡ trimmed (with_delta left delta)) → newest last ≡ newest left + 1 → IsLog left → IsArena after → CommitsAt C a after log last write there (record { commit = number; steps = 2; hides = false })
     passes_over act after last number is_last written sets_row passed newest_is sound_left arena =
         let next : number ≡ newest left + 1 = is_last ∙ newest_is in
         let delta : Delta = put_delta (newest left + 1) write.key (row_at place b.live) made in
         let room = has_room log left ready.1 in
-        passes C a a after log left last write there (Made place write.key made made) 1 number delta (readied_one C a log write there act.may act.trimmed act.arena a left (Made place write.key made made) readies_over act.arena sound_left)
+        passes C a a after log left last write there (Made place write.key made made) 1 number delta false (readied_one C a log write there act.may act.trimmed act.arena a left (Made place write.key made made) readies_over act.arena sound_left)
         (writes_row C a after left (with_delta left delta) write place write.key made made number next
         (subst (λ (n : ℕ). after ≡ with_border_changed a write.way.node.0 (λ x. with_value x place (record { version = n; columns = made }))) next written)
         (subst (λ (n : ℕ). SetsRowAt a after write.way.node.0 place (record { version = n; columns = made })) next sets_row)
@@ -185,12 +185,12 @@ module _ (C : ℕ) (a : ArenaView) (log left : LogView) (write : Write) (there :
     may_show_new version = some_for place (border_at between.nodes write.way.node.0) (may_show between write left place write.key (columns_after C sets None) None (C, may_next C a log write there between left filled 3 readied_new)) version
 
     pub passes_new : (after : ArenaView) (last : LogView) (number : ℕ) → number ≡ newest last → after ≡ with_border_changed between write.way.node.0 (λ x. with_shown x place number)
-        → ShowsNext between after write.way.node.0 number → ((delta : Delta) → last ≡ trimmed (with_delta left delta)) → newest last ≡ newest left + 1 → IsArena after → CommitsAt C a after log last write there (record { commit = number; steps = 4 })
+        → ShowsNext between after write.way.node.0 number → ((delta : Delta) → last ≡ trimmed (with_delta left delta)) → newest last ≡ newest left + 1 → IsArena after → CommitsAt C a after log last write there (record { commit = number; steps = 4; hides = false })
     passes_new after last number is_last shown shows passed newest_is arena =
         let next : number ≡ newest left + 1 = is_last ∙ newest_is in
         let delta : Delta = put_delta (newest left + 1) write.key None (columns_after C sets None) in
         let room = has_room log left reserved in
-        passes C a between after log left last write there filled 3 number delta readied_new
+        passes C a between after log left last write there filled 3 number delta false readied_new
         (shows_row C between after left (with_delta left delta) write place write.key (columns_after C sets None) None number next
         (subst (λ (n : ℕ). after ≡ with_border_changed between write.way.node.0 (λ x. with_shown x place n)) next shown) (subst (λ (n : ℕ). ShowsNext between after write.way.node.0 n) next shows) refl room)
         refl room (passed delta) newest_is sound_left arena (omega arith)
@@ -226,12 +226,12 @@ module _ (C : ℕ) (a : ArenaView) (log left : LogView) (write : Write) (there :
         (Taken place write.key before) refl
 
     pub passes_found : MayAct C a log write found there → (after : ArenaView) (last : LogView) (number : ℕ) → number ≡ newest last → after ≡ with_border_changed a write.way.node.0 (λ x. with_hidden x place) → HidesRowAt a after write.way.node.0 place
-        → ((delta : Delta) → last ≡ trimmed (with_delta left delta)) → newest last ≡ newest left + 1 → IsLog left → IsArena after → CommitsAt C a after log last write there (record { commit = number; steps = 2 })
+        → ((delta : Delta) → last ≡ trimmed (with_delta left delta)) → newest last ≡ newest left + 1 → IsLog left → IsArena after → CommitsAt C a after log last write there (record { commit = number; steps = 2; hides = true })
     passes_found act after last number is_last hidden hides passed newest_is sound_left arena =
         let next : number ≡ newest left + 1 = is_last ∙ newest_is in
         let (before, copied) = row_is (row_at place b.live) has_row in
         let delta : Delta = remove_delta (newest left + 1) write.key before in
         let room = has_room log left reserved in
-        passes C a a after log left last write there (Taken place write.key before) 1 number delta (readied_one C a log write there act.may act.trimmed act.arena a left (Taken place write.key before) (readies_found before copied) act.arena sound_left)
+        passes C a a after log left last write there (Taken place write.key before) 1 number delta true (readied_one C a log write there act.may act.trimmed act.arena a left (Taken place write.key before) (readies_found before copied) act.arena sound_left)
         (hides_row C a after left (with_delta left delta) write place write.key before number next hidden hides refl room)
         refl room (passed delta) newest_is sound_left arena (omega arith)

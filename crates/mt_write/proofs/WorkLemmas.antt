@@ -16,7 +16,7 @@ use Rattle.mt_steps.specs.declared.entering.Entering.{Entering}
 use Rattle.mt_write.specs.declared.writing.Write.{Write}
 use Rattle.mt_write.specs.declared.writing.Edit.{Edit}
 use Rattle.mt_write.specs.declared.writing.Stage.{Stage}
-use Rattle.mt_write.specs.declared.writing.Stage.TheVariants.{Seeks, Enters, Rightward, Searched, Copies, GivesBack, Spared, HalfFilled, HalfLinked, Halved, Posts, LayerSpared, LayerFilled, LayerReady, LayerMarked, LayerLinked, Layered, Reserved, KeyWritten, Filled, Made, Taken, Stored, Failed}
+use Rattle.mt_write.specs.declared.writing.Stage.TheVariants.{Seeks, Enters, Rightward, Searched, Copies, GivesBack, Spared, HalfFilled, HalfLinked, Halved, Posts, LayerSpared, LayerFilled, LayerReady, LayerMarked, LayerLinked, Layered, Reserved, KeyWritten, Filled, Made, Taken, Stored, Hidden, Forgets, Failed}
 use Rattle.mt_write.specs.declared.writing.Halves.{Halves}
 use Rattle.mt_write.specs.declared.writing.Layer.{Layer}
 use Rattle.mt_chart.proofs.Basics.{same_number}
@@ -26,7 +26,7 @@ use Rattle.mt_chart.specs.Chart.{top}
 use Rattle.mt_chart.proofs.Walk.{known_kept}
 use Rattle.mt_post.proofs.PostingLasts.{posting_stays, posting_taken}
 use Rattle.mt_write.specs.Held.{stage_held, owned, layer_owned, write_held}
-use Rattle.mt_write.specs.Writing.{StageIsTrue, IsLockedAt, IsOwnedAt, HasLocked, HasOthers, AreHalves, HasLayer, HasLink, IsSpare, way_below, way_right, WriteIsTrue, Tells, HasMarkedLink}
+use Rattle.mt_write.specs.Writing.{StageIsTrue, IsLockedAt, IsOwnedAt, HasLocked, HasOthers, AreHalves, HasLayer, HasLink, IsSpare, way_below, way_right, WriteIsTrue, Tells, HasMarkedLink, HasHidden, FirstHeld, IsInserting}
 use Rattle.mt_write.specs.Splitting.{IsHalfLinked}
 use Rattle.mt_types.specs.declared.refusal.Refusal.{Refusal}
 use Rattle.mt_types.specs.declared.refusal.Refusal.TheVariants.{OtherVersion}
@@ -82,6 +82,9 @@ module _ (a after : ArenaView) (w next : World) where
 
   locked_stays : (number : ℕ) → IsSame a after w next number → IsLockedBorder a w number → IsLockedBorder after next number
   locked_stays number same at = record { b = at.b; named = same_border number at.b same at.named; known = subst (λ (x : Option Spot). IsSome x) (sym same.spot) at.known; locked = at.locked; alive = at.alive; written = at.written; free = λ i. at.free (same.closing i) }
+
+  hidden_stays : (Still : BorderView → Type 0) (number : ℕ) → IsSame a after w next number → HasHidden Still a w number → HasHidden Still after next number
+  hidden_stays Still number same h = record { b = h.b; named = same_border number h.b same h.named; known = subst (λ (x : Option Spot). IsSome x) (sym same.spot) h.known; locked = h.locked; alive = h.alive; written = h.written; free = λ i. h.free (same.closing i); sound = h.sound; room = h.room; still = h.still }
 
   spare_stays : (number : ℕ) (b : BorderView) → IsSame a after w next number → IsSpare a w number b → IsSpare after next number b
   spare_stays number b same s = record { named = same_border number b same s.named; unknown = same.spot ∙ s.unknown; locked = s.locked; free = λ i. s.free (same.closing i) }
@@ -211,6 +214,8 @@ module _ (a after : ArenaView) (w next : World) where
     stage_stays key edit way (Taken place stored before) same truth = let (b, at, f) = truth in (b, locked_at_stays key way b (same way.node.0 first) at, f)
     stage_stays key edit way (Posts posting ending) same truth = (posting_stays a after w next begun evolves posting same truth.0, truth.1, truth.2)
     stage_stays key edit way (Stored number split) same truth = has_locked_stays (prefix_of key way) way.node.0 split same truth
+    stage_stays key edit way (Hidden number) same truth = hidden_stays FirstHeld way.node.0 (same way.node.0 first) truth
+    stage_stays key edit way (Forgets number) same truth = hidden_stays IsInserting way.node.0 (same way.node.0 first) truth
     stage_stays key edit way (Failed refusal split) same truth = (has_locked_stays (prefix_of key way) way.node.0 split same truth.0, truth.1, tells_stays key way refusal split (λ none. same way.node.0 (alone_owned way.node.0 split none)) truth.2)
 
     -- the law of others' steps: if they don't change what a put or remove owns, what is true of it stays true
@@ -269,6 +274,8 @@ module _ (C begun moves : ℕ) (past : List Arena) (a : ArenaView) (w : World) w
   stage_taken key edit way (Taken place stored before) truth number i = let (b, at, f) = truth in border_taken a w way.node.0 number b at.named at.locked i
   stage_taken key edit way (Posts posting ending) truth number i = posting_taken a w begun posting truth.0 number i
   stage_taken key edit way (Stored commit split) truth number i = all_taken (prefix_of key way) way.node.0 split truth number i
+  stage_taken key edit way (Hidden commit) truth number i = border_taken a w way.node.0 number truth.b truth.named truth.locked i
+  stage_taken key edit way (Forgets commit) truth number i = border_taken a w way.node.0 number truth.b truth.named truth.locked i
   stage_taken key edit way (Failed refusal split) truth number i = all_taken (prefix_of key way) way.node.0 split truth.0 number i
 
   pub write_taken : (write : Write) → WriteIsTrue C write begun moves past a w → (number : ℕ) → Among number (write_held write).owns → IsTaken a w number

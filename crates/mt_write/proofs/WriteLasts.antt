@@ -11,7 +11,7 @@ use Rattle.mt_post.proofs.PostingLasts.{posting_since}
 use Rattle.mt_write.specs.declared.writing.Write.{Write}
 use Rattle.mt_write.specs.declared.writing.Edit.{Edit}
 use Rattle.mt_write.specs.declared.writing.Stage.{Stage}
-use Rattle.mt_write.specs.declared.writing.Stage.TheVariants.{Seeks, Enters, Rightward, Searched, Copies, GivesBack, Spared, HalfFilled, HalfLinked, Halved, Posts, LayerSpared, LayerFilled, LayerReady, LayerMarked, LayerLinked, Layered, Reserved, KeyWritten, Filled, Made, Taken, Stored, Failed}
+use Rattle.mt_write.specs.declared.writing.Stage.TheVariants.{Seeks, Enters, Rightward, Searched, Copies, GivesBack, Spared, HalfFilled, HalfLinked, Halved, Posts, LayerSpared, LayerFilled, LayerReady, LayerMarked, LayerLinked, Layered, Reserved, KeyWritten, Filled, Made, Taken, Stored, Hidden, Forgets, Failed}
 use Rattle.mt_write.specs.declared.writing.Halves.{Halves}
 use Rattle.mt_write.specs.declared.writing.Layer.{Layer}
 use Rattle.mt_chart.proofs.Basics.{same_number}
@@ -63,6 +63,8 @@ module _ (C : ℕ) (a : ArenaView) (now begun : ℕ) (w : World) (world : IsWorl
   stage_since key edit way (Taken place stored before) truth = let (b, at, f) = truth in border_since way.node.0 b at.named
   stage_since key edit way (Posts posting ending) truth = posting_since a now begun w world posting truth.0
   stage_since key edit way (Stored number split) truth = locked_since _ way.node.0 split truth
+  stage_since key edit way (Hidden number) truth = border_since way.node.0 truth.b truth.named
+  stage_since key edit way (Forgets number) truth = border_since way.node.0 truth.b truth.named
   stage_since key edit way (Failed refusal split) truth = locked_since _ way.node.0 split truth.0
 
   pub write_since : (write : Write) (moves : ℕ) (past : List Arena) → WriteIsTrue C write begun moves past a w → GoneSince begun w (write_held write).owns

@@ -36,7 +36,7 @@ use Rattle.mt_write.specs.declared.writing.Halves.{Halves}
 use Rattle.mt_write.specs.declared.writing.Ending.{Ending}
 use Rattle.mt_write.specs.declared.writing.Ending.TheVariants.{Stored as EndStored, Failed as EndFailed}
 use Rattle.mt_write.specs.declared.writing.Stage.{Stage}
-use Rattle.mt_write.specs.declared.writing.Stage.TheVariants.{Seeks, Enters, Rightward, Searched, Copies, GivesBack, Spared, HalfFilled, HalfLinked, Halved, Posts, LayerSpared, LayerFilled, LayerReady, LayerMarked, LayerLinked, Layered, Reserved, KeyWritten, Filled, Made, Taken, Stored, Failed}
+use Rattle.mt_write.specs.declared.writing.Stage.TheVariants.{Seeks, Enters, Rightward, Searched, Copies, GivesBack, Spared, HalfFilled, HalfLinked, Halved, Posts, LayerSpared, LayerFilled, LayerReady, LayerMarked, LayerLinked, Layered, Reserved, KeyWritten, Filled, Made, Taken, Stored, Hidden, Forgets, Failed}
 use Rattle.mt_write.specs.declared.writing.Write.{Write as WriteView}
 use Rattle.mt_commit.specs.Log.{LogView}
 use Rattle.mt_write.specs.Held.{write_request, ending_stage}
@@ -109,12 +109,19 @@ StageFollows a key way (KeyWritten insertion row) next new = StaysAt way next ne
 StageFollows a key way (Posts posting ending) next new = PostsOn a posting ending new × (next ≡ way)
 StageFollows a key way (Stored commit split) next new = IsPosting (EndStored commit) new × (split ≢ None)
 StageFollows a key way (Failed refusal split) next new = IsPosting (EndFailed refusal) new × (split ≢ None)
+StageFollows a key way (Hidden commit) next new = ((new ≡ Forgets commit) ⊎ (new ≡ Stored commit None)) × (next ≡ way)
+StageFollows a key way (Forgets commit) next new = StaysAt way next new (Stored commit None)
 StageFollows a key way _ next new = ⊥
 
 -- the halves of the border that it has split, at a stage that is ready
 abbrev pub halves_of : Stage → Option Halves
 halves_of (Filled place stored logged split) = split
 halves_of _ = None
+
+-- the stage at which it is once it has committed: a remove is to drop the row that it has hidden
+abbrev pub committed_stage : ℕ → Stage → Stage
+committed_stage number (Taken place stored before) = Hidden number
+committed_stage number stage = Stored number (halves_of stage)
 
 -- if it waits: on its way it begins again if the node is marked deleted; if it is not, and the border is locked, it
 -- stays; or its posting waits
@@ -145,13 +152,13 @@ EndsRefused (Failed failed split) refusal = (failed ≡ refusal) × (split ≡ N
 EndsRefused (GivesBack half) refusal = refusal ≡ NoMemory
 EndsRefused _ refusal = ⊥
 
--- A STEP VISITS ONE NODE, and leads from stage to stage: if it commits, it is then to unlock; it is refused only if it
--- had failed
+-- A STEP VISITS ONE NODE, and leads from stage to stage: if it commits, it is then to unlock, or first to drop the row
+-- that it has hidden; it is refused only if it had failed
 abbrev pub Follows : ArenaView → List ℕ → Way → Stage → Progress → Way → Stage → Type 0
 Follows a key way stage Moved next new = StageFollows a key way stage next new
 Follows a key way stage Waits next new = StageRests a way stage next new
 Follows a key way stage (Committed number) next new = IsReady stage
-    × StaysAt way next new (Stored number (halves_of stage))
+    × StaysAt way next new (committed_stage number stage)
 Follows a key way stage (Answered answer) next new = MayAnswer stage
 Follows a key way stage (Refused refusal) next new = EndsRefused stage refusal
 

@@ -8,7 +8,7 @@ use Rattle.mt_write.specs.declared.writing.Write.{Write}
 use Rattle.mt_write.specs.declared.writing.Edit.{Edit}
 use Rattle.mt_write.specs.declared.writing.Edit.TheVariants.{Put as PutEdit, Remove as RemoveEdit}
 use Rattle.mt_write.specs.declared.writing.Stage.{Stage}
-use Rattle.mt_write.specs.declared.writing.Stage.TheVariants.{Seeks, Enters, Rightward, Searched, Copies, GivesBack, Spared, HalfFilled, HalfLinked, Halved, Posts, LayerSpared, LayerFilled, LayerReady, LayerMarked, LayerLinked, Layered, Reserved, KeyWritten, Filled, Made, Taken, Stored, Failed}
+use Rattle.mt_write.specs.declared.writing.Stage.TheVariants.{Seeks, Enters, Rightward, Searched, Copies, GivesBack, Spared, HalfFilled, HalfLinked, Halved, Posts, LayerSpared, LayerFilled, LayerReady, LayerMarked, LayerLinked, Layered, Reserved, KeyWritten, Filled, Made, Taken, Stored, Hidden, Forgets, Failed}
 use Rattle.mt_write.specs.declared.writing.Halves.{Halves}
 use Rattle.mt_write.specs.declared.writing.Ending.{Ending}
 use Rattle.mt_write.specs.declared.writing.Ending.TheVariants.{Stored as EndStored, Failed as EndFailed}
@@ -103,6 +103,10 @@ stage_held number (Posts posting ending) =
     }
 stage_held number (Stored commit split) =
     record { owns = owned number split; reserves = 0; committed = Some commit; blocked = None }
+stage_held number (Hidden commit) =
+    record { owns = number ∷ []; reserves = 0; committed = Some commit; blocked = None }
+stage_held number (Forgets commit) =
+    record { owns = number ∷ []; reserves = 0; committed = Some commit; blocked = None }
 stage_held number (Failed refusal split) =
     record { owns = owned number split; reserves = 0; committed = None; blocked = blocked_by refusal }
 

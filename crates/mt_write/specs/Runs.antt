@@ -1,5 +1,5 @@
 -- Runs of a put or remove: its steps one after the other, after each of which the log is trimmed.
-use Rattle.std.specs.Prelude.{ℕ, ◌≡◌, ◌≤◌, ◌+◌, ◌-◌, ◌⊎◌, min, List, [], ◌∷◌, length, sum_by, IsSomeAnd, All, Option, Some, None, Result, Ok, Err}
+use Rattle.std.specs.Prelude.{ℕ, ◌≡◌, ◌≤◌, ◌+◌, ◌-◌, ◌⊎◌, cond, false, min, List, [], ◌∷◌, length, sum_by, IsSomeAnd, All, Option, Some, None, Result, Ok, Err}
 use Rattle.mt_types.specs.declared.refusal.Refusal.{Refusal}
 use Rattle.mt_border.specs.declared.found.Found.{Found}
 use Rattle.mt_border.specs.declared.found.Found.TheVariants.{Absent as AbsentFound}
@@ -26,7 +26,7 @@ use Rattle.mt_write.specs.declared.writing.Edit.TheVariants.{Put as PutEdit, Rem
 use Rattle.mt_write.specs.Ready.{NeedsNoSplit}
 use Rattle.mt_write.specs.declared.writing.Write.{Write}
 use Rattle.mt_write.specs.declared.writing.Stage.{Stage}
-use Rattle.mt_write.specs.declared.writing.Stage.TheVariants.{Searched, Stored, Failed}
+use Rattle.mt_write.specs.declared.writing.Stage.TheVariants.{Searched, Stored, Hidden, Failed}
 use Rattle.mt_write.specs.Held.{write_held}
 use Rattle.mt_write.specs.Writing.{WriteIsTrue}
 use Rattle.mt_write.specs.Follows.{FindsNone, TreeStep, WriteStep}
@@ -83,6 +83,14 @@ abbrev pub RunSteps : ℕ → WriteState → List Progress → WriteState → Ty
 RunSteps C s [] t = t ≡ s
 RunSteps C s (p ∷ ps) t = (next : WriteState) × RunStep C s p next × RunSteps C next ps t
 
+-- a run so far: this many steps, of which this many are commits, and after each the call continues at once
+pub record Running (C : ℕ) (s : WriteState) (steps commits : ℕ) (t : WriteState) : Type 0 where
+  pub done : List Progress
+  pub advance : All Advances done
+  pub are : RunSteps C s done t
+  pub many : steps ≡ length done
+  pub commits_are : commits ≡ sum_by commits_in done
+
 -- A RUN: steps, after each of which but the last the call continues at once
 pub record HasRun (C : ℕ) (s : WriteState) (run : WriteRun) (t : WriteState) : Type 0 where
   pub steps : List Progress
@@ -123,14 +131,29 @@ pub record MayAct (C : ℕ) (a : ArenaView) (log : LogView) (write : Write) (fou
   pub finds : Finds a write.key write.way found
   pub straight : IsSomeAnd (border_at a.nodes write.way.node.0) (λ b. IsStraight write.edit b found)
 
+-- the stage at which it is after such a commit, and how many steps it makes at most before it unlocks
+abbrev pub stage_after : AtCommit → Stage
+stage_after committed = cond committed.hides (Hidden committed.commit) (Stored committed.commit None)
+
+abbrev pub steps_after : AtCommit → ℕ
+steps_after committed = cond committed.hides 2 0
+
 -- AT ITS BORDER, which it has locked and read, a write makes ready and commits, in this many steps
 pub record CommitsAt (C : ℕ) (a after : ArenaView) (log left : LogView) (write : Write) (there : There) (committed : AtCommit) : Type 0 where
   pub run : HasRun C (state a log (record write { stage = Searched there }))
       (record { steps = committed.steps; commits = 1; last = Committed committed.commit })
-      (state after left (record write { stage = Stored committed.commit None }))
-  pub may : MayRun C (state after left (record write { stage = Stored committed.commit None }))
+      (state after left (record write { stage = stage_after committed }))
+  pub may : MayRun C (state after left (record write { stage = stage_after committed }))
   pub trimmed : IsTrimmed left
-  pub few : committed.steps ≤ 4
+  pub few : committed.steps + steps_after committed ≤ 4
+
+-- AFTER ITS COMMIT a write has dropped the row that it has hidden, if it has hidden one, in this many steps
+pub record HasForgotten (C : ℕ) (a after : ArenaView) (log : LogView) (write : Write) (committed : AtCommit) (steps : ℕ) : Type 0 where
+  pub running : Running C (state a log (record write { stage = stage_after committed })) steps 0
+      (state after log (record write { stage = Stored committed.commit None }))
+  pub may : MayRun C (state after log (record write { stage = Stored committed.commit None }))
+  pub few : steps ≤ steps_after committed
+  pub arena : IsArena after
 
 -- without a delta it has made the commit of a number there, or none, or has failed
 abbrev pub CommitsUnread : ℕ → ArenaView → ArenaView → LogView → LogView → Write → There → Result (Option AtCommit) Refusal → Type 0
@@ -152,10 +175,10 @@ pub record CommitsStage (a after : ArenaView) (log left : LogView) (write : Writ
   pub between : ArenaView
   pub then : Stage
   pub writes : ((between ≡ a) × (then ≡ stage) × (committed.steps ≡ 2))
-      ⊎ (InsertsAt a between write stage then × (committed.steps ≡ 4))
+      ⊎ (InsertsAt a between write stage then × (committed.steps ≡ 4) × (committed.hides ≡ false))
   pub arena : IsArena between
   pub commits : (C : ℕ) → WriteStep C between after log left write then (Committed committed.commit)
-      (record write { stage = Stored committed.commit None })
+      (record write { stage = stage_after committed })
 
 -- so much it has done there: it has found no row to remove, or committed, or made another stage ready
 abbrev pub ComesTo : ℕ → ArenaView → ArenaView → LogView → LogView → Write → There → AtBorder → Type 0

@@ -1,5 +1,5 @@
 -- What is true of a put or remove, at each of its stages.
-use Rattle.std.specs.Prelude.{ℕ, ◌≡◌, ◌≢◌, ◌<◌, ◌≤◌, ◌+◌, List, [], ◌∷◌, length, drop, slice_get, Option, Some, None, Bool, true, false}
+use Rattle.std.specs.Prelude.{ℕ, ◌≡◌, ◌≢◌, ◌<◌, ◌≤◌, ◌+◌, List, [], ◌∷◌, length, drop, slice_get, Option, Some, None, IsSome, Bool, true, false}
 use Rattle.mt_types.specs.declared.limits.TheConstants.{MAX_KEY_BYTES}
 use Rattle.mt_types.specs.declared.row.Row.{Row}
 use Rattle.mt_types.specs.Rows.{version_of}
@@ -42,7 +42,7 @@ use Rattle.mt_write.specs.Causes.{version_fault}
 use Rattle.mt_write.specs.declared.writing.Edit.{Edit}
 use Rattle.mt_write.specs.declared.writing.Edit.TheVariants.{Put as PutEdit, Remove as RemoveEdit}
 use Rattle.mt_write.specs.declared.writing.Stage.{Stage}
-use Rattle.mt_write.specs.declared.writing.Stage.TheVariants.{Seeks, Enters, Rightward, Searched, Copies, GivesBack, Spared, HalfFilled, HalfLinked, Halved, Posts, LayerSpared, LayerFilled, LayerReady, LayerMarked, LayerLinked, Layered, Reserved, KeyWritten, Filled, Made, Taken, Stored, Failed}
+use Rattle.mt_write.specs.declared.writing.Stage.TheVariants.{Seeks, Enters, Rightward, Searched, Copies, GivesBack, Spared, HalfFilled, HalfLinked, Halved, Posts, LayerSpared, LayerFilled, LayerReady, LayerMarked, LayerLinked, Layered, Reserved, KeyWritten, Filled, Made, Taken, Stored, Hidden, Forgets, Failed}
 use Rattle.mt_write.specs.Splitting.{AreCopied, IsCutAt, IsHalf, IsHalfLinked, IsRead, IsSplit, empty_half, upper_half}
 use Rattle.mt_write.specs.declared.writing.Halves.{Halves}
 use Rattle.mt_write.specs.declared.writing.Ending.{Ending}
@@ -264,6 +264,28 @@ pub record IsFound (key : List ℕ) (edit : Edit) (way : Way) (b : BorderView) (
   pub is_remove : edit ≡ RemoveEdit
   pub copied : row_at place b.live ≡ Some before
 
+-- the call has hidden a row of the border that it has locked, of which all is written: the border has an unused slot,
+-- and this is true of it
+pub record HasHidden (Still : BorderView → Type 0) (a : ArenaView) (w : World) (number : ℕ) : Type 0 where
+  pub b : BorderView
+  pub named : border_at a.nodes number ≡ Some b
+  pub known : IsSome (w.chart number)
+  pub locked : b.version.locked ≡ true
+  pub alive : b.version.deleted ≡ false
+  pub written : b.unwritten ≡ Nothing
+  pub free : NotAmong number w.closing
+  pub sound : IsBorder b
+  pub room : length b.live < SLOTS
+  pub still : Still b
+
+-- the first unused slot held a key
+abbrev pub FirstHeld : BorderView → Type 0
+FirstHeld b = first_held b.unused ≡ true
+
+-- the border is marked as one into which keys are being inserted
+abbrev pub IsInserting : BorderView → Type 0
+IsInserting b = b.version.inserting ≡ true
+
 -- it isn't refused for another version
 abbrev pub IsOtherwise : Refusal → Type 0
 IsOtherwise (OtherVersion found) = ⊥
@@ -341,6 +363,8 @@ StageIsTrue C key edit way (Taken place stored before) begun a w = (b : BorderVi
 StageIsTrue C key edit way (Posts posting ending) begun a w = PostingIsTrue begun posting a w
     × (posting.half ≡ way.node) × MayEnd key edit ending
 StageIsTrue C key edit way (Stored number split) begun a w = HasLocked (prefix_of key way) a w way.node.0 split
+StageIsTrue C key edit way (Hidden number) begun a w = HasHidden FirstHeld a w way.node.0
+StageIsTrue C key edit way (Forgets number) begun a w = HasHidden IsInserting a w way.node.0
 StageIsTrue C key edit way (Failed refusal split) begun a w = HasLocked (prefix_of key way) a w way.node.0 split
     × MayRefuse (edit_request key edit) refusal × Tells a w key way refusal split
 

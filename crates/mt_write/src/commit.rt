@@ -169,7 +169,7 @@ impl Write {
             self.new }
     {
         let commit = hide(tree, log, self.way.node, place, key, before);
-        self.turn_to(Stage::Stored(commit, None));
+        self.turn_to(Stage::Hidden(commit));
         Progress::Committed(commit)
     }
 }

@@ -30,11 +30,13 @@ use mt_tree::Tree;
 use mt_types::event::Answer;
 use std::alloc::Global;
 
-/// A commit at the border of a key, and how many steps it took since the lock.
+/// A commit at the border of a key, how many steps it took since the lock, and whether it has hidden a row, which is then
+/// to be dropped.
 #[derive(Clone, Copy)]
 pub struct Committed {
     pub commit: u64,
     pub steps: u64,
+    pub hides: bool,
 }
 
 /// What a put or remove came to at the border of its key, which it had locked.
@@ -91,7 +93,11 @@ impl Write {
                 write_slot(tree, number, slot_key, row);
                 let _written = tree.free_numbers();
                 let commit = show(tree, log, number, place, key, logged);
-                Ok(Committed { commit, steps: 4 })
+                Ok(Committed {
+                    commit,
+                    steps: 4,
+                    hides: false,
+                })
             }
             Stage::Made {
                 place,
@@ -101,10 +107,12 @@ impl Write {
             } => Ok(Committed {
                 commit: overwrite(tree, log, number, place, key, columns, logged),
                 steps: 2,
+                hides: false,
             }),
             Stage::Taken { place, key, before } => Ok(Committed {
                 commit: hide(tree, log, number, place, key, before),
                 steps: 2,
+                hides: true,
             }),
             stage => Err(stage),
         }
@@ -201,7 +209,7 @@ impl Write {
     }
 
     // At the border of its key, which is not locked and which it need not split: locks it, reads it, makes ready with what
-    // was found there, commits, and unlocks it. If it is to make a layer, or has failed, it stops before that.
+    // was found there, commits, drops the row that it has hidden, and unlocks it. If it is to make a layer, or has failed, it stops before that.
     pub(crate) fn finish(
         &mut self,
         alloc: Global,
@@ -237,7 +245,8 @@ impl Write {
             AtBorder::Absent => self.unlock(tree, fields + 2, 0, Answer::Absent),
             AtBorder::Commits(committed) => {
                 let answer = written(&self.edit, committed.commit);
-                self.unlock(tree, fields + committed.steps + 2, 1, answer)
+                let more = self.forget_hidden(tree, committed);
+                self.unlock(tree, fields + committed.steps + more + 2, 1, answer)
             }
             AtBorder::Ready(stage) => {
                 self.turn_to(stage);

@@ -7,6 +7,7 @@ mod copying;
 mod cut;
 mod ending;
 mod finishing;
+mod forgetting;
 mod inserting;
 pub mod laws;
 mod layering;

@@ -43,6 +43,7 @@ impl Write {
         Ok(Some(Committed {
             commit: log.number(),
             steps: 2,
+            hides: true,
         }))
     }
 
@@ -88,6 +89,7 @@ impl Write {
                 Ok(Some(Committed {
                     commit: version,
                     steps: 2,
+                    hides: false,
                 }))
             }
             Found::Absent(place) if !border.is_full() => {
@@ -100,6 +102,7 @@ impl Write {
                 Ok(Some(Committed {
                     commit: version,
                     steps: 4,
+                    hides: false,
                 }))
             }
             Found::Absent(_) | Found::OtherSuffix(_) | Found::Link(_, _) => Ok(None),

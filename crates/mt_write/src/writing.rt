@@ -161,6 +161,10 @@ pub enum Stage {
     },
     /// It has made the commit of this number.
     Stored(u64, Option<Halves>),
+    /// It has hidden its row by the commit of this number. Its border is to be marked, so that the row may be dropped.
+    Hidden(u64),
+    /// Its border is marked. The row is to be dropped that it has hidden by the commit of this number.
+    Forgets(u64),
     /// It is to end refused.
     Failed(Refusal, Option<Halves>),
 }
@@ -327,6 +331,8 @@ impl Write {
             } => self.write_row(tree, log, place, key, columns, logged),
             Stage::Taken { place, key, before } => self.hide_row(tree, log, place, key, before),
             Stage::Stored(commit, split) => self.end_stored(alloc, tree, commit, split),
+            Stage::Hidden(commit) => self.mark_hidden(tree, commit),
+            Stage::Forgets(commit) => self.forget_row(tree, commit),
             Stage::Failed(refusal, split) => self.end_failed(alloc, tree, refusal, split),
         }
     }

@@ -21,12 +21,14 @@ act-came_to-requires c =
 pub unlock-requires-in-Commits-clause-locked : goal.unlock-requires-in-Commits-clause-locked
 unlock-requires-in-Commits-clause-locked c =
     let k = at_key c.args.columns c.args.tree.now c.lock_border.new.self c.args.log.now c.args.self.now c.requires.may c.requires.trimmed c.requires.idle c.requires.lock c.lock_border.ensures.value c.lock_border.ensures.keeps c.free_numbers-before.ensures.arena c.free_numbers-locked.ensures.arena c.number-trimmed.ensures.sound c.border.result.now c.border.ensures.value c.lock_border.ensures.sound c.args.found c.requires.finds c.requires.here c.requires.straight c.found_fields-fields.result c.found_fields-fields.ensures.fields in
-    stored_locked c.args.columns c.lock_border.new.self c.args.log.now c.args.self.now k.there k.act.may c.requires.trimmed c.free_numbers-locked.ensures.arena c.act-came_to.new.tree c.act-came_to.new.log c.in-Commits.committed (c.in-Commits.ensures k.there k.act) c.free_numbers-acted.ensures.arena
+    let at = c.in-Commits.ensures k.there k.act in
+    stored_locked c.args.columns c.lock_border.new.self c.args.log.now c.args.self.now k.there k.act.may c.requires.trimmed c.free_numbers-locked.ensures.arena c.act-came_to.new.tree c.act-came_to.new.log c.in-Commits.committed at c.forget_hidden-more.new.tree c.forget_hidden-more.result (c.forget_hidden-more.ensures c.args.columns c.act-came_to.new.log at.may at.trimmed c.number-sound.ensures.sound)
 
 pub unlock-requires-in-Commits-clause-written : goal.unlock-requires-in-Commits-clause-written
 unlock-requires-in-Commits-clause-written c =
     let k = at_key c.args.columns c.args.tree.now c.lock_border.new.self c.args.log.now c.args.self.now c.requires.may c.requires.trimmed c.requires.idle c.requires.lock c.lock_border.ensures.value c.lock_border.ensures.keeps c.free_numbers-before.ensures.arena c.free_numbers-locked.ensures.arena c.number-trimmed.ensures.sound c.border.result.now c.border.ensures.value c.lock_border.ensures.sound c.args.found c.requires.finds c.requires.here c.requires.straight c.found_fields-fields.result c.found_fields-fields.ensures.fields in
-    stored_written c.args.columns c.lock_border.new.self c.args.log.now c.args.self.now k.there k.act.may c.requires.trimmed c.free_numbers-locked.ensures.arena c.act-came_to.new.tree c.act-came_to.new.log c.in-Commits.committed (c.in-Commits.ensures k.there k.act) c.free_numbers-acted.ensures.arena
+    let at = c.in-Commits.ensures k.there k.act in
+    stored_written c.args.columns c.lock_border.new.self c.args.log.now c.args.self.now k.there k.act.may c.requires.trimmed c.free_numbers-locked.ensures.arena c.act-came_to.new.tree c.act-came_to.new.log c.in-Commits.committed at c.forget_hidden-more.new.tree c.forget_hidden-more.result (c.forget_hidden-more.ensures c.args.columns c.act-came_to.new.log at.may at.trimmed c.number-sound.ensures.sound)
 
 pub returns-in-Absent-clause-runs : goal.returns-in-Absent-clause-runs
 returns-in-Absent-clause-runs c =
@@ -44,10 +46,11 @@ returns-in-Absent-clause-trimmed c =
 pub returns-in-Commits-clause-runs : goal.returns-in-Commits-clause-runs
 returns-in-Commits-clause-runs c =
     let k = at_key c.args.columns c.args.tree.now c.lock_border.new.self c.args.log.now c.args.self.now c.requires.may c.requires.trimmed c.requires.idle c.requires.lock c.lock_border.ensures.value c.lock_border.ensures.keeps c.free_numbers-before.ensures.arena c.free_numbers-locked.ensures.arena c.number-trimmed.ensures.sound c.border.result.now c.border.ensures.value c.lock_border.ensures.sound c.args.found c.requires.finds c.requires.here c.requires.straight c.found_fields-fields.result c.found_fields-fields.ensures.fields in
+    let at = c.in-Commits.ensures k.there k.act in
     subst (λ (run : WriteRun). HasRun c.args.columns (state c.args.tree.now c.args.log.now c.args.self.now) run (state c.unlock-in-Commits.new.tree c.act-came_to.new.log c.args.self.now)) (sym c.unlock-in-Commits.ensures.run)
     (subst (λ (n : ℕ). HasRun c.args.columns (state c.args.tree.now c.args.log.now c.args.self.now) (record { steps = n; commits = 1; last = Answered c.written-answer.result }) (state c.unlock-in-Commits.new.tree c.act-came_to.new.log c.args.self.now)) (omega arith)
-    (after_reads c.args.columns c.args.tree.now c.lock_border.new.self c.args.log.now c.args.self.now c.args.found c.found_fields-fields.result k (record { steps = c.in-Commits.committed.steps + 1; commits = 1; last = Answered c.written-answer.result }) (state c.unlock-in-Commits.new.tree c.act-came_to.new.log c.args.self.now)
-    (ends_run_stored c.args.columns c.lock_border.new.self c.args.log.now c.args.self.now k.there k.act.may c.requires.trimmed c.free_numbers-locked.ensures.arena c.act-came_to.new.tree c.act-came_to.new.log c.in-Commits.committed (c.in-Commits.ensures k.there k.act) c.free_numbers-acted.ensures.arena c.requires.idle c.unlock-in-Commits.new.tree c.written-answer.result c.written-answer.ensures c.unlock-in-Commits.ensures.unlocked c.unlock-in-Commits.ensures.keeps c.unlock-in-Commits.ensures.arena c.number-sound.ensures.sound)))
+    (after_reads c.args.columns c.args.tree.now c.lock_border.new.self c.args.log.now c.args.self.now c.args.found c.found_fields-fields.result k (record { steps = c.in-Commits.committed.steps + c.forget_hidden-more.result + 1; commits = 1; last = Answered c.written-answer.result }) (state c.unlock-in-Commits.new.tree c.act-came_to.new.log c.args.self.now)
+    (ends_run_stored c.args.columns c.lock_border.new.self c.args.log.now c.args.self.now k.there k.act.may c.requires.trimmed c.free_numbers-locked.ensures.arena c.act-came_to.new.tree c.act-came_to.new.log c.in-Commits.committed at c.forget_hidden-more.new.tree c.forget_hidden-more.result (c.forget_hidden-more.ensures c.args.columns c.act-came_to.new.log at.may at.trimmed c.number-sound.ensures.sound) c.requires.idle c.unlock-in-Commits.new.tree c.written-answer.result c.written-answer.ensures c.unlock-in-Commits.ensures.unlocked c.unlock-in-Commits.ensures.keeps c.unlock-in-Commits.ensures.arena c.number-sound.ensures.sound)))
 
 pub returns-in-Commits-clause-trimmed : goal.returns-in-Commits-clause-trimmed
 returns-in-Commits-clause-trimmed c =
@@ -85,21 +88,40 @@ unlock-requires-clause-written c =
 pub overflow_add-fields-in-Commits : goal.overflow_add-fields-in-Commits
 overflow_add-fields-in-Commits c =
     let k = at_key c.args.columns c.args.tree.now c.lock_border.new.self c.args.log.now c.args.self.now c.requires.may c.requires.trimmed c.requires.idle c.requires.lock c.lock_border.ensures.value c.lock_border.ensures.keeps c.free_numbers-before.ensures.arena c.free_numbers-locked.ensures.arena c.number-trimmed.ensures.sound c.border.result.now c.border.ensures.value c.lock_border.ensures.sound c.args.found c.requires.finds c.requires.here c.requires.straight c.found_fields-fields.result c.found_fields-fields.ensures.fields in
-    let few = (c.in-Commits.ensures k.there k.act).few in
+    let at = c.in-Commits.ensures k.there k.act in
+    let few = at.few in
     let fields = c.found_fields-fields.ensures.few in
     omega (arith, few, fields)
 
 pub overflow_add-fields-in-Commits-2 : goal.overflow_add-fields-in-Commits-2
 overflow_add-fields-in-Commits-2 c =
     let k = at_key c.args.columns c.args.tree.now c.lock_border.new.self c.args.log.now c.args.self.now c.requires.may c.requires.trimmed c.requires.idle c.requires.lock c.lock_border.ensures.value c.lock_border.ensures.keeps c.free_numbers-before.ensures.arena c.free_numbers-locked.ensures.arena c.number-trimmed.ensures.sound c.border.result.now c.border.ensures.value c.lock_border.ensures.sound c.args.found c.requires.finds c.requires.here c.requires.straight c.found_fields-fields.result c.found_fields-fields.ensures.fields in
-    let few = (c.in-Commits.ensures k.there k.act).few in
+    let at = c.in-Commits.ensures k.there k.act in
+    let few = at.few in
+    let more = (c.forget_hidden-more.ensures c.args.columns c.act-came_to.new.log at.may at.trimmed c.number-sound.ensures.sound).few in
     let fields = c.found_fields-fields.ensures.few in
-    omega (arith, few, fields)
+    omega (arith, few, more, fields)
 
 pub returns-in-Commits-clause-most : goal.returns-in-Commits-clause-most
 returns-in-Commits-clause-most c =
     let k = at_key c.args.columns c.args.tree.now c.lock_border.new.self c.args.log.now c.args.self.now c.requires.may c.requires.trimmed c.requires.idle c.requires.lock c.lock_border.ensures.value c.lock_border.ensures.keeps c.free_numbers-before.ensures.arena c.free_numbers-locked.ensures.arena c.number-trimmed.ensures.sound c.border.result.now c.border.ensures.value c.lock_border.ensures.sound c.args.found c.requires.finds c.requires.here c.requires.straight c.found_fields-fields.result c.found_fields-fields.ensures.fields in
-    let few = (c.in-Commits.ensures k.there k.act).few in
+    let at = c.in-Commits.ensures k.there k.act in
+    let few = at.few in
+    let more = (c.forget_hidden-more.ensures c.args.columns c.act-came_to.new.log at.may at.trimmed c.number-sound.ensures.sound).few in
     let fields = c.found_fields-fields.ensures.few in
     let run = ap (λ (r : WriteRun). r.steps) c.unlock-in-Commits.ensures.run in
-    omega (arith, few, fields, run)
+    omega (arith, few, more, fields, run)
+
+pub overflow_add-fields-in-Commits-3 : goal.overflow_add-fields-in-Commits-3
+overflow_add-fields-in-Commits-3 c =
+    let k = at_key c.args.columns c.args.tree.now c.lock_border.new.self c.args.log.now c.args.self.now c.requires.may c.requires.trimmed c.requires.idle c.requires.lock c.lock_border.ensures.value c.lock_border.ensures.keeps c.free_numbers-before.ensures.arena c.free_numbers-locked.ensures.arena c.number-trimmed.ensures.sound c.border.result.now c.border.ensures.value c.lock_border.ensures.sound c.args.found c.requires.finds c.requires.here c.requires.straight c.found_fields-fields.result c.found_fields-fields.ensures.fields in
+    let at = c.in-Commits.ensures k.there k.act in
+    let few = at.few in
+    let more = (c.forget_hidden-more.ensures c.args.columns c.act-came_to.new.log at.may at.trimmed c.number-sound.ensures.sound).few in
+    let fields = c.found_fields-fields.ensures.few in
+    omega (arith, few, more, fields)
+
+pub forget_hidden-more-requires : goal.forget_hidden-more-requires
+forget_hidden-more-requires c =
+    let k = at_key c.args.columns c.args.tree.now c.lock_border.new.self c.args.log.now c.args.self.now c.requires.may c.requires.trimmed c.requires.idle c.requires.lock c.lock_border.ensures.value c.lock_border.ensures.keeps c.free_numbers-before.ensures.arena c.free_numbers-locked.ensures.arena c.number-trimmed.ensures.sound c.border.result.now c.border.ensures.value c.lock_border.ensures.sound c.args.found c.requires.finds c.requires.here c.requires.straight c.found_fields-fields.result c.found_fields-fields.ensures.fields in
+    (c.args.columns, c.act-came_to.new.log, (c.in-Commits.ensures k.there k.act).may)

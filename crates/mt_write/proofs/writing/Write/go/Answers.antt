@@ -146,6 +146,18 @@ end_stored-requires-clause-may c = (c.args.columns, c.args.log.now, may_be c.arg
 pub returns-in-Stored : goal.returns-in-Stored
 returns-in-Stored c = at_step c.args.columns c.args.tree.now c.end_stored.new.tree c.args.log.now c.args.log.now c.args.self.now c.replace.new.dest _ c.end_stored.result c.end_stored.new.self (sym c.replace.ensures.value ∙ c.in-Stored.is) (c.end_stored.ensures c.args.columns c.args.log.now)
 
+pub mark_hidden-requires : goal.mark_hidden-requires
+mark_hidden-requires c = (c.args.columns, c.args.log.now, may_be c.args.columns c.args.tree.now c.args.log.now c.args.self.now c.replace.new.dest _ (sym c.replace.ensures.value ∙ c.in-Hidden.is) c.requires)
+
+pub returns-in-Hidden : goal.returns-in-Hidden
+returns-in-Hidden c = at_step c.args.columns c.args.tree.now c.mark_hidden.new.tree c.args.log.now c.args.log.now c.args.self.now c.replace.new.dest _ c.mark_hidden.result c.mark_hidden.new.self (sym c.replace.ensures.value ∙ c.in-Hidden.is) (c.mark_hidden.ensures c.args.columns c.args.log.now)
+
+pub forget_row-requires : goal.forget_row-requires
+forget_row-requires c = (c.args.columns, c.args.log.now, may_be c.args.columns c.args.tree.now c.args.log.now c.args.self.now c.replace.new.dest _ (sym c.replace.ensures.value ∙ c.in-Forgets.is) c.requires)
+
+pub returns-in-Forgets : goal.returns-in-Forgets
+returns-in-Forgets c = at_step c.args.columns c.args.tree.now c.forget_row.new.tree c.args.log.now c.args.log.now c.args.self.now c.replace.new.dest _ c.forget_row.result c.forget_row.new.self (sym c.replace.ensures.value ∙ c.in-Forgets.is) (c.forget_row.ensures c.args.columns c.args.log.now)
+
 pub end_failed-requires : goal.end_failed-requires
 end_failed-requires c = (c.args.columns, c.args.log.now, may_be c.args.columns c.args.tree.now c.args.log.now c.args.self.now c.replace.new.dest _ (sym c.replace.ensures.value ∙ c.in-Failed.is) c.requires)
 

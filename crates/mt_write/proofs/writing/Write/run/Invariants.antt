@@ -1,6 +1,6 @@
 use Rattle.std.proofs.Common.{◌≤◌, ◌-◌}
 use Rattle.mt_write.specs.Runs.{IsTrimmed, MayRun, state}
-use Rattle.mt_write.proofs.RunLemmas.{Running}
+use Rattle.mt_write.specs.Runs.{Running}
 use Rattle.mt_write.proofs.writing.Write.run.Given as goal
 
 -- steps were made after each of which the call has continued at once, fewer than the most, and the next one may be made
