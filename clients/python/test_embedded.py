@@ -1,8 +1,9 @@
 #!/usr/bin/env python3
-"""Tests of the embedded index, over the built library: also those of map_cases, test_embedded_views and
-test_embedded_threads. Prints 'N passed, M failed' last."""
+"""Tests of the embedded index, over the built library: also those of map_cases, test_embedded_views,
+test_embedded_threads and test_embedded_native. Prints 'N passed, M failed' last."""
 from __future__ import annotations
 
+import ctypes
 import inspect
 import os
 import random
@@ -18,6 +19,7 @@ import rowanspan
 import rowanspan.core
 import rowanspan.embedded
 import rowanspan.mapping
+import test_embedded_native
 import test_embedded_threads
 import test_embedded_views
 from counting import run_counted
@@ -25,6 +27,7 @@ from map_cases import MapCases
 from rowanspan.embedded import (MAX_KEY_BYTES, AtLeast, BadColumn, BadLimit, BadRange, Behind, Closed, ColumnTooLong,
                                 Delta, Equals, Index, KeyTooLong, NoLibrary, NoSuchView, OtherVersion, Page, Prefix,
                                 Range, Row, RowMap, Tidied, TooLong, TooManyViews, WrongIndex)
+from rowanspan.library import column_sets
 from test_bad_input import WRONG_TYPES
 from test_embedded_views import raises
 from test_shell import example_of
@@ -47,17 +50,40 @@ def rows() -> None:
         assert index.put(b"", b"") == 5 and index.first(limit=1) == [(b"", Row(5, (b"",)))]
 
 
-def a_library_named_without_its_folder() -> None:
-    """It is looked for in the present folder, and not where the loader looks."""
+def built_library() -> Path:
     named = os.environ.get("ROWANSPAN_LIBRARY")
-    built, before = Path(named) if named else HERE.parents[1] / "dist" / "librowanspan.so", os.getcwd()
-    built = built.resolve()
+    return Path(named).absolute() if named else HERE.parents[1] / "dist" / "librowanspan.so"
+
+
+def a_library_named_without_its_folder() -> None:
+    """It is looked for in the present folder, and not where the loader looks. The link to it is a library too."""
+    built, before = built_library(), os.getcwd()
     os.chdir(built.parent)
     try:
-        with Index(library=built.name) as index:
-            assert index.put(b"a", b"") == 1
+        for name in (built.name, built.resolve().name):
+            with Index(library=name) as index:
+                assert index.put(b"a", b"") == 1
     finally:
         os.chdir(before)
+
+
+def functions_of_the_header() -> None:
+    """The functions of the library that the package doesn't use: what can't fail returns its value, the pointer to a
+    number may be null, and a get of a column writes its bytes alone."""
+    library, size, u64 = ctypes.CDLL(str(built_library())), ctypes.c_size_t, ctypes.c_uint64
+    for name in ("commits", "nodes", "columns", "collect"):
+        getattr(library, f"rowanspan_{name}").restype = u64
+    index, length, room = ctypes.c_void_p(), u64(9), ctypes.create_string_buffer(64)
+    sets, count = column_sets({1: b"red"})
+    assert library.rowanspan_open(ctypes.byref(index), u64(2), u64(16), u64(0)) == 0
+    assert library.rowanspan_put(index, b"apple", size(5), sets, size(count), None) == 0
+    for column, status, wanted in ((1, 0, b"red"), (0, 0, b""), (2, BadColumn.number, b"")):
+        got = library.rowanspan_get_column(index, b"apple", size(5), ctypes.c_uint8(column), room, size(64),
+                                           ctypes.byref(length))
+        assert (got, room.raw[:length.value]) == (status, wanted)
+    numbers = [getattr(library, f"rowanspan_{name}")(index) for name in ("commits", "nodes", "columns", "collect")]
+    assert numbers == [1, 2, 2, 0]
+    library.rowanspan_close(index)
 
 
 def columns() -> None:
@@ -313,9 +339,9 @@ def memory_is_flat() -> None:
     assert int(grown) < 4096, f"{grown.strip()} KiB more after a thousand times"
 
 
-CASES = (rows, a_library_named_without_its_folder, columns, conditional_puts, views, *test_embedded_views.CASES, feeds,
-         large_answers, epochs, closed, wrong_types, names_of_the_client, the_examples_of_the_pages, the_shell,
-         random_calls, memory_is_flat)
+CASES = (rows, a_library_named_without_its_folder, functions_of_the_header, columns, conditional_puts, views,
+         *test_embedded_views.CASES, feeds, large_answers, epochs, closed, wrong_types, names_of_the_client,
+         the_examples_of_the_pages, the_shell, random_calls, memory_is_flat)
 
 
 class EmbeddedMapTest(MapCases, unittest.TestCase):
@@ -328,7 +354,8 @@ def main() -> int:
     load = unittest.defaultTestLoader
     cases = unittest.TestSuite(unittest.FunctionTestCase(case) for case in CASES)
     return run_counted(unittest.TestSuite([cases, load.loadTestsFromTestCase(EmbeddedMapTest),
-                                           load.loadTestsFromModule(test_embedded_threads)]))
+                                           load.loadTestsFromModule(test_embedded_threads),
+                                           load.loadTestsFromModule(test_embedded_native)]))
 
 
 if __name__ == "__main__":

@@ -9,18 +9,19 @@ from _ctypes import FUNCFLAG_PYTHONAPI
 from typing import Any, Callable, List, Optional, Sequence, Set
 
 from rowanspan.embedded import Closed, Index, Prefix, Range, Row, Sets
+from rowanspan.native import NoCalls
 
 SECONDS = 60.0
 THREADS = 4
 
 
 class Watched:
-    """The library of an index, each of whose calls is made by `around(name, call)`."""
+    """The library of an index, each of whose calls is made by `around(name, call)`, none by the extension module."""
 
     def __init__(self, index: Index, around: Callable[[str, Callable[[], int]], int]) -> None:
         self._library: Any = index._library
         self._around = around
-        index._library = self  # type: ignore[assignment]
+        index._library, index._native = self, NoCalls()  # type: ignore[assignment]
 
     def __getattr__(self, name: str) -> Callable[..., int]:
         symbol: Callable[..., int] = getattr(self._library, name)

@@ -7,6 +7,7 @@ import pickle
 from typing import Any, Callable
 
 from rowanspan.embedded import Behind, ColumnTooLong, FeedFull, Index, NoMemory, Page, Prefix, Row
+from rowanspan.native import NoCalls
 
 
 def raises(kind: type, call: Callable[[], object]) -> BaseException:
@@ -50,9 +51,9 @@ class RefusingLibrary:
 
 
 def refusing(index: Index) -> RefusingLibrary:
-    """Replaces the library of an index by one that may refuse to apply."""
+    """Replaces the library of an index by one that may refuse to apply. The extension module makes no calls of it."""
     library = RefusingLibrary(index._library, "apply")
-    index._library = library
+    index._library, index._native = library, NoCalls()
     return library
 
 
@@ -112,6 +113,7 @@ def views_kept_by_hand() -> None:
 def an_interrupt_before_the_views_follow() -> None:
     """The change is made; the next one brings the views up to date before it, though they hold the whole log."""
     with Index(feed=1) as index:
+        index._native = NoCalls()
         view = index.build(Prefix(b""))
         keep_views = index._keep_views
 

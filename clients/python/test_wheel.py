@@ -49,6 +49,9 @@ WITHOUT_CHMOD = ("import os, pathlib, sys\n"
 NOTICES = "Parts that others wrote.\n\n== größe\n\nMIT\n"
 LICENCE = "Rowanspan: MIT OR Apache-2.0\n"
 
+# what the maker of the wheel says if there is no compiler, or no Python.h
+NO_MODULE = "wheel: without the extension module: "
+
 Ended = Tuple[int, str, str]
 
 
@@ -74,20 +77,23 @@ class Folder(unittest.TestCase):
         self.third_party = self.room / "THIRD-PARTY"
         self.third_party.write_text(NOTICES, encoding="utf-8")
 
-    def wheel(self, *words: str) -> Ended:
-        return run([sys.executable, str(TOP / "scripts" / "wheel"), "--library", str(self.library), "--mtserve",
-                    str(self.server), "--third-party", str(self.third_party), *words])
+    def command(self) -> List[str]:
+        return [sys.executable, str(TOP / "scripts" / "wheel"), "--library", str(self.library), "--mtserve",
+                str(self.server), "--third-party", str(self.third_party)]
 
-    def made(self, folder: str = "out") -> Path:
+    def wheel(self, *words: str) -> Ended:
+        return run([*self.command(), *words])
+
+    def made(self, folder: str = "out", *words: str) -> Path:
         """A wheel."""
-        status, output, errors = self.wheel("--out", str(self.room / folder))
-        self.assertEqual((status, errors), (0, ""))
+        status, output, errors = self.wheel("--out", str(self.room / folder), *words)
+        self.assertEqual((status, "" if errors.startswith(NO_MODULE) else errors), (0, ""))
         return Path(output.strip())
 
 
 class WheelTest(Folder):
     def test_what_is_in_it(self) -> None:
-        path = self.made()
+        path = self.made("out", "--no-native")
         self.assertRegex(path.name, f"^rowanspan-{VERSION}-py3-none-linux_[a-z0-9_]+\\.whl$")
         with zipfile.ZipFile(path) as wheel:
             self.assertIsNone(wheel.testzip())
@@ -134,6 +140,24 @@ class WheelTest(Folder):
             wanted = "sha256=" + base64.urlsafe_b64encode(hashed).decode().rstrip("=")
             self.assertEqual((digest, size), ("", "") if name == record else (wanted, str(len(packed[name]))))
 
+    def test_the_extension_module(self) -> None:
+        """It is in the wheel, whose tag says so; where it can't be made, the wheel is one for each Python."""
+        with_module, without = self.made(), self.made("without", "--no-native")
+        if "-py3-none-" in with_module.name:
+            self.skipTest("the extension module can't be made here")
+        self.assertRegex(with_module.name, f"^rowanspan-{VERSION}-cp39-abi3-linux_[a-z0-9_]+\\.whl$")
+        with zipfile.ZipFile(with_module) as wheel, zipfile.ZipFile(without) as other:
+            self.assertEqual(set(wheel.namelist()) - set(other.namelist()), {"rowanspan/_native.abi3.so"})
+            self.assertEqual(wheel.read("rowanspan/_native.abi3.so")[:4], b"\x7fELF")
+            told = wheel.read(f"rowanspan-{VERSION}.dist-info/WHEEL")
+        self.assertIn(f"\nTag: {with_module.stem.split('-', 2)[2]}\n".encode(), told)
+        done = subprocess.run([*self.command(), "--out", str(with_module.parent)], check=False, capture_output=True,
+                              text=True, env={**os.environ, "CC": "no-such-compiler"}, timeout=SECONDS)
+        made = list(with_module.parent.glob("*.whl"))
+        self.assertEqual((done.returncode, made), (0, [with_module.parent / without.name]))
+        self.assertEqual(made[0].read_bytes(), without.read_bytes())
+        self.assertEqual(done.stderr, f"{NO_MODULE}build_native: there is no C compiler no-such-compiler\n")
+
     def test_two_are_the_same(self) -> None:
         first = self.made("one").read_bytes()
         os.utime(self.library, (1, 1))
@@ -145,14 +169,14 @@ class WheelTest(Folder):
                             (self.third_party, "scripts/release")):
             before = file.read_bytes()
             file.unlink()
-            status, output, errors = self.wheel("--out", str(self.room))
+            status, output, errors = self.wheel("--no-native", "--out", str(self.room))
             self.assertEqual((status, output, errors), (1, "", f"wheel: {file} is missing: {maker} makes it\n"))
             file.write_bytes(before)
         self.assertEqual(list(self.room.glob("*.whl")), [])
 
     def test_bad_command_lines(self) -> None:
         (self.room / "file").write_text("")
-        status, output, errors = self.wheel("--out", str(self.room / "file"))
+        status, output, errors = self.wheel("--no-native", "--out", str(self.room / "file"))
         self.assertEqual((status, output, errors.count("\n")), (1, "", 1))
         self.assertEqual(self.wheel("--nonsense")[0], 2)
 

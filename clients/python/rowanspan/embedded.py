@@ -15,14 +15,14 @@ no queries as values. `feed`, `commits`, `nodes`, `columns`, `apply`, `keep_view
 here.
 
 The library is the one that `Index` is given; without one, that of the environment's ROWANSPAN_LIBRARY; without it, that
-in the package's own folder, or in the folder dist of the checkout.
+in the package's own folder, or in the folder dist of the checkout. The most frequent calls are made by the extension
+module (native.py), if it is there.
 
 Any thread may call an index. It has a lock of its own, so its calls run one after another.
 """
 from __future__ import annotations
 
 import ctypes
-import threading
 from pathlib import Path
 from types import TracebackType
 from typing import Any, List, Optional, Sequence, Tuple, Type, Union
@@ -35,7 +35,8 @@ from .core import (MAX_LIMIT, REFUSALS, Closed, Delta, NoLibrary, Page, Pairs, P
 from .library import (ABSENT, CLOSED, CURRENT, DONE, NO_ROOM, U64, Handle, Reader, column_numbers, column_sets, loaded,
                       spelled, view_test)
 from .mapping import *  # noqa: F401,F403
-from .mapping import RowMap, View, number_of_view
+from .mapping import RowMap, Totals, View, number_of_view
+from .native import calls_of
 
 __all__ = ["Index"]
 __all__ += core.__all__
@@ -56,16 +57,16 @@ class Index(RowMap):
     views then lag, and the next change or build, or `keep_views`, brings them up to date.
 
     Any thread may call it, and close it. Calls run one after another: a call waits until that of another thread has
-    ended. During a call of the library, other threads of the program run.
+    ended. During a call of the library by ctypes, other threads of the program run.
     """
 
     def __init__(self, columns: int = 1, feed: int = 65536, keep: int = 0, *, keep_views: bool = True,
                  library: Optional[Union[str, Path]] = None) -> None:
         asked = checked_number(columns, "columns"), checked_number(feed, "feed"), checked_number(keep, "keep")
         self._library = loaded(library)
-        # the thread that holds it may take it again: a finalizer that calls the index may run inside a call
-        self._lock = threading.RLock()
         self._handle = Handle()
+        # the calls of the extension module: each returns NotImplemented if it has done nothing
+        self._native, self._lock = calls_of(self._library, self._handle, keep_views)
         self._room: Optional[ctypes.Array[ctypes.c_char]] = None
         self._keeps_views = keep_views
         self._views_lag = False
@@ -175,20 +176,35 @@ class Index(RowMap):
     # -- the calls of a map
 
     def _row(self, key: bytes, columns: Optional[Sequence[int]]) -> Optional[Row]:
+        row: Optional[Row] = self._native.get(key, columns)
+        if row is not NotImplemented:
+            return row
         reader = self._read("get", *spelled(key, "a key"), *column_numbers(columns))
         return None if reader is None else reader.row()
 
     def put(self, key: bytes, sets: Sets) -> int:
+        number: int = self._native.put(self, key, sets)
+        if number is not NotImplemented:
+            return number
         return self._made("put", *spelled(key, "a key"), *column_sets(sets))
 
     def put_if(self, key: bytes, sets: Sets, version: int) -> int:
+        number: int = self._native.put_if(self, key, sets, version)
+        if number is not NotImplemented:
+            return number
         return self._made("put_if", *spelled(key, "a key"), *column_sets(sets),
                           checked_number(version, "a version"))
 
     def remove(self, key: bytes) -> Optional[int]:
+        number: Optional[int] = self._native.remove(self, key)
+        if number is not NotImplemented:
+            return number
         return self._change("remove", *spelled(key, "a key"))
 
     def first(self, start: bytes = b"", limit: int = MAX_LIMIT, columns: Optional[Sequence[int]] = None) -> Pairs:
+        pairs: Pairs = self._native.range(start, limit, columns)
+        if pairs is not NotImplemented:
+            return pairs
         return self._answer("range", *spelled(start, "a key"), checked_limit(limit),
                             *column_numbers(columns)).pairs()
 
@@ -209,8 +225,15 @@ class Index(RowMap):
         return ViewNo(number)
 
     def _page(self, number: int, floor: int, start: bytes, limit: int) -> Page:
+        page: Page = self._native.view(number, floor, start, limit)
+        if page is not NotImplemented:
+            return page
         return self._answer("view", checked_view(number), checked_number(floor, "a floor"),
                             *spelled(start, "a key"), checked_limit(limit)).page()
+
+    def _totals(self, number: int) -> Totals:
+        totals: Totals = self._native.totals(number)
+        return super()._totals(number) if totals is NotImplemented else totals
 
     def _drop(self, number: int) -> None:
         self._number("drop", checked_view(number))

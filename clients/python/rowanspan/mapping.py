@@ -15,6 +15,7 @@ FIRST_ROWS = 60
 
 Default = TypeVar("Default")
 RowPairs = Iterator[Tuple[bytes, Row]]
+Totals = Tuple[int, int, Tuple[int, ...]]
 
 
 class RowMap(abc.ABC):
@@ -127,6 +128,11 @@ class RowMap(abc.ABC):
     def _page(self, number: int, floor: int, start: bytes, limit: int) -> Page:
         """A page of a view."""
 
+    def _totals(self, number: int) -> Totals:
+        """What a page of a view has but for its rows: `at`, `count` and `sums`."""
+        page = self._page(number, 0, b"", 1)
+        return page.at, page.count, page.sums
+
     @abc.abstractmethod
     def _drop(self, number: int) -> None:
         """Ends a view."""
@@ -188,17 +194,17 @@ class View:
     @property
     def at(self) -> int:
         """The number of commits that it shows now."""
-        return self.page(limit=1).at
+        return self._index._totals(self._number)[0]
 
     @property
     def count(self) -> int:
         """How many rows it has now."""
-        return self.page(limit=1).count
+        return self._index._totals(self._number)[1]
 
     @property
     def sums(self) -> Tuple[int, ...]:
         """For each column the sum of its amounts now."""
-        return self.page(limit=1).sums
+        return self._index._totals(self._number)[2]
 
     def rows(self, floor: int = 0, start: bytes = b"") -> RowPairs:
         """Its rows from the key `start` on, page by page. Returns an iterator over pairs of a key and its row. Each
@@ -246,10 +252,14 @@ def scanned(read: Callable[[bytes, int], Pairs], start: bytes, stop: Optional[by
     while at is not None and (stop is None or at < stop) and rest != 0:
         count = size if rest is None else min(size, rest)
         pairs = read(at, count)
-        for key, row in pairs:
-            if stop is not None and key >= stop:
-                return
-            yield key, row
+        yield from before(pairs, stop)
         at = key_after(pairs[-1][0]) if len(pairs) == count else None
         rest = None if rest is None else rest - len(pairs)
         size = min(4 * size, MAX_LIMIT)
+
+
+def before(pairs: Pairs, stop: Optional[bytes]) -> Pairs:
+    """Those pairs, which are in the order of their keys, whose keys are before `stop`."""
+    if stop is None or pairs and pairs[-1][0] < stop:
+        return pairs
+    return [pair for pair in pairs if pair[0] < stop]

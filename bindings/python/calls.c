@@ -1,0 +1,206 @@
+/* calls.c: the calls of an index. native.h says what they have in common. */
+#include "native.h"
+
+/* ---- reads */
+
+static PyObject *calls_get(Calls *self, PyObject *arguments) {
+    uint8_t columns[COLUMNS], answer[ROW_BYTES];
+    struct rowanspan_bytes key;
+    size_t count;
+    uint64_t length;
+    uint16_t status;
+    if (!takes(arguments, 2)) {
+        return NULL;
+    }
+    if (!bytes_in(PyTuple_GetItem(arguments, 0), &key) ||
+        !columns_in(PyTuple_GetItem(arguments, 1), columns, &count) || !is_free(&self->lock)) {
+        return undone();
+    }
+    status = self->library.get(self->handle, key.at, key.length, columns, count, answer, sizeof answer, &length);
+    if (status == ROWANSPAN_ABSENT) {
+        return none();
+    }
+    return status == DONE ? value_in(self, answer, length, row_of) : undone();
+}
+
+/* A read of several rows: the range from `start` on, or the page of a view from there on. */
+struct query {
+    bool is_of_view;
+    uint64_t view, floor, limit;
+    struct rowanspan_bytes start;
+    uint8_t columns[COLUMNS];
+    size_t count;
+};
+
+static uint16_t ask(Calls *self, const struct query *query, const struct room *room, uint64_t *length) {
+    if (query->is_of_view) {
+        return self->library.view(self->handle, query->view, query->floor, query->start.at, query->start.length,
+                                  (uint16_t)query->limit, room->at, room->size, length);
+    }
+    return self->library.range(self->handle, query->start.at, query->start.length, (uint16_t)query->limit,
+                               query->columns, query->count, room->at, room->size, length);
+}
+
+/* Makes room for an answer of this length. Returns false, and keeps the room as it was, if memory ends. */
+static bool grow(struct room *room, uint64_t length) {
+    size_t size = 2 * (size_t)length;
+    uint8_t *at = PyMem_Realloc(room->at, size);
+    if (at) {
+        room->at = at;
+        room->size = size;
+    }
+    return at != NULL;
+}
+
+/* Asks, and again if the answer needs more room. Returns whether there is an answer. */
+static bool is_answered(Calls *self, const struct query *query, struct room *room, uint64_t *length) {
+    uint16_t status = ask(self, query, room, length);
+    if (status == ROWANSPAN_NO_ROOM && grow(room, *length)) {
+        status = ask(self, query, room, length);
+    }
+    return status == DONE;
+}
+
+/* Reads several rows. The room is taken out while it is in use: a call that is made meanwhile makes its own. */
+static PyObject *answer_to(Calls *self, const struct query *query, of_answer value_of) {
+    struct room room = self->room, empty = {NULL, 0};
+    PyObject *value;
+    uint64_t length = 0;
+    if (!is_free(&self->lock)) {
+        return undone();
+    }
+    self->room = empty;
+    if (!room.at && !grow(&room, FIRST_ROOM / 2)) {
+        return undone();
+    }
+    value = is_answered(self, query, &room, &length) ? value_in(self, room.at, length, value_of) : undone();
+    PyMem_Free(self->room.at);
+    self->room = room;
+    return value;
+}
+
+static PyObject *calls_range(Calls *self, PyObject *arguments) {
+    struct query query = {.is_of_view = false};
+    if (!takes(arguments, 3)) {
+        return NULL;
+    }
+    if (!bytes_in(PyTuple_GetItem(arguments, 0), &query.start) ||
+        !number_in(PyTuple_GetItem(arguments, 1), UINT16_MAX, &query.limit) ||
+        !columns_in(PyTuple_GetItem(arguments, 2), query.columns, &query.count)) {
+        return undone();
+    }
+    return answer_to(self, &query, pairs_of);
+}
+
+static PyObject *calls_view(Calls *self, PyObject *arguments) {
+    struct query query = {.is_of_view = true};
+    if (!takes(arguments, 4)) {
+        return NULL;
+    }
+    if (!number_in(PyTuple_GetItem(arguments, 0), UINT64_MAX, &query.view) ||
+        !number_in(PyTuple_GetItem(arguments, 1), UINT64_MAX, &query.floor) ||
+        !bytes_in(PyTuple_GetItem(arguments, 2), &query.start) ||
+        !number_in(PyTuple_GetItem(arguments, 3), UINT16_MAX, &query.limit)) {
+        return undone();
+    }
+    return answer_to(self, &query, page_of);
+}
+
+/* The page is asked with one row, the fewest that there are, and the row isn't read. */
+static PyObject *calls_totals(Calls *self, PyObject *arguments) {
+    struct query query = {.is_of_view = true, .limit = 1};
+    query.start.at = rowanspan_bytes_at(NULL);
+    if (!takes(arguments, 1)) {
+        return NULL;
+    }
+    if (!number_in(PyTuple_GetItem(arguments, 0), UINT64_MAX, &query.view)) {
+        return undone();
+    }
+    return answer_to(self, &query, totals_of);
+}
+
+/* ---- changes */
+
+/* Brings all views to the newest commit. Returns false if the library refuses that. */
+static bool views_follow(Calls *self) {
+    uint64_t at;
+    uint16_t status;
+    do {
+        status = self->library.apply(self->handle, 0, &at);
+    } while (status == DONE);
+    return status == ROWANSPAN_CURRENT;
+}
+
+/* What a change does after its call of the library: the views follow. If they can't, the index is told that they lag,
+ * and its next change by ctypes brings them up to date. */
+static PyObject *changed(Calls *self, PyObject *index, uint16_t status, uint64_t number) {
+    if (status == DONE && self->keeps_views && !views_follow(self) &&
+        PyObject_SetAttr(index, self->views_lag, Py_True) < 0) {
+        PyErr_Clear();
+    }
+    if (status == ROWANSPAN_ABSENT) {
+        return none();
+    }
+    return status == DONE ? PyLong_FromUnsignedLongLong(number) : undone();
+}
+
+static PyObject *calls_put(Calls *self, PyObject *arguments) {
+    struct rowanspan_set sets[COLUMNS];
+    struct rowanspan_bytes key;
+    size_t count;
+    uint64_t number;
+    uint16_t status;
+    if (!takes(arguments, 3)) {
+        return NULL;
+    }
+    if (!bytes_in(PyTuple_GetItem(arguments, 1), &key) || !sets_in(PyTuple_GetItem(arguments, 2), sets, &count) ||
+        !is_free(&self->lock)) {
+        return undone();
+    }
+    status = self->library.put(self->handle, key.at, key.length, sets, count, &number);
+    return changed(self, PyTuple_GetItem(arguments, 0), status, number);
+}
+
+static PyObject *calls_put_if(Calls *self, PyObject *arguments) {
+    struct rowanspan_set sets[COLUMNS];
+    struct rowanspan_bytes key;
+    size_t count;
+    uint64_t version, number;
+    uint16_t status;
+    if (!takes(arguments, 4)) {
+        return NULL;
+    }
+    if (!bytes_in(PyTuple_GetItem(arguments, 1), &key) || !sets_in(PyTuple_GetItem(arguments, 2), sets, &count) ||
+        !number_in(PyTuple_GetItem(arguments, 3), UINT64_MAX, &version) || !is_free(&self->lock)) {
+        return undone();
+    }
+    status = self->library.put_if(self->handle, key.at, key.length, sets, count, version, &number);
+    return changed(self, PyTuple_GetItem(arguments, 0), status, number);
+}
+
+static PyObject *calls_remove(Calls *self, PyObject *arguments) {
+    struct rowanspan_bytes key;
+    uint64_t number;
+    uint16_t status;
+    if (!takes(arguments, 2)) {
+        return NULL;
+    }
+    if (!bytes_in(PyTuple_GetItem(arguments, 1), &key) || !is_free(&self->lock)) {
+        return undone();
+    }
+    status = self->library.remove(self->handle, key.at, key.length, &number);
+    return changed(self, PyTuple_GetItem(arguments, 0), status, number);
+}
+
+PyMethodDef calls_methods[] = {
+    {"get", (PyCFunction)calls_get, METH_VARARGS, "get(key, columns): the row, or None"},
+    {"range", (PyCFunction)calls_range, METH_VARARGS, "range(start, limit, columns): pairs of a key and its row"},
+    {"view", (PyCFunction)calls_view, METH_VARARGS, "view(number, floor, start, limit): the page"},
+    {"totals", (PyCFunction)calls_totals, METH_VARARGS, "totals(number): the page's at, count and sums"},
+    {"put", (PyCFunction)calls_put, METH_VARARGS, "put(index, key, sets): the number of the commit"},
+    {"put_if", (PyCFunction)calls_put_if, METH_VARARGS, "put_if(index, key, sets, version): the number of the commit"},
+    {"remove", (PyCFunction)calls_remove, METH_VARARGS, "remove(index, key): the number of the commit, or None"},
+    {"__enter__", (PyCFunction)calls_enter, METH_NOARGS, "Takes the index's lock, for a call by ctypes."},
+    {"__exit__", (PyCFunction)calls_exit, METH_VARARGS, "Releases the index's lock."},
+    {NULL, NULL, 0, NULL},
+};
