@@ -3,21 +3,22 @@
  * Link with librowanspan.a or librowanspan.so. C99, C11 and C++ can include it.
  *
  *     rowanspan *index;
- *     uint64_t told;
+ *     uint64_t commit;
  *     rowanspan_status status = rowanspan_open(&index, 1, 4096, 0);
  *     if (status != ROWANSPAN_OK) {
  *         fprintf(stderr, "%s\n", rowanspan_status_text(status));
  *         return 1;
  *     }
  *     struct rowanspan_set red = rowanspan_set(0, "red", 3);
- *     status = rowanspan_put(index, "apple", 5, &red, 1, &told);    // told: the number of the commit
+ *     status = rowanspan_put(index, "apple", 5, &red, 1, &commit);
  *     rowanspan_close(index);
  *
  * PROOFS
  *     The functions are thin: each passes its arguments to a function inside the library, of which it is proved what
  *     it does, by its contract in crates/rowanspan_c/src/exports.rt. (rowanspan_open also allocates what the pointer
- *     points to, rowanspan_keep_views repeats rowanspan_apply, and a cursor repeats rowanspan_range.) The thin
- *     functions, which are in bindings/c, and the inline functions of this header are only tested.
+ *     points to, rowanspan_get_column copies one column of the answer of rowanspan_get, rowanspan_keep_views repeats
+ *     rowanspan_apply, and a cursor repeats rowanspan_range or rowanspan_view.) The thin functions, which are in
+ *     bindings/c, and the inline functions of this header are only tested.
  *
  * ORDER OF REFUSALS
  *     Limits are answered before memory. A call that breaks a limit of its keys, its columns, its test, its range or
@@ -31,39 +32,42 @@
  *
  * THREADS
  *     An index may be made by one thread, and used and closed by another: it is proved that what it holds may be moved.
- *     An index is for one call at a time, also if both calls only read. If threads share an index, the caller orders
- *     their calls by a lock, by the start or the join of a thread, or by a sequentially consistent atomic. Calls on
- *     different indexes may be made at once. A `const rowanspan *` says that a call changes no row, no commit and no
- *     view. It doesn't say that two such calls may be made at once.
+ *     An index is used by one thread at a time, also if the calls only read. SQLite calls this mode "multi-thread". If
+ *     threads share an index, the caller orders their calls by a lock, by the start or the join of a thread, or by a
+ *     sequentially consistent atomic. Calls on different indexes may be made at once. A `const rowanspan *` says that a
+ *     call changes no row, no commit and no view. It doesn't say that two such calls may be made at once.
  *
  * STATUSES
- *     Each call returns a status. ROWANSPAN_OK, which is 0, means that the call was done. A status from 1 to 16 means
- *     that the call was refused: it has changed no row, no commit and no view, and the index can still be used. The
- *     statuses from 100 on are described with their constants. The comments below leave out the prefix ROWANSPAN_.
+ *     A call that can fail returns a status. ROWANSPAN_OK, which is 0, means that the call was done. A status from 1 to
+ *     16 means that the call was refused: it has changed no row, no commit and no view, and the index can still be
+ *     used. The statuses from 100 on are described with their constants. The comments below leave out the prefix
+ *     ROWANSPAN_. A call that can't fail, such as rowanspan_commits, returns its value.
  *
- * TOLD
- *     Most calls have a last parameter `told`, and always write a number to *told. The comment of a call says what the
- *     number is if the status is OK. If the status is FEED_FULL, BEHIND or OTHER_VERSION, it is the number of a commit,
- *     and if it is NO_ROOM, a number of bytes. For all other statuses it is 0.
+ * NUMBERS
+ *     The last parameter of most calls that return a status points to a number, such as `commit` or `length`. The call
+ *     always writes this number, unless the pointer is null. The comment of the call says what the number is if the
+ *     status is OK, and if it is FEED_FULL, BEHIND, OTHER_VERSION or NO_ROOM. For all other statuses it is 0. The
+ *     pointers to an index, a cursor or a pair that a call sets must not be null.
  *
  * BUFFERS
  *     A call whose answer is bytes writes them to the start of the buffer `into`, which the caller owns and which has
- *     `room` bytes, and sets *told to the length of the answer. If the answer doesn't fit, the call writes nothing to
- *     the buffer and returns NO_ROOM, with *told the length that is needed: call again with as much room. A call never
- *     writes more than the answer. struct rowanspan_reader, at the end of this file, reads answers. A buffer must not
- *     overlap any other argument. A pointer to bytes, columns or sets may be null if their number is 0, and `into` may
- *     be null: there is then no room.
+ *     `room` bytes, and sets *length to the length of the answer in bytes. If the answer doesn't fit, the call writes
+ *     nothing to the buffer and returns NO_ROOM, and *length is the length that is needed: call again with as much
+ *     room. A call never writes more than the answer. struct rowanspan_reader, at the end of this file, reads answers.
+ *     A buffer must not overlap any other argument. A pointer to bytes, columns or sets may be null if their number is
+ *     0, and `into` may be null: there is then no room.
  *
  * LIMITS
  *     A key has up to 1,024 bytes (ROWANSPAN_MAX_KEY_BYTES). Keys are ordered by their bytes, and a key comes before
- *     those that it is a prefix of. An index has 1 to 16 columns of up to 64 bytes. A call returns up to 1000 rows or
- *     deltas. An index has up to 64 views, and up to 1,048,576 nodes of up to 15 keys.
+ *     those that it is a prefix of. An index has 1 to 16 columns (ROWANSPAN_MAX_COLUMNS) of up to 64 bytes
+ *     (ROWANSPAN_MAX_COLUMN_BYTES). A call returns up to 1000 rows or deltas. An index has up to 64 views, and up to
+ *     1,048,576 nodes of up to 15 keys.
  *
  * MEMORY
  *     The library copies the keys, columns and tests that it is passed: they stay the caller's. A call that stores or
- *     returns something allocates with malloc, except rowanspan_get, which takes no memory. malloc and realloc have to
- *     align blocks as ISO C requires. No call may be made in a signal handler, or in the forked child of a process with
- *     threads.
+ *     returns something allocates with malloc, except rowanspan_get and rowanspan_get_column, which take no memory.
+ *     malloc and realloc have to align blocks as ISO C requires. No call may be made in a signal handler, or in the
+ *     forked child of a process with threads.
  *
  * It isn't proved that a caller in C meets the conditions that are stated here, nor what a compiler makes of the header
  * and of bindings/c. See docs/EMBEDDING.md. */
@@ -81,12 +85,17 @@
 /* The most bytes of a key. */
 #define ROWANSPAN_MAX_KEY_BYTES 1024
 
+/* The most columns of a row, and the most bytes of a column. */
+#define ROWANSPAN_MAX_COLUMNS 16
+#define ROWANSPAN_MAX_COLUMN_BYTES 64
+
 #ifdef __cplusplus
 extern "C" {
 #endif
 
 /* ---- statuses */
 
+/* What came of a call. N is the number that the call writes. */
 typedef enum rowanspan_status {
     ROWANSPAN_OK = 0,
     ROWANSPAN_NO_MEMORY = 1,        /* out of memory */
@@ -96,22 +105,22 @@ typedef enum rowanspan_status {
     ROWANSPAN_BAD_LIMIT = 5,        /* a limit is not from 1 to 1000, or an option is out of its bounds: feed is not
                                        from 1 to 65536, or keep is over 65536 */
     ROWANSPAN_ARENA_FULL = 6,       /* too few of the 1,048,576 nodes are free */
-    ROWANSPAN_FEED_FULL = 7,        /* the log is full: views or open calls hold it from commit *told on; apply or drop
-                                       the views */
+    ROWANSPAN_FEED_FULL = 7,        /* the log is full: views or open calls hold it from commit N on; apply or drop the
+                                       views */
     ROWANSPAN_TOO_MANY_VIEWS = 10,  /* there are already 64 views */
     ROWANSPAN_NO_SUCH_VIEW = 11,    /* no view has this number */
-    ROWANSPAN_BEHIND = 12,          /* the view is at commit *told, or the log begins after it: the view is before the
-                                       floor, or the log has only the commits after *told */
+    ROWANSPAN_BEHIND = 12,          /* the view is at commit N, or the log begins after it: the view is before the
+                                       floor, or the log has only the commits after N */
     ROWANSPAN_BAD_RANGE = 13,       /* the end of a range is not after its start */
     ROWANSPAN_SPENT = 14,           /* a counter is at its greatest value */
-    ROWANSPAN_OTHER_VERSION = 16,   /* the row has version *told, not the one asked for; 0 means no row */
+    ROWANSPAN_OTHER_VERSION = 16,   /* the row has version N, not the one asked for; 0 means no row */
     ROWANSPAN_ABSENT = 102,         /* the key has no row, or the cursor has no more rows */
-    ROWANSPAN_NO_ROOM = 103,        /* the answer has *told bytes, and the buffer is smaller */
+    ROWANSPAN_NO_ROOM = 103,        /* the answer has N bytes, and the buffer is smaller */
     ROWANSPAN_CURRENT = 104,        /* there was nothing to apply: no view is behind */
     ROWANSPAN_NO_SUCH_TEST = 105    /* no test of rows is of this kind */
 } rowanspan_status;
 
-/* What rowanspan_tidy has done, as it reports in *told. */
+/* What rowanspan_tidy has done. */
 enum {
     ROWANSPAN_TIDIED_NOTHING = 0,
     ROWANSPAN_TIDIED_EMPTY_BORDER = 1,
@@ -121,7 +130,7 @@ enum {
 };
 
 /* rowanspan_status_text: what a status means, in one line without a full stop; also for a number that is no status. If
- * the call sets *told to the number of a commit, the text has N for this number. The text is never freed. */
+ * the call writes the number of a commit, the text has N for this number. The text is never freed. */
 const char *rowanspan_status_text(rowanspan_status status);
 
 /* rowanspan_version: the version of the library that is loaded, as ROWANSPAN_VERSION is that of the header. */
@@ -168,7 +177,8 @@ void rowanspan_close(rowanspan *index);
 /* ---- rows */
 
 /* rowanspan_put: sets `count` columns of a key's row. The row's other columns stay as they were; those of a new row are
- * empty. A put with no sets makes a commit too. *told is the number of the commit: commits are numbered from 1 on.
+ * empty. A put with no sets makes a commit too. *commit is the number of the commit: commits are numbered from 1 on. If
+ * the call returns FEED_FULL, views hold the log from commit *commit on.
  *
  * Cost: a visit of each node on the way to the key (among 100,000 keys, six), the split of each that is full, and
  * memory for the key and the columns, which are copied. The tree has one more layer for each eight bytes at the start
@@ -177,38 +187,40 @@ void rowanspan_close(rowanspan *index);
  * Returns OK. Fails with KEY_TOO_LONG, BAD_COLUMN, COLUMN_TOO_LONG, FEED_FULL, ARENA_FULL, SPENT or NO_MEMORY; the row
  * is then as it was. */
 rowanspan_status rowanspan_put(rowanspan *index, const void *key, size_t key_length, const struct rowanspan_set *sets,
-                               size_t count, uint64_t *told);
+                               size_t count, uint64_t *commit);
 
 /* rowanspan_put_if: a rowanspan_put that is done only if the key's row is of this version, or if `version` is 0 and the
  * key has no row. So a caller that has read a row changes it only if no other put has changed it since.
  *
  * Cost: that of a put.
  *
- * Returns OK. Returns OTHER_VERSION if the row is of another version; nothing changes, and *told is the row's version,
- * or 0 if there is no row. Fails as rowanspan_put does. */
+ * Returns OK. Returns OTHER_VERSION if the row is of another version; nothing changes, and *commit is the row's
+ * version, or 0 if there is no row. Fails as rowanspan_put does. */
 rowanspan_status rowanspan_put_if(rowanspan *index, const void *key, size_t key_length,
-                                  const struct rowanspan_set *sets, size_t count, uint64_t version, uint64_t *told);
+                                  const struct rowanspan_set *sets, size_t count, uint64_t version, uint64_t *commit);
 
-/* rowanspan_remove: removes a key's row. *told is the number of the commit. If this leaves a node without rows, nodes
- * that are no longer needed are taken out of the tree and freed.
+/* rowanspan_remove: removes a key's row. *commit is the number of the commit. If this leaves a node without rows, nodes
+ * that are no longer needed are taken out of the tree and freed. If the call returns FEED_FULL, views hold the log from
+ * commit *commit on.
  *
  * Cost: a visit of each node on the way to the key, twice, and the steps by which nodes are taken out.
  *
  * Returns OK. Returns ABSENT if the key has no row; nothing changes, and there is no commit. Fails with KEY_TOO_LONG,
  * FEED_FULL, SPENT or NO_MEMORY; the row is then as it was. */
-rowanspan_status rowanspan_remove(rowanspan *index, const void *key, size_t key_length, uint64_t *told);
+rowanspan_status rowanspan_remove(rowanspan *index, const void *key, size_t key_length, uint64_t *commit);
 
 /* rowanspan_tidy: takes at most one node out of the tree near the place of a key, if removes have left one that isn't
- * needed. It changes no row. *told is what it has done (ROWANSPAN_TIDIED_). rowanspan_collect frees what was taken out.
- * A program needs neither, since each remove does both where it leaves a node without rows.
+ * needed. It changes no row. *tidied is what it has done (ROWANSPAN_TIDIED_). rowanspan_collect frees what was taken
+ * out. A program needs neither, since each remove that leaves a node without rows does both.
  *
  * Cost: a visit of each node on the way to the key.
  *
  * Returns OK, also if there was nothing to do. Fails with KEY_TOO_LONG, SPENT or NO_MEMORY. */
-rowanspan_status rowanspan_tidy(rowanspan *index, const void *key, size_t key_length, uint64_t *told);
+rowanspan_status rowanspan_tidy(rowanspan *index, const void *key, size_t key_length, uint64_t *tidied);
 
 /* rowanspan_get: writes the row of a key to the buffer (rowanspan_read_row reads it), with the columns of these numbers
- * in this order, or with all columns if `column_count` is 0. *told is the length of the answer in bytes.
+ * in this order, or with all columns if `column_count` is 0. *length is the length of the answer in bytes, also if the
+ * call returns NO_ROOM.
  *
  * Cost: a visit of each node on the way to the key, and one copy of the columns, from the index into the buffer. It
  * takes no memory. A row with all its columns fits in 16 bytes, and 72 for each column.
@@ -216,11 +228,21 @@ rowanspan_status rowanspan_tidy(rowanspan *index, const void *key, size_t key_le
  * Returns OK. Returns ABSENT if the key has no row, and NO_ROOM if the answer doesn't fit. Fails with KEY_TOO_LONG or
  * BAD_COLUMN, and never with NO_MEMORY. Unless it returns OK the buffer is as it was. */
 rowanspan_status rowanspan_get(const rowanspan *index, const void *key, size_t key_length, const uint8_t *columns,
-                               size_t column_count, void *into, size_t room, uint64_t *told);
+                               size_t column_count, void *into, size_t room, uint64_t *length);
+
+/* rowanspan_get_column: writes the bytes of one column of a key's row to the buffer, and nothing else. *length is how
+ * many they are, also if the call returns NO_ROOM.
+ *
+ * Cost: that of a get of this column, and one more copy of its bytes. It takes no memory. A column has up to 64 bytes.
+ *
+ * Returns OK. Returns ABSENT if the key has no row, and NO_ROOM if the bytes don't fit. Fails with KEY_TOO_LONG or
+ * BAD_COLUMN, and never with NO_MEMORY. Unless it returns OK the buffer is as it was. */
+rowanspan_status rowanspan_get_column(const rowanspan *index, const void *key, size_t key_length, uint8_t column,
+                                      void *into, size_t room, uint64_t *length);
 
 /* rowanspan_range: writes the first rows from a key on to the buffer, in the order of their keys, at most `limit` (1 to
- * 1000). The answer is read by rowanspan_read_count, and then for each row by rowanspan_read_bytes (its key) and
- * rowanspan_read_row. The columns and *told are as of rowanspan_get.
+ * 1000). The answer is read by rowanspan_read_count, and then by rowanspan_read_pair for each row. The columns and
+ * *length are as of rowanspan_get.
  *
  * Cost: a visit of each border that it reads and of the nodes on the way there, and memory for the answer, which is
  * freed before the call returns. After the last row of a layer it continues in the border above.
@@ -228,15 +250,16 @@ rowanspan_status rowanspan_get(const rowanspan *index, const void *key, size_t k
  * Returns OK, also if there are no rows. Returns NO_ROOM if the answer doesn't fit. Fails with KEY_TOO_LONG,
  * BAD_COLUMN, BAD_LIMIT or NO_MEMORY. Unless it returns OK the buffer is as it was. */
 rowanspan_status rowanspan_range(const rowanspan *index, const void *start, size_t start_length, uint16_t limit,
-                                 const uint8_t *columns, size_t column_count, void *into, size_t room, uint64_t *told);
+                                 const uint8_t *columns, size_t column_count, void *into, size_t room,
+                                 uint64_t *length);
 
 /* ---- cursors
  *
  * A cursor returns the rows from a key on, one after the other, in the order of their keys. It reads them by
- * rowanspan_range, up to 64 at a time, into a buffer of its own. The index may be changed between two calls with a
- * cursor: each key is still returned at most once, each key that has a row throughout is returned, and each row is as
- * it was when the cursor read it. A call with a cursor is a call on its index too. A cursor has to be closed before its
- * index is. */
+ * rowanspan_range, or by rowanspan_view if it is a cursor over a view, up to 64 at a time, into a buffer of its own.
+ * The index may be changed between two calls with a cursor: each key is still returned at most once, each key that has
+ * a row throughout is returned, and each row is as it was when the cursor read it. A call with a cursor is a call on
+ * its index too. A cursor has to be closed before its index is. */
 
 /* A cursor, and a key with its row, which is defined at the end of this file. */
 typedef struct rowanspan_cursor rowanspan_cursor;
@@ -252,14 +275,30 @@ struct rowanspan_pair;
 rowanspan_status rowanspan_cursor_open(const rowanspan *index, const void *start, size_t start_length,
                                        const uint8_t *columns, size_t column_count, rowanspan_cursor **cursor);
 
+/* rowanspan_view_cursor_open: opens a cursor over the rows that a view shows, from a key on, and sets *cursor to it. It
+ * is read by rowanspan_cursor_next, and the caller has to close it with rowanspan_cursor_close.
+ *
+ * The cursor reads pages of up to 64 rows. Each page shows the view exactly at the commit at which the view is when the
+ * page is read. If the view advances between two pages, the second page shows the later commit. The keys still rise
+ * strictly, and each key that the view shows throughout is returned. A row that comes into the view meanwhile is
+ * returned only if its key is after those of the pages that were read.
+ *
+ * Cost: that of a page of one row, by which the key and the view are tested, and two allocations, of some 5,200 bytes
+ * together.
+ *
+ * Returns OK, also if there are no rows. Fails with KEY_TOO_LONG, NO_SUCH_VIEW or NO_MEMORY; *cursor is then null. */
+rowanspan_status rowanspan_view_cursor_open(const rowanspan *index, uint64_t view, const void *start,
+                                            size_t start_length, rowanspan_cursor **cursor);
+
 /* rowanspan_cursor_next: sets *pair to the next key and its row, whose columns rowanspan_read_bytes reads. Both point
  * into the cursor's buffer, and are good until the next call with this cursor.
  *
- * Cost: for the first row, and again after each 64 rows, that of a range of 64 rows; of two, if the buffer has to grow.
- * The other calls only read the buffer.
+ * Cost: for the first row, and again after each 64 rows, that of a range or a page of 64 rows; of two, if the buffer
+ * has to grow. The other calls only read the buffer.
  *
  * Returns OK. Returns ABSENT if there are no more rows, and then each time. Fails with NO_MEMORY; the cursor is then as
- * it was, and can be asked again. Unless it returns OK *pair is as it was. */
+ * it was, and can be asked again. Fails with NO_SUCH_VIEW, and then each time, if the view of the cursor was dropped
+ * and the cursor has returned all rows that it had read. Unless it returns OK *pair is as it was. */
 rowanspan_status rowanspan_cursor_next(rowanspan_cursor *cursor, struct rowanspan_pair *pair);
 
 /* rowanspan_cursor_close: closes a cursor and frees its memory. It does nothing if `cursor` is null. */
@@ -275,87 +314,88 @@ void rowanspan_cursor_close(rowanspan_cursor *cursor);
 /* rowanspan_build_prefix: builds a view of the keys that begin with `prefix`; if it is empty, of all keys.
  * rowanspan_build_from: builds a view of the keys from `lo` on.
  * rowanspan_build_between: builds a view of the keys from `lo` on that are before `hi`.
- * Each view is at the newest commit, and *told is its number, from 1 on. rowanspan_drop ends it.
+ * Each view is at the newest commit, and *view is its number, from 1 on. rowanspan_drop ends it.
  *
  * Cost: that of a range over those keys, and memory for the view's rows, which share their bytes with the index.
  *
  * They return OK. They fail with NO_SUCH_TEST, KEY_TOO_LONG, BAD_COLUMN, COLUMN_TOO_LONG, BAD_RANGE, TOO_MANY_VIEWS,
  * SPENT or NO_MEMORY; there is then no new view. */
 rowanspan_status rowanspan_build_prefix(rowanspan *index, const void *prefix, size_t prefix_length,
-                                        struct rowanspan_test test, uint64_t *told);
+                                        struct rowanspan_test test, uint64_t *view);
 rowanspan_status rowanspan_build_from(rowanspan *index, const void *lo, size_t lo_length, struct rowanspan_test test,
-                                      uint64_t *told);
+                                      uint64_t *view);
 rowanspan_status rowanspan_build_between(rowanspan *index, const void *lo, size_t lo_length, const void *hi,
-                                         size_t hi_length, struct rowanspan_test test, uint64_t *told);
+                                         size_t hi_length, struct rowanspan_test test, uint64_t *view);
 
-/* rowanspan_view: writes what a view shows to the buffer, if the view is at commit `floor` or later. The answer is read
- * by rowanspan_read_number (the commit at which it is), rowanspan_read_number (how many rows it has),
- * rowanspan_read_count (of columns) with rowanspan_read_sum for each column, and then as that of rowanspan_range: the
- * view's first rows from a key on, at most `limit` (1 to 1000). *told is the length of the answer in bytes.
+/* rowanspan_view: writes what a view shows to the buffer, if the view is at commit `floor` or later, with the view's
+ * first rows from a key on, at most `limit` (1 to 1000). The answer is read by rowanspan_read_page. *length is the
+ * length of the answer in bytes, also if the call returns NO_ROOM. If it returns BEHIND, *length is the commit at which
+ * the view is.
  *
  * Cost: a descent of the tree of the view's rows, and memory for the rows that it returns, which is freed before the
  * call returns.
  *
- * Returns OK. Returns NO_ROOM if the answer doesn't fit, and BEHIND if the view is at commit *told, before the floor.
+ * Returns OK. Returns NO_ROOM if the answer doesn't fit, and BEHIND if the view is at a commit before the floor.
  * Fails with KEY_TOO_LONG, BAD_LIMIT, NO_SUCH_VIEW or NO_MEMORY. Unless it returns OK the buffer is as it was. */
 rowanspan_status rowanspan_view(const rowanspan *index, uint64_t view, uint64_t floor, const void *start,
-                                size_t start_length, uint16_t limit, void *into, size_t room, uint64_t *told);
+                                size_t start_length, uint16_t limit, void *into, size_t room, uint64_t *length);
 
-/* rowanspan_apply: applies the next commit to a view; if `view` is 0, to the view that is furthest behind. *told is the
- * number of the commit at which the view then is.
+/* rowanspan_apply: applies the next commit to a view; if `view` is 0, to the view that is furthest behind. *commit is
+ * the number of the commit at which the view then is.
  *
  * Cost: a descent of the tree of the view's rows, and one of the tree of views.
  *
  * Returns OK. Returns CURRENT if the view is at the newest commit, or if `view` is 0 and no view is behind. Fails with
  * NO_SUCH_VIEW or NO_MEMORY; the view is then as it was. */
-rowanspan_status rowanspan_apply(rowanspan *index, uint64_t view, uint64_t *told);
+rowanspan_status rowanspan_apply(rowanspan *index, uint64_t view, uint64_t *commit);
 
-/* rowanspan_keep_views: applies commits to the views that are behind, until all are at the newest commit. *told is how
- * many times it applied a commit to a view.
+/* rowanspan_keep_views: applies commits to the views that are behind, until all are at the newest commit. *applied is
+ * how many times it applied a commit to a view.
  *
  * Returns OK, also if there was nothing to do. Fails with NO_MEMORY; the commits that were applied by then stay
  * applied. */
-rowanspan_status rowanspan_keep_views(rowanspan *index, uint64_t *told);
+rowanspan_status rowanspan_keep_views(rowanspan *index, uint64_t *applied);
 
-/* rowanspan_drop: ends a view and frees its memory. Its number isn't used again. *told is 0.
+/* rowanspan_drop: ends a view and frees its memory. Its number isn't used again.
  *
  * Cost: the freeing of its rows.
  *
  * Returns OK. Fails with NO_SUCH_VIEW. */
-rowanspan_status rowanspan_drop(rowanspan *index, uint64_t view, uint64_t *told);
+rowanspan_status rowanspan_drop(rowanspan *index, uint64_t view);
 
 /* ---- commits, nodes and numbers */
 
 /* rowanspan_feed: writes what the commits after commit `from` did to the buffer, in their order, at most `limit` (1 to
- * 1000) commits. The answer is read by rowanspan_read_count, and then by rowanspan_read_delta for each. *told is the
- * length of the answer in bytes.
+ * 1000) commits. The answer is read by rowanspan_read_count, and then by rowanspan_read_delta for each. *length is the
+ * length of the answer in bytes, also if the call returns NO_ROOM. If it returns BEHIND, *length is a commit: the log
+ * has only the commits after it.
  *
  * Cost: memory for the deltas, which is freed before the call returns.
  *
  * Returns OK, also if there are no such commits. Returns NO_ROOM if the answer doesn't fit, and BEHIND if the log no
- * longer has some of these commits: it has those after commit *told. Fails with BAD_LIMIT or NO_MEMORY. Unless it
- * returns OK the buffer is as it was. */
+ * longer has some of these commits. Fails with BAD_LIMIT or NO_MEMORY. Unless it returns OK the buffer is as it was. */
 rowanspan_status rowanspan_feed(const rowanspan *index, uint64_t from, uint16_t limit, void *into, size_t room,
-                                uint64_t *told);
+                                uint64_t *length);
 
-/* rowanspan_advance: begins the next epoch; *told is its number.
- * rowanspan_collect: frees the nodes that rowanspan_tidy took out; *told is how many. It needs no advance before it,
- * since no call of this library is open while another is made.
+/* rowanspan_advance: begins the next epoch. *epoch is its number.
  *
- * Cost: of a collect, O(n) in the nodes that it frees.
- *
- * Both return OK; an advance fails with SPENT. */
-rowanspan_status rowanspan_advance(rowanspan *index, uint64_t *told);
-rowanspan_status rowanspan_collect(rowanspan *index, uint64_t *told);
+ * Returns OK. Fails with SPENT. */
+rowanspan_status rowanspan_advance(rowanspan *index, uint64_t *epoch);
 
-/* rowanspan_commits: *told is how many commits were made, which is the number of the last one.
- * rowanspan_nodes: *told is how many nodes are in use, of at most 1,048,576 nodes.
- * rowanspan_columns: *told is how many columns a row has.
+/* rowanspan_collect: frees the nodes that rowanspan_tidy took out, and returns how many. It needs no advance before it,
+ * since no call of this library is open while another is made. It doesn't fail.
  *
- * They cost next to nothing. All return OK, and don't fail. */
-rowanspan_status rowanspan_commits(const rowanspan *index, uint64_t *told);
-rowanspan_status rowanspan_nodes(const rowanspan *index, uint64_t *told);
-rowanspan_status rowanspan_columns(const rowanspan *index, uint64_t *told);
+ * Cost: O(n) in the nodes that it frees. */
+uint64_t rowanspan_collect(rowanspan *index);
+
+/* rowanspan_commits: returns how many commits were made, which is the number of the last one.
+ * rowanspan_nodes: returns how many nodes are in use, of at most 1,048,576 nodes.
+ * rowanspan_columns: returns how many columns a row has.
+ *
+ * They cost next to nothing, and don't fail. */
+uint64_t rowanspan_commits(const rowanspan *index);
+uint64_t rowanspan_nodes(const rowanspan *index);
+uint64_t rowanspan_columns(const rowanspan *index);
 
 #ifdef __cplusplus
 }
@@ -436,10 +476,26 @@ struct rowanspan_row {
     struct rowanspan_reader columns;
 };
 
-/* A key and its row, as a cursor returns them. */
+/* A key and its row. */
 struct rowanspan_pair {
     struct rowanspan_bytes key;
     struct rowanspan_row row;
+};
+
+/* A sum of up to 128 bits, as its upper and its lower half. */
+struct rowanspan_sum {
+    uint64_t upper, lower;
+};
+
+/* What a view shows at a commit: how many rows it has, for each column the sum of its amounts, and the rows that were
+ * asked for. rowanspan_read_pair of `pairs` returns one of these rows after the other. */
+struct rowanspan_page {
+    uint64_t commit;
+    uint64_t row_count;
+    size_t sum_count;
+    struct rowanspan_sum sums[ROWANSPAN_MAX_COLUMNS];
+    size_t pair_count;
+    struct rowanspan_reader pairs;
 };
 
 /* What a commit did to a key: the row before it if `had_row`, and the row after it if `has_row`. */
@@ -459,19 +515,17 @@ static inline struct rowanspan_reader rowanspan_reader(const void *answer, uint6
 }
 
 static inline uint64_t rowanspan_read_number(struct rowanspan_reader *reader) {
-    uint64_t number = 0;
-    int i;
+    const uint8_t *at = reader->at;
     if (reader->left < 8) {
         reader->left = 0;
         reader->is_short = true;
         return 0;
     }
-    for (i = 0; i < 8; i++) {
-        number = number << 8 | reader->at[i];
-    }
     reader->at += 8;
     reader->left -= 8;
-    return number;
+    /* (compilers make one load and a byte swap of this) */
+    return (uint64_t)at[0] << 56 | (uint64_t)at[1] << 48 | (uint64_t)at[2] << 40 | (uint64_t)at[3] << 32
+        | (uint64_t)at[4] << 24 | (uint64_t)at[5] << 16 | (uint64_t)at[6] << 8 | (uint64_t)at[7];
 }
 
 /* rowanspan_read_count: how many items follow. */
@@ -511,6 +565,39 @@ static inline struct rowanspan_row rowanspan_read_row(struct rowanspan_reader *r
         rowanspan_read_bytes(reader);
     }
     return row;
+}
+
+/* rowanspan_read_pair: a key and its row, as ranges and pages have them. */
+static inline struct rowanspan_pair rowanspan_read_pair(struct rowanspan_reader *reader) {
+    struct rowanspan_pair pair;
+    pair.key = rowanspan_read_bytes(reader);
+    pair.row = rowanspan_read_row(reader);
+    return pair;
+}
+
+/* rowanspan_read_page: reads the answer of rowanspan_view up to its rows. The reader, and `pairs` of the page, are then
+ * before the first row. */
+static inline struct rowanspan_page rowanspan_read_page(struct rowanspan_reader *reader) {
+    struct rowanspan_page page;
+    size_t i;
+    page.commit = rowanspan_read_number(reader);
+    page.row_count = rowanspan_read_number(reader);
+    page.sum_count = rowanspan_read_count(reader);
+    if (page.sum_count > ROWANSPAN_MAX_COLUMNS) {
+        page.sum_count = 0;
+        reader->left = 0;
+        reader->is_short = true;
+    }
+    for (i = 0; i < page.sum_count; i++) {
+        rowanspan_read_sum(reader, &page.sums[i].upper, &page.sums[i].lower);
+    }
+    for (; i < ROWANSPAN_MAX_COLUMNS; i++) {
+        page.sums[i].upper = 0;
+        page.sums[i].lower = 0;
+    }
+    page.pair_count = rowanspan_read_count(reader);
+    page.pairs = *reader;
+    return page;
 }
 
 static inline bool rowanspan_read_maybe_row(struct rowanspan_reader *reader, struct rowanspan_row *row) {

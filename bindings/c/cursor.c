@@ -1,4 +1,5 @@
-/* cursor.c: a cursor, which reads some rows at a time by rowanspan_range, and returns one after the other. */
+/* cursor.c: a cursor, which reads some rows at a time by rowanspan_range or rowanspan_view, and returns one after the
+ * other. */
 #include "rowanspan.h"
 
 #include <stdlib.h>
@@ -9,6 +10,8 @@ enum { ROWS = 64, FIRST_SIZE = 4096 };
 
 struct rowanspan_cursor {
     const rowanspan *index;
+    /* the view whose rows it returns, or 0 for the rows of the index */
+    uint64_t view;
     /* the rows that were read and not yet returned, and how many they are */
     struct rowanspan_reader reader;
     size_t left;
@@ -16,7 +19,7 @@ struct rowanspan_cursor {
     bool may_have_more;
     uint8_t from[ROWANSPAN_MAX_KEY_BYTES];
     size_t from_length;
-    /* the answer of a range */
+    /* the answer of a range or of a view */
     uint8_t *buffer;
     size_t size;
     size_t column_count;
@@ -45,26 +48,35 @@ static bool grow(rowanspan_cursor *cursor, uint64_t needed) {
     return true;
 }
 
-static rowanspan_status ask(const rowanspan_cursor *cursor, uint64_t *told) {
+static rowanspan_status ask(const rowanspan_cursor *cursor, uint64_t *length) {
+    if (cursor->view != 0) {
+        return rowanspan_view(cursor->index, cursor->view, 0, cursor->from, cursor->from_length, ROWS, cursor->buffer,
+                              cursor->size, length);
+    }
     return rowanspan_range(cursor->index, cursor->from, cursor->from_length, ROWS, cursor->columns,
-                           cursor->column_count, cursor->buffer, cursor->size, told);
+                           cursor->column_count, cursor->buffer, cursor->size, length);
+}
+
+/* Reads the count of the rows of an answer. The reader is then before the first one. */
+static size_t read_count(const rowanspan_cursor *cursor, struct rowanspan_reader *reader) {
+    return cursor->view != 0 ? rowanspan_read_page(reader).pair_count : rowanspan_read_count(reader);
 }
 
 /* Reads the next rows into the buffer, from which all rows were returned. */
 static rowanspan_status read_rows(rowanspan_cursor *cursor) {
-    uint64_t told;
-    rowanspan_status status = ask(cursor, &told);
+    uint64_t length;
+    rowanspan_status status = ask(cursor, &length);
     while (status == ROWANSPAN_NO_ROOM) {
-        if (!grow(cursor, told)) {
+        if (!grow(cursor, length)) {
             return ROWANSPAN_NO_MEMORY;
         }
-        status = ask(cursor, &told);
+        status = ask(cursor, &length);
     }
     if (status != ROWANSPAN_OK) {
         return status;
     }
-    cursor->reader = rowanspan_reader(cursor->buffer, told);
-    cursor->left = rowanspan_read_count(&cursor->reader);
+    cursor->reader = rowanspan_reader(cursor->buffer, length);
+    cursor->left = read_count(cursor, &cursor->reader);
     cursor->may_have_more = cursor->left == ROWS;
     return ROWANSPAN_OK;
 }
@@ -90,36 +102,46 @@ static bool continue_after(rowanspan_cursor *cursor, struct rowanspan_bytes key)
     return true;
 }
 
+/* Makes a cursor, whose start and columns were tested: the key has room, and there are at most 16 names of columns. */
+static rowanspan_status make(const rowanspan *index, uint64_t view, const void *start, size_t start_length,
+                             const uint8_t *columns, size_t column_count, rowanspan_cursor **cursor) {
+    rowanspan_cursor *made = malloc(sizeof *made + column_count);
+    if (!made) {
+        return ROWANSPAN_NO_MEMORY;
+    }
+    made->index = index;
+    made->view = view;
+    made->left = 0;
+    made->may_have_more = true;
+    memcpy(made->from, rowanspan_bytes_at(start), start_length);
+    made->from_length = start_length;
+    made->buffer = NULL;
+    made->size = 0;
+    memcpy(made->columns, rowanspan_bytes_at(columns), column_count);
+    made->column_count = column_count;
+    if (!grow(made, FIRST_SIZE)) {
+        free(made);
+        return ROWANSPAN_NO_MEMORY;
+    }
+    *cursor = made;
+    return ROWANSPAN_OK;
+}
+
+/* Each open first asks for one row, without a buffer: limits are then answered before memory. If no limit is broken,
+ * the status is NO_ROOM, since each answer has a count at least. */
+
 rowanspan_status rowanspan_cursor_open(const rowanspan *index, const void *start, size_t start_length,
                                        const uint8_t *columns, size_t column_count, rowanspan_cursor **cursor) {
-    uint64_t told;
-    /* for its limits alone, which are so answered before memory: no answer fits in no room, since it has a count */
-    rowanspan_status status = rowanspan_range(index, start, start_length, 1, columns, column_count, NULL, 0, &told);
-    rowanspan_cursor *opened;
+    rowanspan_status status = rowanspan_range(index, start, start_length, 1, columns, column_count, NULL, 0, NULL);
     *cursor = NULL;
-    if (status != ROWANSPAN_NO_ROOM) {
-        return status;
-    }
-    /* (each column is named once, so there are at most 16 names; and the key has room) */
-    opened = malloc(sizeof *opened + column_count);
-    if (!opened) {
-        return ROWANSPAN_NO_MEMORY;
-    }
-    opened->index = index;
-    opened->left = 0;
-    opened->may_have_more = true;
-    memcpy(opened->from, rowanspan_bytes_at(start), start_length);
-    opened->from_length = start_length;
-    opened->buffer = NULL;
-    opened->size = 0;
-    memcpy(opened->columns, rowanspan_bytes_at(columns), column_count);
-    opened->column_count = column_count;
-    if (!grow(opened, FIRST_SIZE)) {
-        free(opened);
-        return ROWANSPAN_NO_MEMORY;
-    }
-    *cursor = opened;
-    return ROWANSPAN_OK;
+    return status == ROWANSPAN_NO_ROOM ? make(index, 0, start, start_length, columns, column_count, cursor) : status;
+}
+
+rowanspan_status rowanspan_view_cursor_open(const rowanspan *index, uint64_t view, const void *start,
+                                            size_t start_length, rowanspan_cursor **cursor) {
+    rowanspan_status status = rowanspan_view(index, view, 0, start, start_length, 1, NULL, 0, NULL);
+    *cursor = NULL;
+    return status == ROWANSPAN_NO_ROOM ? make(index, view, start, start_length, NULL, 0, cursor) : status;
 }
 
 rowanspan_status rowanspan_cursor_next(rowanspan_cursor *cursor, struct rowanspan_pair *pair) {
@@ -132,8 +154,7 @@ rowanspan_status rowanspan_cursor_next(rowanspan_cursor *cursor, struct rowanspa
     if (cursor->left == 0) {
         return ROWANSPAN_ABSENT;
     }
-    pair->key = rowanspan_read_bytes(&cursor->reader);
-    pair->row = rowanspan_read_row(&cursor->reader);
+    *pair = rowanspan_read_pair(&cursor->reader);
     cursor->left--;
     if (cursor->left == 0 && cursor->may_have_more) {
         cursor->may_have_more = continue_after(cursor, pair->key);

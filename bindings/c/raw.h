@@ -1,4 +1,5 @@
-/* raw.h: the functions of the crate rowanspan_c, of which it is proved what they do. Only bindings/c includes it.
+/* raw.h: the functions of the crate rowanspan_c, of which it is proved what they do. Only bindings/c and
+ * bindings/python include it.
  *
  * crates/rowanspan_c/src/exports.rt has them, with their contracts. scripts/build_library renames those that are there
  * named as functions of rowanspan.h: rowanspan_open is rowanspan_raw_open here. No pointer may be null, also if there

@@ -1,10 +1,12 @@
 /* rowanspan.c: the functions of rowanspan.h, but for cursors. Each passes its arguments to the proved function that
  * raw.h declares.
  *
- * A raw function takes no null pointer: it is passed the address of something else then, which it doesn't use. */
+ * A raw function takes no null pointer. If the caller's is null, it is passed the address of something else: of bytes
+ * that it doesn't use, or of a number that nobody reads. */
 #include "raw.h"
 
 #include <stdlib.h>
+#include <string.h>
 
 /* An index: a raw handle that holds one. */
 struct rowanspan {
@@ -51,115 +53,176 @@ void rowanspan_close(rowanspan *index) {
 /* ---- rows */
 
 rowanspan_status rowanspan_put(rowanspan *index, const void *key, size_t key_length, const struct rowanspan_set *sets,
-                               size_t count, uint64_t *told) {
+                               size_t count, uint64_t *commit) {
+    uint64_t unread;
     return (rowanspan_status)rowanspan_raw_put(raw_of(index), rowanspan_bytes_at(key), key_length, sets_at(sets),
-                                               count, told);
+                                               count, commit ? commit : &unread);
 }
 
 rowanspan_status rowanspan_put_if(rowanspan *index, const void *key, size_t key_length,
-                                  const struct rowanspan_set *sets, size_t count, uint64_t version, uint64_t *told) {
+                                  const struct rowanspan_set *sets, size_t count, uint64_t version, uint64_t *commit) {
+    uint64_t unread;
     return (rowanspan_status)rowanspan_raw_put_if(raw_of(index), rowanspan_bytes_at(key), key_length, sets_at(sets),
-                                                  count, version, told);
+                                                  count, version, commit ? commit : &unread);
 }
 
-rowanspan_status rowanspan_remove(rowanspan *index, const void *key, size_t key_length, uint64_t *told) {
-    return (rowanspan_status)rowanspan_raw_remove(raw_of(index), rowanspan_bytes_at(key), key_length, told);
+rowanspan_status rowanspan_remove(rowanspan *index, const void *key, size_t key_length, uint64_t *commit) {
+    uint64_t unread;
+    return (rowanspan_status)rowanspan_raw_remove(raw_of(index), rowanspan_bytes_at(key), key_length,
+                                                  commit ? commit : &unread);
 }
 
-rowanspan_status rowanspan_tidy(rowanspan *index, const void *key, size_t key_length, uint64_t *told) {
-    return (rowanspan_status)rowanspan_raw_tidy(raw_of(index), rowanspan_bytes_at(key), key_length, told);
+rowanspan_status rowanspan_tidy(rowanspan *index, const void *key, size_t key_length, uint64_t *tidied) {
+    uint64_t unread;
+    return (rowanspan_status)rowanspan_raw_tidy(raw_of(index), rowanspan_bytes_at(key), key_length,
+                                                tidied ? tidied : &unread);
 }
 
 rowanspan_status rowanspan_get(const rowanspan *index, const void *key, size_t key_length, const uint8_t *columns,
-                               size_t column_count, void *into, size_t room, uint64_t *told) {
+                               size_t column_count, void *into, size_t room, uint64_t *length) {
+    uint64_t unread;
     uint8_t none[1] = {0};
     return (rowanspan_status)rowanspan_raw_get(raw_of(index), rowanspan_bytes_at(key), key_length,
                                                rowanspan_bytes_at(columns), column_count, into ? into : none,
-                                               into ? room : 0, told);
+                                               into ? room : 0, length ? length : &unread);
+}
+
+/* How many bytes a row with one column has at most: its version, the count of its columns, the length of the column and
+ * its bytes. */
+enum { ROW_OF_ONE = 8 + 8 + 8 + ROWANSPAN_MAX_COLUMN_BYTES };
+
+/* Writes bytes to a buffer if they fit, and how many they are to *length. */
+static rowanspan_status write_bytes(struct rowanspan_bytes bytes, void *into, size_t room, uint64_t *length) {
+    *length = bytes.length;
+    if (bytes.length > (into ? room : 0)) {
+        return ROWANSPAN_NO_ROOM;
+    }
+    if (bytes.length > 0) {
+        memcpy(into, bytes.at, bytes.length);
+    }
+    return ROWANSPAN_OK;
+}
+
+rowanspan_status rowanspan_get_column(const rowanspan *index, const void *key, size_t key_length, uint8_t column,
+                                      void *into, size_t room, uint64_t *length) {
+    uint8_t answer[ROW_OF_ONE];
+    uint64_t unread = 0;
+    uint64_t *number = length ? length : &unread;
+    rowanspan_status status = rowanspan_get(index, key, key_length, &column, 1, answer, sizeof answer, number);
+    struct rowanspan_reader reader;
+    struct rowanspan_row row;
+    if (status != ROWANSPAN_OK) {
+        return status;
+    }
+    reader = rowanspan_reader(answer, *number);
+    row = rowanspan_read_row(&reader);
+    return write_bytes(rowanspan_read_bytes(&row.columns), into, room, number);
 }
 
 rowanspan_status rowanspan_range(const rowanspan *index, const void *start, size_t start_length, uint16_t limit,
-                                 const uint8_t *columns, size_t column_count, void *into, size_t room, uint64_t *told) {
+                                 const uint8_t *columns, size_t column_count, void *into, size_t room,
+                                 uint64_t *length) {
+    uint64_t unread;
     uint8_t none[1] = {0};
     return (rowanspan_status)rowanspan_raw_range(raw_of(index), rowanspan_bytes_at(start), start_length, limit,
                                                  rowanspan_bytes_at(columns), column_count, into ? into : none,
-                                                 into ? room : 0, told);
+                                                 into ? room : 0, length ? length : &unread);
 }
 
 /* ---- views */
 
 rowanspan_status rowanspan_build_prefix(rowanspan *index, const void *prefix, size_t prefix_length,
-                                        struct rowanspan_test test, uint64_t *told) {
+                                        struct rowanspan_test test, uint64_t *view) {
+    uint64_t unread;
     return (rowanspan_status)rowanspan_raw_build_prefix(raw_of(index), rowanspan_bytes_at(prefix), prefix_length,
-                                                        &test, told);
+                                                        &test, view ? view : &unread);
 }
 
 rowanspan_status rowanspan_build_from(rowanspan *index, const void *lo, size_t lo_length, struct rowanspan_test test,
-                                      uint64_t *told) {
-    return (rowanspan_status)rowanspan_raw_build_from(raw_of(index), rowanspan_bytes_at(lo), lo_length, &test, told);
+                                      uint64_t *view) {
+    uint64_t unread;
+    return (rowanspan_status)rowanspan_raw_build_from(raw_of(index), rowanspan_bytes_at(lo), lo_length, &test,
+                                                      view ? view : &unread);
 }
 
 rowanspan_status rowanspan_build_between(rowanspan *index, const void *lo, size_t lo_length, const void *hi,
-                                         size_t hi_length, struct rowanspan_test test, uint64_t *told) {
+                                         size_t hi_length, struct rowanspan_test test, uint64_t *view) {
+    uint64_t unread;
     return (rowanspan_status)rowanspan_raw_build_between(raw_of(index), rowanspan_bytes_at(lo), lo_length,
-                                                         rowanspan_bytes_at(hi), hi_length, &test, told);
+                                                         rowanspan_bytes_at(hi), hi_length, &test,
+                                                         view ? view : &unread);
 }
 
 rowanspan_status rowanspan_view(const rowanspan *index, uint64_t view, uint64_t floor, const void *start,
-                                size_t start_length, uint16_t limit, void *into, size_t room, uint64_t *told) {
+                                size_t start_length, uint16_t limit, void *into, size_t room, uint64_t *length) {
+    uint64_t unread;
     uint8_t none[1] = {0};
     return (rowanspan_status)rowanspan_raw_view(raw_of(index), view, floor, rowanspan_bytes_at(start), start_length,
-                                                limit, into ? into : none, into ? room : 0, told);
+                                                limit, into ? into : none, into ? room : 0, length ? length : &unread);
 }
 
-rowanspan_status rowanspan_apply(rowanspan *index, uint64_t view, uint64_t *told) {
-    return (rowanspan_status)rowanspan_raw_apply(raw_of(index), view, told);
+rowanspan_status rowanspan_apply(rowanspan *index, uint64_t view, uint64_t *commit) {
+    uint64_t unread;
+    return (rowanspan_status)rowanspan_raw_apply(raw_of(index), view, commit ? commit : &unread);
 }
 
-rowanspan_status rowanspan_keep_views(rowanspan *index, uint64_t *told) {
-    uint64_t applied = 0;
-    rowanspan_status status = rowanspan_apply(index, 0, told);
+rowanspan_status rowanspan_keep_views(rowanspan *index, uint64_t *applied) {
+    uint64_t count = 0;
+    rowanspan_status status = rowanspan_apply(index, 0, NULL);
     while (status == ROWANSPAN_OK) {
-        applied++;
-        status = rowanspan_apply(index, 0, told);
+        count++;
+        status = rowanspan_apply(index, 0, NULL);
     }
-    if (status != ROWANSPAN_CURRENT) {
-        return status;
+    if (applied) {
+        *applied = status == ROWANSPAN_CURRENT ? count : 0;
     }
-    *told = applied;
-    return ROWANSPAN_OK;
+    return status == ROWANSPAN_CURRENT ? ROWANSPAN_OK : status;
 }
 
-rowanspan_status rowanspan_drop(rowanspan *index, uint64_t view, uint64_t *told) {
-    return (rowanspan_status)rowanspan_raw_drop(raw_of(index), view, told);
+rowanspan_status rowanspan_drop(rowanspan *index, uint64_t view) {
+    uint64_t unread;
+    return (rowanspan_status)rowanspan_raw_drop(raw_of(index), view, &unread);
 }
 
 /* ---- commits, nodes and numbers */
 
 rowanspan_status rowanspan_feed(const rowanspan *index, uint64_t from, uint16_t limit, void *into, size_t room,
-                                uint64_t *told) {
+                                uint64_t *length) {
+    uint64_t unread;
     uint8_t none[1] = {0};
-    return (rowanspan_status)rowanspan_raw_feed(raw_of(index), from, limit, into ? into : none, into ? room : 0, told);
+    return (rowanspan_status)rowanspan_raw_feed(raw_of(index), from, limit, into ? into : none, into ? room : 0,
+                                                length ? length : &unread);
 }
 
-rowanspan_status rowanspan_advance(rowanspan *index, uint64_t *told) {
-    return (rowanspan_status)rowanspan_raw_advance(raw_of(index), told);
+rowanspan_status rowanspan_advance(rowanspan *index, uint64_t *epoch) {
+    uint64_t unread;
+    return (rowanspan_status)rowanspan_raw_advance(raw_of(index), epoch ? epoch : &unread);
 }
 
-rowanspan_status rowanspan_collect(rowanspan *index, uint64_t *told) {
-    return (rowanspan_status)rowanspan_raw_collect(raw_of(index), told);
+/* (The status of the next four is always OK: an index that is open is closed by rowanspan_close alone.) */
+
+uint64_t rowanspan_collect(rowanspan *index) {
+    uint64_t freed = 0;
+    rowanspan_raw_collect(raw_of(index), &freed);
+    return freed;
 }
 
-rowanspan_status rowanspan_commits(const rowanspan *index, uint64_t *told) {
-    return (rowanspan_status)rowanspan_raw_commits(raw_of(index), told);
+uint64_t rowanspan_commits(const rowanspan *index) {
+    uint64_t commits = 0;
+    rowanspan_raw_commits(raw_of(index), &commits);
+    return commits;
 }
 
-rowanspan_status rowanspan_nodes(const rowanspan *index, uint64_t *told) {
-    return (rowanspan_status)rowanspan_raw_nodes(raw_of(index), told);
+uint64_t rowanspan_nodes(const rowanspan *index) {
+    uint64_t nodes = 0;
+    rowanspan_raw_nodes(raw_of(index), &nodes);
+    return nodes;
 }
 
-rowanspan_status rowanspan_columns(const rowanspan *index, uint64_t *told) {
-    return (rowanspan_status)rowanspan_raw_columns(raw_of(index), told);
+uint64_t rowanspan_columns(const rowanspan *index) {
+    uint64_t columns = 0;
+    rowanspan_raw_columns(raw_of(index), &columns);
+    return columns;
 }
 
 /* ---- texts */

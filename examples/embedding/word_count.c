@@ -20,51 +20,44 @@ static void want(rowanspan_status status) {
 
 /* How often a word came so far. */
 static unsigned count_of(const rowanspan *index, const char *word, size_t length) {
-    uint8_t room[64];
-    uint64_t told;
-    rowanspan_status status = rowanspan_get(index, word, length, NULL, 0, room, sizeof room, &told);
-    struct rowanspan_reader reader;
-    struct rowanspan_row row;
+    uint8_t times;
+    rowanspan_status status = rowanspan_get_column(index, word, length, 0, &times, 1, NULL);
     if (status == ROWANSPAN_ABSENT) {
         return 0;
     }
     want(status);
-    reader = rowanspan_reader(room, told);
-    row = rowanspan_read_row(&reader);
-    return rowanspan_read_bytes(&row.columns).at[0];
+    return times;
 }
 
 static void count(rowanspan *index, const char *word, size_t length) {
     uint8_t more = (uint8_t)(count_of(index, word, length) + 1);
     struct rowanspan_set set = rowanspan_set(0, &more, 1);
-    uint64_t told;
-    want(rowanspan_put(index, word, length, &set, 1, &told));
-    want(rowanspan_keep_views(index, &told));
+    want(rowanspan_put(index, word, length, &set, 1, NULL));
+    want(rowanspan_keep_views(index, NULL));
 }
 
 static void show(const rowanspan *index, uint64_t view) {
     uint8_t room[4096];
-    uint64_t told, at, rows, upper, lower;
+    uint64_t length;
     struct rowanspan_reader reader;
+    struct rowanspan_page page;
     size_t left;
-    want(rowanspan_view(index, view, 0, NULL, 0, 100, room, sizeof room, &told));
-    reader = rowanspan_reader(room, told);
-    at = rowanspan_read_number(&reader);
-    rows = rowanspan_read_number(&reader);
-    (void)rowanspan_read_count(&reader); /* of columns: one */
-    rowanspan_read_sum(&reader, &upper, &lower);
-    printf("after %d words, %d came at least twice, %d in all:", (int)at, (int)rows, (int)lower);
-    for (left = rowanspan_read_count(&reader); left > 0; left--) {
-        struct rowanspan_bytes word = rowanspan_read_bytes(&reader);
-        struct rowanspan_row row = rowanspan_read_row(&reader);
-        printf(" %.*s %d", (int)word.length, (const char *)word.at, rowanspan_read_bytes(&row.columns).at[0]);
+    want(rowanspan_view(index, view, 0, NULL, 0, 100, room, sizeof room, &length));
+    reader = rowanspan_reader(room, length);
+    page = rowanspan_read_page(&reader);
+    printf("after %d words, %d came at least twice, %d in all:", (int)page.commit, (int)page.row_count,
+           (int)page.sums[0].lower);
+    for (left = page.pair_count; left > 0; left--) {
+        struct rowanspan_pair pair = rowanspan_read_pair(&page.pairs);
+        struct rowanspan_bytes times = rowanspan_read_bytes(&pair.row.columns);
+        printf(" %.*s %d", (int)pair.key.length, (const char *)pair.key.at, times.at[0]);
     }
     printf("\n");
 }
 
 int main(void) {
     rowanspan *index;
-    uint64_t often, told;
+    uint64_t often;
     const char *at = text;
     want(rowanspan_open(&index, 1, 64, 0));
     want(rowanspan_build_prefix(index, NULL, 0, rowanspan_at_least(0, 2), &often));
@@ -75,8 +68,7 @@ int main(void) {
         }
         if (length > 0) {
             count(index, at, length);
-            want(rowanspan_commits(index, &told));
-            if (told % 8 == 0) {
+            if (rowanspan_commits(index) % 8 == 0) {
                 show(index, often);
             }
         }

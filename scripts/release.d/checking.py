@@ -32,6 +32,8 @@ with Index(int(sys.argv[1])) as index:
     print(commit, index.get(b"apple").version, index.get(b"apple").columns, index.get(b"pear"))
 """
 ASKED = "1 1 (b'red',) None\n"
+# whether an embedded index has the extension module
+WHICH_CALLS = "from rowanspan.embedded import Index; print(type(Index()._native).__name__)"
 # the board of the wheel over the server at the port that is named: each file of its page
 LOOKING = """import re, subprocess, sys, urllib.request
 board = ["board", "-p", sys.argv[1], "--http", "0", "--build", "prefix 61 any"]
@@ -117,11 +119,14 @@ def unpack(checks: Checks) -> bool:
 
 
 def check_sums(checks: Checks) -> None:
-    """Each file is in SHA256SUMS, and is as it says."""
+    """Each file is in SHA256SUMS, and is as it says. Each link leads to a file."""
     checks.succeeds("sums", ["sha256sum", "--check", "--strict", "--quiet", making.SUMS], checks.unpacked)
-    there = {str(path.relative_to(checks.unpacked)) for path in checks.unpacked.rglob("*") if path.is_file()}
+    links = {path for path in checks.unpacked.rglob("*") if path.is_symlink()}
+    there = {str(path.relative_to(checks.unpacked)) for path in {*checks.unpacked.rglob("*")} - links if path.is_file()}
     summed = {line.partition("  ")[2] for line in (checks.unpacked / making.SUMS).read_text().splitlines()}
     checks.case("each file has a sum", summed == there - {making.SUMS}, str(summed ^ there))
+    leads = {str(path.relative_to(checks.unpacked)): os.readlink(path) for path in links if path.is_file()}
+    checks.case("links", leads == making.LINKS and len(links) == len(leads), str(leads))
 
 
 def check_notices(checks: Checks, where: str, text: str) -> None:
@@ -173,7 +178,7 @@ def check_programs(checks: Checks) -> None:
         outcome = checks.run([str(checks.unpacked / "bin" / name), "--help"])
         checks.case(f"{name} --help", outcome.status == 0 and name in outcome.output, outcome.why())
     for path in [*(checks.unpacked / "bin" / name for name in making.PROGRAMS),
-                 checks.unpacked / "lib" / "librowanspan.so"]:
+                 checks.unpacked / "lib" / making.SHARED]:
         outcome = checks.run(["ldd", str(path)])
         is_static = re.search("statically linked|not a dynamic executable", outcome.output + outcome.errors) is not None
         needed = [line.partition("=>")[2].strip() or line.strip() for line in outcome.output.splitlines()]
@@ -233,11 +238,16 @@ def check_printed_licences(checks: Checks) -> None:
 
 
 def check_python(checks: Checks) -> None:
-    """The example in Python, away from the repository, so that it imports the package of the wheel."""
+    """The example in Python, away from the repository, so that it imports the package of the wheel; by the extension
+    module that the wheel has, and without it."""
     example = making.TOP / "examples" / "embedding" / "leaderboard.py"
     copied = checks.room / example.name
     shutil.copyfile(example, copied)
-    checks.writes("leaderboard", [str(checks.python), "-I", str(copied)], example.with_suffix(".out").read_text())
+    printed = example.with_suffix(".out").read_text()
+    checks.writes("leaderboard", [str(checks.python), "-I", str(copied)], printed)
+    checks.writes("leaderboard by ctypes", [str(checks.python), "-I", str(copied)], printed, ROWANSPAN_NO_NATIVE="1")
+    kind = "Calls" if "-cp39-abi3-" in making.wheels()[0].name else "NoCalls"
+    checks.writes("the extension module", [str(checks.python), "-I", "-c", WHICH_CALLS], f"{kind}\n")
 
 
 # ---- C and Rust

@@ -27,6 +27,9 @@ LINKED = (*PROGRAMS, notices.LIBRARY)
 LICENCES = ("LICENSE-MIT", "LICENSE-APACHE")
 THIRD_PARTY = DIST / notices.NAME
 SUMS = "SHA256SUMS"
+# the shared library, and the link by which programs are linked with it
+SHARED = "librowanspan.so.0"
+LINKS = {"lib/librowanspan.so": SHARED}
 # the time that each file of the tarball has, in seconds since 1970: the beginning of 1980
 TIME = 315532800
 
@@ -51,7 +54,7 @@ def sources() -> Dict[str, Path]:
         **{name: TOP / name for name in LICENCES},
         notices.NAME: THIRD_PARTY,
         **{f"bin/{name}": TOP / "crates" / name / "out" / name for name in PROGRAMS},
-        **{f"lib/{name}": DIST / name for name in ("librowanspan.a", "librowanspan.so")},
+        **{f"lib/{name}": DIST / name for name in ("librowanspan.a", SHARED)},
         "include/rowanspan.h": DIST / "rowanspan.h",
         **{f"rust/{path.relative_to(crate)}": path for path in rust},
         **{f"examples/{name}": examples / name for name in ("word_count.c", "word_count.out", "cache.out")},
@@ -110,14 +113,19 @@ def entry(name: str, mode: int) -> tarfile.TarInfo:
 
 
 def write_tarball(files: Dict[str, Packed], to: Path) -> None:
-    """Writes the files, in the order of their names, each folder before what is in it."""
-    folders = {""} | {str(above) for name in files for above in Path(name).parents if str(above) != "."}
+    """Writes the files and the links, in the order of their names, each folder before what is in it."""
+    names = {*files, *LINKS}
+    folders = {""} | {str(above) for name in names for above in Path(name).parents if str(above) != "."}
     with to.open("wb") as raw, gzip.GzipFile(filename="", mode="wb", fileobj=raw, mtime=0) as zipped, \
             tarfile.open(fileobj=zipped, mode="w", format=tarfile.GNU_FORMAT) as tar:
-        for name in sorted(folders | set(files)):
+        for name in sorted(folders | names):
             if name in folders:
                 it = entry(name, 0o755)
                 it.type = tarfile.DIRTYPE
+                tar.addfile(it)
+            elif name in LINKS:
+                it = entry(name, 0o777)
+                it.type, it.linkname = tarfile.SYMTYPE, LINKS[name]
                 tar.addfile(it)
             else:
                 it = entry(name, 0o755 if files[name].is_program else 0o644)

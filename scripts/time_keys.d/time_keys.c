@@ -31,21 +31,19 @@ static uint64_t now(void) {
 
 /* A call of a kind, in their order above. */
 static rowanspan_status call_of(rowanspan *index, int kind, size_t length) {
-    uint64_t told;
     switch (kind) {
-    case 0: return rowanspan_put(index, second, length, NULL, 0, &told);
-    case 1: return rowanspan_get(index, second, length, NULL, 0, room, sizeof room, &told);
-    case 2: return rowanspan_range(index, first, length, 1000, NULL, 0, room, sizeof room, &told);
-    default: return rowanspan_remove(index, second, length, &told);
+    case 0: return rowanspan_put(index, second, length, NULL, 0, NULL);
+    case 1: return rowanspan_get(index, second, length, NULL, 0, room, sizeof room, NULL);
+    case 2: return rowanspan_range(index, first, length, 1000, NULL, 0, room, sizeof room, NULL);
+    default: return rowanspan_remove(index, second, length, NULL);
     }
 }
 
 static void time_round(size_t length, size_t at) {
     rowanspan *index;
-    uint64_t told;
     int kind;
     want(rowanspan_open(&index, 1, 4096, 0));
-    want(rowanspan_put(index, first, length, NULL, 0, &told));
+    want(rowanspan_put(index, first, length, NULL, 0, NULL));
     for (kind = 0; kind < KINDS; kind++) {
         uint64_t begun = now();
         rowanspan_status status = call_of(index, kind, length);

@@ -1,78 +1,11 @@
 /* Cursors: the rows that they return, in which order, and what changes of the index between two calls do to that. */
-#include "wanting.h"
-
-/* How many rows a cursor reads at a time. */
-enum { AT_ONCE = 64, MOST = ROWANSPAN_MAX_KEY_BYTES };
+#include "walking.h"
 
 static rowanspan_cursor *cursor_from(const rowanspan *index, const void *start, size_t length) {
     rowanspan_cursor *cursor = NULL;
     WANT_SAME(rowanspan_cursor_open(index, start, length, NULL, 0, &cursor), ROWANSPAN_OK);
     WANT(cursor != NULL);
     return cursor;
-}
-
-static void put_key(rowanspan *index, const void *key, size_t length, const char *text) {
-    struct rowanspan_set set = rowanspan_set(0, text, strlen(text));
-    uint64_t told;
-    WANT_SAME(rowanspan_put(index, key, length, &set, 1, &told), ROWANSPAN_OK);
-}
-
-static void remove_key(rowanspan *index, const char *key) {
-    uint64_t told;
-    WANT_SAME(rowanspan_remove(index, key, strlen(key), &told), ROWANSPAN_OK);
-}
-
-static void want_bytes(rowanspan_cursor *cursor, const void *key, size_t length, const char *text) {
-    struct rowanspan_pair pair;
-    rowanspan_status status = rowanspan_cursor_next(cursor, &pair);
-    WANT_SAME(status, ROWANSPAN_OK);
-    if (status == ROWANSPAN_OK) {
-        WANT(pair.key.length == length && memcmp(pair.key.at, key, length) == 0);
-        WANT(pair.row.column_count > 0 && is_text(rowanspan_read_bytes(&pair.row.columns), text));
-    }
-}
-
-static void want_next(rowanspan_cursor *cursor, const char *key, const char *text) {
-    want_bytes(cursor, key, strlen(key), text);
-}
-
-/* The end stays the end, and leaves the pair as it was. */
-static void want_end(rowanspan_cursor *cursor) {
-    struct rowanspan_pair pair, before;
-    int i;
-    memset(&pair, 0xee, sizeof pair);
-    before = pair;
-    for (i = 0; i < 2; i++) {
-        WANT_SAME(rowanspan_cursor_next(cursor, &pair), ROWANSPAN_ABSENT);
-        WANT(pair.key.at == before.key.at && pair.row.version == before.row.version);
-    }
-}
-
-static const char *key_of(int number) {
-    static char key[16];
-    snprintf(key, sizeof key, "key%04d", number);
-    return key;
-}
-
-/* An index with the keys of the numbers from 0 on, put in another order. The column of each is its number. */
-static rowanspan *numbered(int count) {
-    rowanspan *index = opened(1, 4096, 0);
-    char text[16];
-    int i;
-    for (i = 0; i < count; i++) {
-        snprintf(text, sizeof text, "%d", i * 11 % count);
-        put_key(index, key_of(i * 11 % count), 7, text);
-    }
-    return index;
-}
-
-/* Wants the rows of the numbers from `first` on that are before `end`. */
-static void want_numbers(rowanspan_cursor *cursor, int first, int end) {
-    char text[16];
-    for (; first < end; first++) {
-        snprintf(text, sizeof text, "%d", first);
-        want_next(cursor, key_of(first), text);
-    }
 }
 
 static void no_rows(void) {
@@ -134,7 +67,6 @@ static void columns(void) {
     uint8_t asked[2] = {2, 0};
     rowanspan_cursor *cursor;
     struct rowanspan_pair pair;
-    uint64_t told;
     int i;
     begins();
     for (i = 0; i < 2 * AT_ONCE; i++) {
@@ -142,7 +74,7 @@ static void columns(void) {
         sets[0] = rowanspan_set(0, "a", 1);
         sets[1] = rowanspan_set(1, "bb", 2);
         sets[2] = rowanspan_set(2, key_of(i), 7);
-        WANT_SAME(rowanspan_put(index, key_of(i), 7, sets, 3, &told), ROWANSPAN_OK);
+        WANT_SAME(rowanspan_put(index, key_of(i), 7, sets, 3, NULL), ROWANSPAN_OK);
     }
     WANT_SAME(rowanspan_cursor_open(index, NULL, 0, asked, 2, &cursor), ROWANSPAN_OK);
     memset(asked, 1, sizeof asked);
@@ -193,7 +125,6 @@ static size_t length_of(int number, size_t most) {
 static void put_large(rowanspan *index, int number) {
     struct rowanspan_set sets[COLUMNS];
     uint8_t key[MOST], bytes[COLUMNS][BYTES];
-    uint64_t told;
     int column;
     memset(key, 'k', sizeof key);
     snprintf((char *)key, 4, "%03d", number);
@@ -201,7 +132,7 @@ static void put_large(rowanspan *index, int number) {
         memset(bytes[column], 'a' + (number + column) % 26, BYTES);
         sets[column] = rowanspan_set((uint8_t)column, bytes[column], length_of(number, BYTES));
     }
-    WANT_SAME(rowanspan_put(index, key, length_of(number, MOST), sets, COLUMNS, &told), ROWANSPAN_OK);
+    WANT_SAME(rowanspan_put(index, key, length_of(number, MOST), sets, COLUMNS, NULL), ROWANSPAN_OK);
 }
 
 static void want_large(rowanspan_cursor *cursor, int number) {

@@ -18,7 +18,7 @@ static struct shown shown_now(rowanspan *index, uint64_t view) {
     struct shown it = nothing;
     WANT_SAME(rowanspan_range(index, NULL, 0, 1000, NULL, 0, it.rows, sizeof it.rows, &it.rows_length), ROWANSPAN_OK);
     WANT_SAME(rowanspan_view(index, view, 0, NULL, 0, 1000, it.page, sizeof it.page, &it.page_length), ROWANSPAN_OK);
-    WANT_SAME(rowanspan_commits(index, &it.commits), ROWANSPAN_OK);
+    it.commits = rowanspan_commits(index);
     return it;
 }
 
@@ -27,35 +27,36 @@ static bool is_same(const struct shown *a, const struct shown *b) {
         && memcmp(a->rows, b->rows, sizeof a->rows) == 0 && memcmp(a->page, b->page, sizeof a->page) == 0;
 }
 
-enum { KINDS = 10 };
+enum { KINDS = 11 };
 
 /* A call of each kind that allocates. The keys continue in new layers, and nodes are full. */
-static rowanspan_status call_of(rowanspan *index, int kind, uint64_t view, uint8_t *room, size_t size, uint64_t *told) {
+static rowanspan_status call_of(rowanspan *index, int kind, uint64_t view, uint8_t *room, size_t size,
+                                uint64_t *number) {
     struct rowanspan_set set = rowanspan_set(0, "value", 5);
     switch (kind) {
-    case 0: return rowanspan_put(index, "aaaaaaaabbbbbbbbcccc", 20, &set, 1, told);
-    case 1: return rowanspan_put(index, "k05", 3, &set, 1, told);
-    case 2: return rowanspan_put(index, "k17", 3, &set, 1, told);
-    case 3: return rowanspan_remove(index, "k07", 3, told);
-    case 4: return rowanspan_get(index, "k03", 3, (const uint8_t *)"\0", 1, room, size, told);
-    case 5: return rowanspan_range(index, "k03", 3, 5, NULL, 0, room, size, told);
-    case 6: return rowanspan_build_between(index, "a", 1, "z", 1, rowanspan_equals(0, "value", 5), told);
-    case 7: return rowanspan_view(index, view, 0, NULL, 0, 5, room, size, told);
-    case 8: return rowanspan_feed(index, 0, 5, room, size, told);
-    default: return rowanspan_apply(index, view, told);
+    case 0: return rowanspan_put(index, "aaaaaaaabbbbbbbbcccc", 20, &set, 1, number);
+    case 1: return rowanspan_put(index, "k05", 3, &set, 1, number);
+    case 2: return rowanspan_put(index, "k17", 3, &set, 1, number);
+    case 3: return rowanspan_remove(index, "k07", 3, number);
+    case 4: return rowanspan_get(index, "k03", 3, (const uint8_t *)"\0", 1, room, size, number);
+    case 5: return rowanspan_range(index, "k03", 3, 5, NULL, 0, room, size, number);
+    case 6: return rowanspan_build_between(index, "a", 1, "z", 1, rowanspan_equals(0, "value", 5), number);
+    case 7: return rowanspan_view(index, view, 0, NULL, 0, 5, room, size, number);
+    case 8: return rowanspan_feed(index, 0, 5, room, size, number);
+    case 9: return rowanspan_get_column(index, "k03", 3, 0, room, size, number);
+    default: return rowanspan_apply(index, view, number);
     }
 }
 
 static rowanspan *filled(uint64_t *view) {
     rowanspan *index = opened(1, 64, 64);
-    uint64_t told;
     char key[8];
     int i;
-    WANT_SAME(put_text(index, "aaaaaaaabbbbbbbbdddd", "v", &told), ROWANSPAN_OK);
+    WANT_SAME(put_text(index, "aaaaaaaabbbbbbbbdddd", "v", NULL), ROWANSPAN_OK);
     WANT_SAME(rowanspan_build_prefix(index, "k", 1, rowanspan_any(), view), ROWANSPAN_OK);
     for (i = 0; i < 14; i++) {
         snprintf(key, sizeof key, "k%02d", i);
-        WANT_SAME(put_text(index, key, "v", &told), ROWANSPAN_OK);
+        WANT_SAME(put_text(index, key, "v", NULL), ROWANSPAN_OK);
     }
     return index;
 }
@@ -64,20 +65,20 @@ static rowanspan *filled(uint64_t *view) {
  * they were, and the call is done when there is memory again. */
 static rowanspan_status call_without_memory(int kind, long allocations) {
     uint8_t room[4096];
-    uint64_t told = 99, view = 0;
+    uint64_t number = 99, view = 0;
     rowanspan *index = filled(&view);
     struct shown before = shown_now(index, view), after;
     rowanspan_status status;
     memset(room, 0xee, sizeof room);
     memory_ends_after(allocations);
-    status = call_of(index, kind, view, room, sizeof room, &told);
+    status = call_of(index, kind, view, room, sizeof room, &number);
     memory_ends_after(-1);
     if (status == ROWANSPAN_NO_MEMORY) {
-        WANT_SAME(told, 0);
+        WANT_SAME(number, 0);
         WANT_SAME(room[0], 0xee);
         after = shown_now(index, view);
         WANT(is_same(&before, &after));
-        WANT_SAME(call_of(index, kind, view, room, sizeof room, &told), ROWANSPAN_OK);
+        WANT_SAME(call_of(index, kind, view, room, sizeof room, &number), ROWANSPAN_OK);
     }
     rowanspan_close(index);
     return status;
@@ -130,13 +131,12 @@ enum { COLUMNS = 16, BYTES = 64, LENGTH = 8 + 8 + COLUMNS * (8 + BYTES) };
 static void put_greatest(rowanspan *index, const char *key) {
     struct rowanspan_set sets[COLUMNS];
     uint8_t bytes[COLUMNS][BYTES];
-    uint64_t told;
     int column;
     for (column = 0; column < COLUMNS; column++) {
         memset(bytes[column], 'a' + column, BYTES);
         sets[column] = rowanspan_set((uint8_t)column, bytes[column], BYTES);
     }
-    WANT_SAME(rowanspan_put(index, key, strlen(key), sets, COLUMNS, &told), ROWANSPAN_OK);
+    WANT_SAME(rowanspan_put(index, key, strlen(key), sets, COLUMNS, NULL), ROWANSPAN_OK);
 }
 
 static void want_greatest(const uint8_t *room, uint64_t length, uint64_t version) {
@@ -158,70 +158,86 @@ static void want_greatest(const uint8_t *room, uint64_t length, uint64_t version
 /* How many allocations a get of this key needs; the answer is in the buffer, and nothing after it. */
 static long allocations_of_get(const rowanspan *index, const char *key, uint64_t version) {
     uint8_t room[LENGTH + 1];
-    uint64_t told;
+    uint64_t number;
     rowanspan_status status;
     long allocations = -1;
     memset(room, 0xee, sizeof room);
     do {
         WANT_SAME(room[0], 0xee);
         memory_ends_after(++allocations);
-        status = rowanspan_get(index, key, strlen(key), NULL, 0, room, LENGTH, &told);
+        status = rowanspan_get(index, key, strlen(key), NULL, 0, room, LENGTH, &number);
         memory_ends_after(-1);
     } while (status == ROWANSPAN_NO_MEMORY && allocations < 10);
     WANT_SAME(status, ROWANSPAN_OK);
-    WANT_SAME(told, LENGTH);
+    WANT_SAME(number, LENGTH);
     WANT_SAME(room[LENGTH], 0xee);
-    want_greatest(room, told, version);
+    want_greatest(room, number, version);
     return allocations;
 }
 
-/* A get takes no memory: the row goes from the index into the buffer. Nor does one whose buffer is too small. */
+/* A get takes no memory: the row goes from the index into the buffer. Nor does one whose buffer is too small, nor one
+ * of a column. */
 static void gets_take_no_memory(void) {
     static const char *const keys[2] = {"", "aaaaaaaabbbbbbbbcccccccc"};
     rowanspan *index = opened(COLUMNS, 16, 0);
-    uint8_t room[LENGTH];
-    uint64_t told;
+    uint8_t room[LENGTH] = {0};
+    uint64_t number;
     int i;
     begins();
     for (i = 0; i < 2; i++) {
         put_greatest(index, keys[i]);
         room[0] = 0xee;
         memory_ends_after(0);
-        WANT_SAME(rowanspan_get(index, keys[i], strlen(keys[i]), NULL, 0, room, LENGTH - 1, &told), ROWANSPAN_NO_ROOM);
-        memory_ends_after(-1);
-        WANT_SAME(told, LENGTH);
+        WANT_SAME(rowanspan_get(index, keys[i], strlen(keys[i]), NULL, 0, room, LENGTH - 1, &number),
+                  ROWANSPAN_NO_ROOM);
+        WANT_SAME(number, LENGTH);
         WANT_SAME(room[0], 0xee);
+        WANT_SAME(rowanspan_get_column(index, keys[i], strlen(keys[i]), 1, room, BYTES, &number), ROWANSPAN_OK);
+        memory_ends_after(-1);
+        WANT(number == BYTES && room[0] == 'b' && room[BYTES - 1] == 'b' && room[BYTES] != 'b');
+        room[0] = 0xee;
         WANT_SAME(allocations_of_get(index, keys[i], (uint64_t)i + 1), 0);
     }
     rowanspan_close(index);
     ends("gets_take_no_memory");
 }
 
+/* Opens a cursor over a view; if `view` is 0, over the rows of the index. */
+static rowanspan_status open_cursor(const rowanspan *index, uint64_t view, const char *start, size_t length,
+                                    rowanspan_cursor **cursor) {
+    return view ? rowanspan_view_cursor_open(index, view, start, length, cursor)
+                : rowanspan_cursor_open(index, start, length, NULL, 0, cursor);
+}
+
 /* A cursor that is refused holds no memory, and its limits are answered before memory. */
-static void no_memory_to_open_a_cursor(void) {
-    rowanspan *index = opened(1, 16, 0);
+static void no_memory_to_open_a_cursor(bool is_over_view) {
     static const uint8_t none_such[1] = {1};
     static const char long_key[ROWANSPAN_MAX_KEY_BYTES + 1];
-    long allocations, before = memory_held();
+    rowanspan *index = opened(1, 16, 0);
+    uint64_t view = 0;
+    long allocations, before;
     rowanspan_status status = ROWANSPAN_NO_MEMORY;
     begins();
+    WANT_SAME(rowanspan_build_prefix(index, NULL, 0, rowanspan_any(), is_over_view ? &view : NULL), ROWANSPAN_OK);
+    before = memory_held();
     for (allocations = 0; status == ROWANSPAN_NO_MEMORY && allocations < 100; allocations++) {
         rowanspan_cursor *cursor;
         memory_ends_after(allocations);
-        status = rowanspan_cursor_open(index, "key", 3, NULL, 0, &cursor);
+        status = open_cursor(index, view, "key", 3, &cursor);
         memory_ends_after(-1);
         WANT((cursor != NULL) == (status == ROWANSPAN_OK));
         rowanspan_cursor_close(cursor);
         WANT_SAME(memory_held(), before);
         memory_ends_after(allocations);
         WANT_SAME(rowanspan_cursor_open(index, "key", 3, none_such, 1, &cursor), ROWANSPAN_BAD_COLUMN);
-        WANT_SAME(rowanspan_cursor_open(index, long_key, sizeof long_key, NULL, 0, &cursor), ROWANSPAN_KEY_TOO_LONG);
+        WANT_SAME(rowanspan_view_cursor_open(index, 9, "key", 3, &cursor), ROWANSPAN_NO_SUCH_VIEW);
+        WANT_SAME(open_cursor(index, view, long_key, sizeof long_key, &cursor), ROWANSPAN_KEY_TOO_LONG);
         memory_ends_after(-1);
     }
     WANT(allocations > 2);
     WANT_SAME(status, ROWANSPAN_OK);
     rowanspan_close(index);
-    ends("no_memory_to_open_a_cursor");
+    ends(is_over_view ? "no_memory_to_open_a_cursor_over_a_view" : "no_memory_to_open_a_cursor");
 }
 
 enum { CURSOR_ROWS = 150 };
@@ -250,11 +266,12 @@ static long refusals_of_next(rowanspan_cursor *cursor, int number) {
 
 /* A cursor that was refused memory returns the same row when it is asked again. It allocates only when it reads rows,
  * and not at the end. Its buffer, which has to grow here, is freed when it is closed. */
-static void no_memory_for_a_cursor(void) {
+static void no_memory_for_a_cursor(bool is_over_view) {
     rowanspan *index = opened(COLUMNS, 1024, 0);
     rowanspan_cursor *cursor;
     struct rowanspan_pair pair;
     rowanspan_status status;
+    uint64_t view = 0;
     char key[8];
     long before;
     int i;
@@ -263,8 +280,9 @@ static void no_memory_for_a_cursor(void) {
         snprintf(key, sizeof key, "k%03d", i);
         put_greatest(index, key);
     }
+    WANT_SAME(rowanspan_build_prefix(index, NULL, 0, rowanspan_any(), is_over_view ? &view : NULL), ROWANSPAN_OK);
     before = memory_held();
-    WANT_SAME(rowanspan_cursor_open(index, NULL, 0, NULL, 0, &cursor), ROWANSPAN_OK);
+    WANT_SAME(open_cursor(index, view, NULL, 0, &cursor), ROWANSPAN_OK);
     for (i = 0; i < CURSOR_ROWS; i++) {
         WANT((refusals_of_next(cursor, i) > 0) == (i % 64 == 0));
     }
@@ -275,7 +293,7 @@ static void no_memory_for_a_cursor(void) {
     rowanspan_cursor_close(cursor);
     WANT_SAME(memory_held(), before);
     rowanspan_close(index);
-    ends("no_memory_for_a_cursor");
+    ends(is_over_view ? "no_memory_for_a_cursor_over_a_view" : "no_memory_for_a_cursor");
 }
 
 /* What an index held is freed when it is closed, a thousand times. */
@@ -295,6 +313,27 @@ static void opened_and_closed(void) {
     ends("opened_and_closed");
 }
 
+/* A remove frees the columns of its row, also if its node keeps rows. */
+static void removed_rows_are_freed(void) {
+    static const uint8_t column[ROWANSPAN_MAX_COLUMN_BYTES];
+    struct rowanspan_set set = rowanspan_set(0, column, sizeof column);
+    rowanspan *index;
+    long before;
+    int i;
+    begins();
+    WANT_SAME(rowanspan_open(&index, 1, 16, 0), ROWANSPAN_OK);
+    for (i = 0; i < 10; i++) {
+        WANT_SAME(rowanspan_put(index, &"0123456789"[i], 1, &set, 1, NULL), ROWANSPAN_OK);
+    }
+    before = memory_held();
+    for (i = 1; i < 10; i += 2) {
+        WANT_SAME(rowanspan_remove(index, &"0123456789"[i], 1, NULL), ROWANSPAN_OK);
+    }
+    WANT(memory_held() <= before - 5);
+    rowanspan_close(index);
+    ends("removed_rows_are_freed");
+}
+
 int main(void) {
     memory_ends_after = (void (*)(long))dlsym(RTLD_DEFAULT, "memory_ends_after");
     memory_held = (long (*)(void))dlsym(RTLD_DEFAULT, "memory_held");
@@ -306,8 +345,11 @@ int main(void) {
     out_of_memory();
     no_memory_to_open();
     gets_take_no_memory();
-    no_memory_to_open_a_cursor();
-    no_memory_for_a_cursor();
+    no_memory_to_open_a_cursor(false);
+    no_memory_to_open_a_cursor(true);
+    no_memory_for_a_cursor(false);
+    no_memory_for_a_cursor(true);
     opened_and_closed();
+    removed_rows_are_freed();
     return all_told();
 }

@@ -14,6 +14,7 @@ from typing import Any, Callable, Dict
 sys.path.insert(0, str(Path(__file__).resolve().parent.parent.parent / "clients" / "python"))
 
 from rowanspan.embedded import Index, NoMemory, Prefix, Row  # noqa: E402
+from rowanspan.native import NoCalls  # noqa: E402
 
 PRELOADED = ctypes.PyDLL(None)
 
@@ -40,9 +41,9 @@ class WantingLibrary:
 
 
 def wanting(index: Index) -> WantingLibrary:
-    """Puts a library that may want memory in the place of the index's own."""
+    """Puts a library that may want memory in the place of the index's own. The extension module makes no calls."""
     library = WantingLibrary(index._library)
-    index._library = library
+    index._library, index._native = library, NoCalls()
     return library
 
 
@@ -92,7 +93,50 @@ def builds() -> None:
             assert index.view(number).page(index.commits()).count == 10
 
 
-CASES = (puts, builds)
+def wanted(allowed: int, call: Callable[[], Any]) -> Any:
+    """What a call of the extension module returns where memory ends after so many allocations."""
+    PRELOADED.memory_ends_after(allowed)
+    try:
+        return call()
+    except MemoryError:
+        return None
+    finally:
+        PRELOADED.memory_ends_after(-1)
+
+
+def calls_of_the_module() -> None:
+    """Calls of the extension module where memory ends: each is made, also if the view lags then, or has done nothing.
+    The next put is made by ctypes if the view holds the whole log, and brings the view up to date before."""
+    with Index(feed=1) as index:
+        calls, plain, lags, refusals, ends = index._native, {}, 0, 0, 0
+        if isinstance(calls, NoCalls):
+            return
+        view = index.build(Prefix(b""))
+        for number in range(4000):
+            key, made = b"%06d" % (number * 7919 % 1000003), index.commits()
+            commit = wanted(number % 20 - 1, lambda: calls.put(index, key, b"v"))
+            if commit is NotImplemented:
+                refusals += 1
+                assert index.commits() == made and index.get(key) == plain.get(key)
+                commit = index.put(key, b"v")
+                assert view.at == commit
+            assert commit == index.commits() == made + 1
+            plain[key] = Row(commit, (b"v",))
+            if view.at < commit:
+                lags += 1
+                assert index._views_lag
+        first = index.first(b"", 100)
+        for allowed in range(200):
+            for limit in (1, 100):
+                pairs = wanted(allowed, lambda: calls.range(b"", limit, None))
+                ends += pairs is None or pairs is NotImplemented
+                assert pairs is None or pairs is NotImplemented or pairs == first[:limit]
+        index.keep_views()
+        assert lags > 10 and refusals > 10 and ends > 1, (lags, refusals, ends)
+        assert dict(index.range()) == plain and view.page(index.commits()).count == len(plain)
+
+
+CASES = (puts, builds, calls_of_the_module)
 
 
 def main() -> int:

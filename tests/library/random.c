@@ -112,7 +112,7 @@ static void put_once(rowanspan *index) {
     uint8_t key[MOST_KEY], bytes[COLUMNS][MOST_COLUMN];
     size_t length = chance_key(key), count = chance(COLUMNS + 1), i, j;
     struct rowanspan_set sets[COLUMNS];
-    uint64_t told;
+    uint64_t commit;
     for (i = 0; i < count; i++) {
         size_t column_length = chance(MOST_COLUMN + 1);
         for (j = 0; j < column_length; j++) {
@@ -120,9 +120,9 @@ static void put_once(rowanspan *index) {
         }
         sets[i] = rowanspan_set((uint8_t)(count == 1 ? chance(COLUMNS) : i), bytes[i], column_length);
     }
-    WANT_SAME(rowanspan_put(index, key, length, sets, count, &told), ROWANSPAN_OK);
+    WANT_SAME(rowanspan_put(index, key, length, sets, count, &commit), ROWANSPAN_OK);
     plain_put(key, length, sets, count);
-    WANT_SAME(told, commits);
+    WANT_SAME(commit, commits);
 }
 
 /* A conditional put, over the row that is there or over one that isn't. */
@@ -130,27 +130,27 @@ static void put_if_once(rowanspan *index) {
     uint8_t key[MOST_KEY];
     size_t length = chance_key(key), at = place_of(key, length);
     struct rowanspan_set set = rowanspan_set((uint8_t)chance(COLUMNS), "if", 2);
-    uint64_t found = is_at(at, key, length) ? rows[at].version : 0, version = found + chance(2), told;
-    rowanspan_status status = rowanspan_put_if(index, key, length, &set, 1, version, &told);
+    uint64_t found = is_at(at, key, length) ? rows[at].version : 0, version = found + chance(2), commit;
+    rowanspan_status status = rowanspan_put_if(index, key, length, &set, 1, version, &commit);
     if (version == found) {
         WANT_SAME(status, ROWANSPAN_OK);
         plain_put(key, length, &set, 1);
-        WANT_SAME(told, commits);
+        WANT_SAME(commit, commits);
     } else {
         WANT_SAME(status, ROWANSPAN_OTHER_VERSION);
-        WANT_SAME(told, found);
+        WANT_SAME(commit, found);
     }
 }
 
 static void remove_once(rowanspan *index) {
     uint8_t key[MOST_KEY];
     size_t length = chance_key(key), at = place_of(key, length);
-    uint64_t told;
-    rowanspan_status status = rowanspan_remove(index, key, length, &told);
+    uint64_t commit;
+    rowanspan_status status = rowanspan_remove(index, key, length, &commit);
     if (is_at(at, key, length)) {
         WANT_SAME(status, ROWANSPAN_OK);
         plain_remove(at);
-        WANT_SAME(told, commits);
+        WANT_SAME(commit, commits);
     } else {
         WANT_SAME(status, ROWANSPAN_ABSENT);
     }
@@ -159,10 +159,10 @@ static void remove_once(rowanspan *index) {
 static void get_once(rowanspan *index) {
     uint8_t key[MOST_KEY], room[64];
     size_t length = chance_key(key), at = place_of(key, length);
-    uint64_t told;
-    rowanspan_status status = rowanspan_get(index, key, length, NULL, 0, room, sizeof room, &told);
+    uint64_t answered;
+    rowanspan_status status = rowanspan_get(index, key, length, NULL, 0, room, sizeof room, &answered);
     if (is_at(at, key, length)) {
-        struct rowanspan_reader reader = rowanspan_reader(room, told);
+        struct rowanspan_reader reader = rowanspan_reader(room, answered);
         WANT_SAME(status, ROWANSPAN_OK);
         WANT(same_row(rowanspan_read_row(&reader), &rows[at]));
         WANT(!reader.is_short && reader.left == 0);
@@ -171,17 +171,27 @@ static void get_once(rowanspan *index) {
     }
 }
 
+static void get_column_once(rowanspan *index) {
+    uint8_t key[MOST_KEY], room[MOST_COLUMN], column = (uint8_t)chance(COLUMNS);
+    size_t length = chance_key(key), at = place_of(key, length);
+    uint64_t bytes;
+    rowanspan_status status = rowanspan_get_column(index, key, length, column, room, sizeof room, &bytes);
+    WANT_SAME(status, is_at(at, key, length) ? ROWANSPAN_OK : ROWANSPAN_ABSENT);
+    WANT_SAME(bytes, status == ROWANSPAN_OK ? rows[at].column_length[column] : 0);
+    WANT(status != ROWANSPAN_OK || memcmp(room, rows[at].column[column], bytes) == 0);
+}
+
 static uint8_t answer[1 << 16];
 
-/* Wants the rows of an answer to be those from a place on that pass. */
-static void want_rows(struct rowanspan_reader *reader, size_t at, size_t limit,
+/* Wants the rows of an answer, of which there are `count`, to be those from a place on that pass. */
+static void want_rows(struct rowanspan_reader *reader, size_t count, size_t at, size_t limit,
                       bool (*passes)(const struct plain_row *)) {
-    size_t count = rowanspan_read_count(reader), seen = 0;
+    size_t seen = 0;
     for (; at < row_count && seen < limit; at++) {
         if (passes(&rows[at])) {
-            struct rowanspan_bytes key = rowanspan_read_bytes(reader);
-            WANT(seen < count && compare(key.at, key.length, rows[at].key, rows[at].key_length) == 0);
-            WANT(same_row(rowanspan_read_row(reader), &rows[at]));
+            struct rowanspan_pair pair = rowanspan_read_pair(reader);
+            WANT(seen < count && compare(pair.key.at, pair.key.length, rows[at].key, rows[at].key_length) == 0);
+            WANT(same_row(pair.row, &rows[at]));
             seen++;
         }
     }
@@ -198,11 +208,13 @@ static void range_once(rowanspan *index) {
     uint8_t key[MOST_KEY];
     size_t length = chance_key(key);
     uint16_t limit = (uint16_t)(1 + chance(40));
-    uint64_t told;
+    uint64_t answered;
     struct rowanspan_reader reader;
-    WANT_SAME(rowanspan_range(index, key, length, limit, NULL, 0, answer, sizeof answer, &told), ROWANSPAN_OK);
-    reader = rowanspan_reader(answer, told);
-    want_rows(&reader, place_of(key, length), limit, each);
+    size_t count;
+    WANT_SAME(rowanspan_range(index, key, length, limit, NULL, 0, answer, sizeof answer, &answered), ROWANSPAN_OK);
+    reader = rowanspan_reader(answer, answered);
+    count = rowanspan_read_count(&reader);
+    want_rows(&reader, count, place_of(key, length), limit, each);
 }
 
 /* A cursor that is open while the other calls are made, and the key after which its next one has to be. */
@@ -277,8 +289,8 @@ static bool is_shown(const struct plain_row *row) {
 }
 
 /* Wants the count and the sums of a page. */
-static void want_sums(struct rowanspan_reader *reader) {
-    uint64_t count = 0, sums[COLUMNS][2] = {{0}}, upper, lower;
+static void want_sums(const struct rowanspan_page *page) {
+    uint64_t count = 0, sums[COLUMNS][2] = {{0}};
     size_t i;
     int column;
     for (i = 0; i < row_count; i++) {
@@ -288,32 +300,33 @@ static void want_sums(struct rowanspan_reader *reader) {
         }
         count += is_shown(&rows[i]);
     }
-    WANT_SAME(rowanspan_read_number(reader), commits);
-    WANT_SAME(rowanspan_read_number(reader), count);
-    WANT_SAME(rowanspan_read_count(reader), COLUMNS);
+    WANT_SAME(page->commit, commits);
+    WANT_SAME(page->row_count, count);
+    WANT_SAME(page->sum_count, COLUMNS);
     for (column = 0; column < COLUMNS; column++) {
-        rowanspan_read_sum(reader, &upper, &lower);
-        WANT(upper == sums[column][0] && lower == sums[column][1]);
+        WANT(page->sums[column].upper == sums[column][0] && page->sums[column].lower == sums[column][1]);
     }
 }
 
 static void page_once(rowanspan *index, uint64_t view) {
     uint8_t key[MOST_KEY];
     size_t length = chance_key(key);
-    uint64_t told;
+    uint64_t answered;
     struct rowanspan_reader reader;
-    WANT_SAME(rowanspan_keep_views(index, &told), ROWANSPAN_OK);
-    WANT_SAME(rowanspan_view(index, view, commits, key, length, 50, answer, sizeof answer, &told), ROWANSPAN_OK);
-    reader = rowanspan_reader(answer, told);
-    want_sums(&reader);
-    want_rows(&reader, place_of(key, length), 50, is_shown);
+    struct rowanspan_page page;
+    WANT_SAME(rowanspan_keep_views(index, NULL), ROWANSPAN_OK);
+    WANT_SAME(rowanspan_view(index, view, commits, key, length, 50, answer, sizeof answer, &answered), ROWANSPAN_OK);
+    reader = rowanspan_reader(answer, answered);
+    page = rowanspan_read_page(&reader);
+    want_sums(&page);
+    want_rows(&page.pairs, page.pair_count, place_of(key, length), 50, is_shown);
 }
 
 static void feed_once(rowanspan *index) {
-    uint64_t told, from = commits < KEEP ? 0 : commits - KEEP, number;
+    uint64_t length, from = commits < KEEP ? 0 : commits - KEEP, number;
     struct rowanspan_reader reader;
-    WANT_SAME(rowanspan_feed(index, from, KEEP, answer, sizeof answer, &told), ROWANSPAN_OK);
-    reader = rowanspan_reader(answer, told);
+    WANT_SAME(rowanspan_feed(index, from, KEEP, answer, sizeof answer, &length), ROWANSPAN_OK);
+    reader = rowanspan_reader(answer, length);
     WANT_SAME(rowanspan_read_count(&reader), commits - from);
     for (number = from + 1; number <= commits; number++) {
         const struct plain_delta *wanted = &deltas[number % KEEP];
@@ -330,11 +343,12 @@ static void feed_once(rowanspan *index) {
 
 static void tidy_once(rowanspan *index) {
     uint8_t key[MOST_KEY];
-    uint64_t told;
-    WANT_SAME(rowanspan_tidy(index, key, chance_key(key), &told), ROWANSPAN_OK);
-    WANT(told <= ROWANSPAN_TIDIED_EMPTY_LAYER);
-    WANT_SAME(rowanspan_advance(index, &told), ROWANSPAN_OK);
-    WANT_SAME(rowanspan_collect(index, &told), ROWANSPAN_OK);
+    uint64_t tidied, nodes;
+    WANT_SAME(rowanspan_tidy(index, key, chance_key(key), &tidied), ROWANSPAN_OK);
+    WANT(tidied <= ROWANSPAN_TIDIED_EMPTY_LAYER);
+    WANT_SAME(rowanspan_advance(index, NULL), ROWANSPAN_OK);
+    nodes = rowanspan_nodes(index);
+    WANT_SAME(rowanspan_collect(index), nodes - rowanspan_nodes(index));
 }
 
 /* The call of a round, by chance: rows become many, and then few. */
@@ -346,8 +360,10 @@ static void call_once(rowanspan *index, uint64_t view, int round) {
         put_once(index);
     } else if (what < 48) {
         remove_once(index);
-    } else if (what < 70) {
+    } else if (what < 65) {
         get_once(index);
+    } else if (what < 70) {
+        get_column_once(index);
     } else if (what < 75) {
         range_once(index);
     } else if (what < 80) {
@@ -363,7 +379,7 @@ static void call_once(rowanspan *index, uint64_t view, int round) {
 
 int main(void) {
     rowanspan *index = opened(COLUMNS, 65536, KEEP);
-    uint64_t told, view;
+    uint64_t view;
     int round;
     begins();
     WANT_SAME(rowanspan_build_prefix(index, "a", 1, rowanspan_at_least(1, 300), &view), ROWANSPAN_OK);
@@ -372,8 +388,7 @@ int main(void) {
         call_once(index, view, round);
     }
     rowanspan_cursor_close(cursor);
-    WANT_SAME(rowanspan_commits(index, &told), ROWANSPAN_OK);
-    WANT_SAME(told, commits);
+    WANT_SAME(rowanspan_commits(index), commits);
     printf("%llu commits, %zu rows at the end\n", (unsigned long long)commits, row_count);
     rowanspan_close(index);
     ends("random_calls_against_a_plain_map");

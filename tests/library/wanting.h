@@ -58,9 +58,9 @@ static inline rowanspan *opened(uint64_t columns, uint64_t feed, uint64_t keep) 
 }
 
 /* A put of one column, 0. */
-static inline rowanspan_status put_text(rowanspan *index, const char *key, const char *text, uint64_t *told) {
+static inline rowanspan_status put_text(rowanspan *index, const char *key, const char *text, uint64_t *commit) {
     struct rowanspan_set set = rowanspan_set(0, text, strlen(text));
-    return rowanspan_put(index, key, strlen(key), &set, 1, told);
+    return rowanspan_put(index, key, strlen(key), &set, 1, commit);
 }
 
 static inline int is_text(struct rowanspan_bytes bytes, const char *text) {

@@ -37,8 +37,8 @@ pub enum Error {
 }
 
 impl Error {
-    /// The error of a status and of the number that was reported with it.
-    pub(crate) fn of(status: u32, told: u64) -> Error {
+    /// The error of a status and of the number that the call has written.
+    pub(crate) fn of(status: u32, number: u64) -> Error {
         match status {
             1 => Error::NoMemory,
             2 => Error::KeyTooLong,
@@ -46,13 +46,13 @@ impl Error {
             4 => Error::ColumnTooLong,
             5 => Error::BadLimit,
             6 => Error::ArenaFull,
-            7 => Error::FeedFull(told),
+            7 => Error::FeedFull(number),
             10 => Error::TooManyViews,
             11 => Error::NoSuchView,
-            12 => Error::Behind(told),
+            12 => Error::Behind(number),
             13 => Error::BadRange,
             14 => Error::Spent,
-            16 => Error::OtherVersion(told),
+            16 => Error::OtherVersion(number),
             other => Error::Unknown(other),
         }
     }

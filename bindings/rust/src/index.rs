@@ -12,6 +12,9 @@ pub const MAX_LIMIT: u16 = 1000;
 /// The most bytes of a key.
 pub const MAX_KEY_BYTES: usize = 1024;
 
+// The most bytes of a column.
+const MAX_COLUMN_BYTES: usize = 64;
+
 const DONE: u32 = 0;
 const ABSENT: u32 = 102;
 const NO_ROOM: u32 = 103;
@@ -92,10 +95,10 @@ impl fmt::Debug for Index {
     }
 }
 
-fn done((status, told): (u32, u64)) -> Result<u64, Error> {
+fn done((status, number): (u32, u64)) -> Result<u64, Error> {
     match status {
-        DONE => Ok(told),
-        _ => Err(Error::of(status, told)),
+        DONE => Ok(number),
+        _ => Err(Error::of(status, number)),
     }
 }
 
@@ -106,14 +109,14 @@ fn column_sets<'a>(sets: &[(u8, &'a [u8])]) -> Vec<ColumnSet<'a>> {
 }
 
 // How many bytes of an answer are read without an allocation: those of a row with 16 columns of 64 bytes.
-const ROOM_ON_STACK: usize = 8 + 8 + 16 * (8 + 64);
+const ROOM_ON_STACK: usize = 8 + 8 + 16 * (8 + MAX_COLUMN_BYTES);
 
 // The length of an answer, or none if a key has no row.
-fn length(status: u32, told: u64) -> Result<Option<usize>, Error> {
+fn length(status: u32, number: u64) -> Result<Option<usize>, Error> {
     match status {
-        DONE => Ok(Some(usize::try_from(told).map_err(|_| Error::NoMemory)?)),
+        DONE => Ok(Some(usize::try_from(number).map_err(|_| Error::NoMemory)?)),
         ABSENT => Ok(None),
-        _ => Err(Error::of(status, told)),
+        _ => Err(Error::of(status, number)),
     }
 }
 
@@ -124,13 +127,13 @@ fn answer<T>(
     read: impl FnOnce(Reader<'_>) -> T,
 ) -> Result<Option<T>, Error> {
     let mut room = [0; ROOM_ON_STACK];
-    let (status, told) = ask(&mut room);
+    let (status, number) = ask(&mut room);
     if status != NO_ROOM {
-        return Ok(length(status, told)?.map(|count| read(Reader::new(&room[..count]))));
+        return Ok(length(status, number)?.map(|count| read(Reader::new(&room[..count]))));
     }
-    let mut room = vec![0; usize::try_from(told).map_err(|_| Error::NoMemory)?];
-    let (status, told) = ask(&mut room);
-    Ok(length(status, told)?.map(|count| read(Reader::new(&room[..count]))))
+    let mut room = vec![0; usize::try_from(number).map_err(|_| Error::NoMemory)?];
+    let (status, number) = ask(&mut room);
+    Ok(length(status, number)?.map(|count| read(Reader::new(&room[..count]))))
 }
 
 fn some_answer<T>(
@@ -189,6 +192,13 @@ impl Index {
             |room| self.library.get(key.as_ref(), columns, room),
             |mut reader| reader.row(),
         )
+    }
+
+    /// The bytes of the column of this number of a key's row, or none if the key has no row.
+    pub fn get_column(&self, key: impl AsRef<[u8]>, column: u8) -> Result<Option<Vec<u8>>, Error> {
+        let mut room = [0; MAX_COLUMN_BYTES];
+        let (status, number) = self.library.get_column(key.as_ref(), column, &mut room);
+        Ok(length(status, number)?.map(|count| room[..count].to_vec()))
     }
 
     /// The rows whose keys are in a range, in the order of their keys. A range that ends before it begins has none.
@@ -286,7 +296,7 @@ impl Index {
 
     /// Ends a view. Its number isn't used again.
     pub fn drop_view(&mut self, view: u64) -> Result<(), Error> {
-        done(self.library.drop_view(view)).map(|_| ())
+        done((self.library.drop_view(view), 0)).map(|_| ())
     }
 
     /// What the commits after commit `from` did, in their order, at most `limit` (1 to 1000) of them. Fails with
@@ -304,22 +314,22 @@ impl Index {
     }
 
     /// Frees the nodes that tidies took out. Returns how many.
-    pub fn collect(&mut self) -> Result<u64, Error> {
-        done(self.library.collect())
+    pub fn collect(&mut self) -> u64 {
+        self.library.collect()
     }
 
     /// How many commits were made, which is the number of the last one.
-    pub fn commits(&self) -> Result<u64, Error> {
-        done(self.library.commits())
+    pub fn commits(&self) -> u64 {
+        self.library.commits()
     }
 
     /// How many nodes are in use, of at most 1,048,576 nodes.
-    pub fn nodes(&self) -> Result<u64, Error> {
-        done(self.library.nodes())
+    pub fn nodes(&self) -> u64 {
+        self.library.nodes()
     }
 
     /// How many columns a row has.
-    pub fn columns(&self) -> Result<u64, Error> {
-        done(self.library.columns())
+    pub fn columns(&self) -> u64 {
+        self.library.columns()
     }
 }

@@ -55,7 +55,7 @@ impl<'a> ViewTest<'a> {
 }
 
 type Handle = *mut Opened;
-type Told = *mut u64;
+type Number = *mut u64;
 
 #[rustfmt::skip]
 extern "C" {
@@ -63,31 +63,34 @@ extern "C" {
     fn rowanspan_open(index: *mut Handle, columns: u64, feed: u64, keep: u64) -> c_uint;
     fn rowanspan_close(index: Handle);
     fn rowanspan_put(index: Handle, key: *const u8, key_length: usize, sets: *const ColumnSet<'_>, count: usize,
-                     told: Told) -> c_uint;
+                     commit: Number) -> c_uint;
     fn rowanspan_put_if(index: Handle, key: *const u8, key_length: usize, sets: *const ColumnSet<'_>, count: usize,
-                        version: u64, told: Told) -> c_uint;
-    fn rowanspan_remove(index: Handle, key: *const u8, key_length: usize, told: Told) -> c_uint;
-    fn rowanspan_tidy(index: Handle, key: *const u8, key_length: usize, told: Told) -> c_uint;
+                        version: u64, commit: Number) -> c_uint;
+    fn rowanspan_remove(index: Handle, key: *const u8, key_length: usize, commit: Number) -> c_uint;
+    fn rowanspan_tidy(index: Handle, key: *const u8, key_length: usize, tidied: Number) -> c_uint;
     fn rowanspan_get(index: Handle, key: *const u8, key_length: usize, columns: *const u8, column_count: usize,
-                     into: *mut u8, room: usize, told: Told) -> c_uint;
+                     into: *mut u8, room: usize, length: Number) -> c_uint;
+    fn rowanspan_get_column(index: Handle, key: *const u8, key_length: usize, column: u8, into: *mut u8, room: usize,
+                            length: Number) -> c_uint;
     fn rowanspan_range(index: Handle, start: *const u8, start_length: usize, limit: u16, columns: *const u8,
-                       column_count: usize, into: *mut u8, room: usize, told: Told) -> c_uint;
+                       column_count: usize, into: *mut u8, room: usize, length: Number) -> c_uint;
     fn rowanspan_build_prefix(index: Handle, prefix: *const u8, prefix_length: usize, test: ViewTest<'_>,
-                              told: Told) -> c_uint;
-    fn rowanspan_build_from(index: Handle, lo: *const u8, lo_length: usize, test: ViewTest<'_>, told: Told) -> c_uint;
+                              view: Number) -> c_uint;
+    fn rowanspan_build_from(index: Handle, lo: *const u8, lo_length: usize, test: ViewTest<'_>,
+                            view: Number) -> c_uint;
     fn rowanspan_build_between(index: Handle, lo: *const u8, lo_length: usize, hi: *const u8, hi_length: usize,
-                               test: ViewTest<'_>, told: Told) -> c_uint;
+                               test: ViewTest<'_>, view: Number) -> c_uint;
     fn rowanspan_view(index: Handle, view: u64, floor: u64, start: *const u8, start_length: usize, limit: u16,
-                      into: *mut u8, room: usize, told: Told) -> c_uint;
-    fn rowanspan_apply(index: Handle, view: u64, told: Told) -> c_uint;
-    fn rowanspan_keep_views(index: Handle, told: Told) -> c_uint;
-    fn rowanspan_drop(index: Handle, view: u64, told: Told) -> c_uint;
-    fn rowanspan_feed(index: Handle, from: u64, limit: u16, into: *mut u8, room: usize, told: Told) -> c_uint;
-    fn rowanspan_advance(index: Handle, told: Told) -> c_uint;
-    fn rowanspan_collect(index: Handle, told: Told) -> c_uint;
-    fn rowanspan_commits(index: Handle, told: Told) -> c_uint;
-    fn rowanspan_nodes(index: Handle, told: Told) -> c_uint;
-    fn rowanspan_columns(index: Handle, told: Told) -> c_uint;
+                      into: *mut u8, room: usize, length: Number) -> c_uint;
+    fn rowanspan_apply(index: Handle, view: u64, commit: Number) -> c_uint;
+    fn rowanspan_keep_views(index: Handle, applied: Number) -> c_uint;
+    fn rowanspan_drop(index: Handle, view: u64) -> c_uint;
+    fn rowanspan_feed(index: Handle, from: u64, limit: u16, into: *mut u8, room: usize, length: Number) -> c_uint;
+    fn rowanspan_advance(index: Handle, epoch: Number) -> c_uint;
+    fn rowanspan_collect(index: Handle) -> u64;
+    fn rowanspan_commits(index: Handle) -> u64;
+    fn rowanspan_nodes(index: Handle) -> u64;
+    fn rowanspan_columns(index: Handle) -> u64;
 }
 
 /// The version of the library.
@@ -109,16 +112,23 @@ pub(crate) struct Library {
 // code makes a call from another thread only after the value was moved there, or lent by a lock, which orders them.
 unsafe impl Send for Library {}
 
-// Makes a call of this symbol, and returns its status and the number that it reports. The arguments are those between
-// the index and that number.
+// Makes a call of this symbol, and returns what it returns. The arguments are those after the index.
 macro_rules! call {
-    ($library:expr, $symbol:ident $(, $argument:expr)*) => {{
-        let mut told = 0u64;
+    ($library:expr, $symbol:ident $(, $argument:expr)*) => {
         // SAFETY: the index is one that `open` has made and that isn't closed, and no other call is open: `Library`
         // isn't `Sync`. Pointers are those of references that live during the call, with their lengths. Those that the
         // call writes through are of `&mut`, so that none overlaps another.
-        let status = unsafe { $symbol($library.index.as_ptr() $(, $argument)*, &mut told) };
-        (status, told)
+        unsafe { $symbol($library.index.as_ptr() $(, $argument)*) }
+    };
+}
+
+// Makes a call of this symbol, and returns its status and the number that it writes. The arguments are those between
+// the index and that number.
+macro_rules! answered {
+    ($library:expr, $symbol:ident $(, $argument:expr)*) => {{
+        let mut number = 0u64;
+        let status = call!($library, $symbol $(, $argument)*, &mut number);
+        (status, number)
     }};
 }
 
@@ -133,80 +143,84 @@ impl Library {
     }
 
     pub(crate) fn put(&mut self, key: &[u8], sets: &[ColumnSet<'_>]) -> (u32, u64) {
-        call!(self, rowanspan_put, key.as_ptr(), key.len(), sets.as_ptr(), sets.len())
+        answered!(self, rowanspan_put, key.as_ptr(), key.len(), sets.as_ptr(), sets.len())
     }
 
     pub(crate) fn put_if(&mut self, key: &[u8], sets: &[ColumnSet<'_>], version: u64) -> (u32, u64) {
-        call!(self, rowanspan_put_if, key.as_ptr(), key.len(), sets.as_ptr(), sets.len(), version)
+        answered!(self, rowanspan_put_if, key.as_ptr(), key.len(), sets.as_ptr(), sets.len(), version)
     }
 
     pub(crate) fn remove(&mut self, key: &[u8]) -> (u32, u64) {
-        call!(self, rowanspan_remove, key.as_ptr(), key.len())
+        answered!(self, rowanspan_remove, key.as_ptr(), key.len())
     }
 
     pub(crate) fn tidy(&mut self, key: &[u8]) -> (u32, u64) {
-        call!(self, rowanspan_tidy, key.as_ptr(), key.len())
+        answered!(self, rowanspan_tidy, key.as_ptr(), key.len())
     }
 
     pub(crate) fn get(&self, key: &[u8], columns: &[u8], into: &mut [u8]) -> (u32, u64) {
-        call!(self, rowanspan_get, key.as_ptr(), key.len(), columns.as_ptr(), columns.len(), into.as_mut_ptr(),
-              into.len())
+        answered!(self, rowanspan_get, key.as_ptr(), key.len(), columns.as_ptr(), columns.len(), into.as_mut_ptr(),
+                  into.len())
+    }
+
+    pub(crate) fn get_column(&self, key: &[u8], column: u8, into: &mut [u8]) -> (u32, u64) {
+        answered!(self, rowanspan_get_column, key.as_ptr(), key.len(), column, into.as_mut_ptr(), into.len())
     }
 
     pub(crate) fn range(&self, start: &[u8], limit: u16, columns: &[u8], into: &mut [u8]) -> (u32, u64) {
-        call!(self, rowanspan_range, start.as_ptr(), start.len(), limit, columns.as_ptr(), columns.len(),
-              into.as_mut_ptr(), into.len())
+        answered!(self, rowanspan_range, start.as_ptr(), start.len(), limit, columns.as_ptr(), columns.len(),
+                  into.as_mut_ptr(), into.len())
     }
 
     pub(crate) fn build_prefix(&mut self, prefix: &[u8], test: ViewTest<'_>) -> (u32, u64) {
-        call!(self, rowanspan_build_prefix, prefix.as_ptr(), prefix.len(), test)
+        answered!(self, rowanspan_build_prefix, prefix.as_ptr(), prefix.len(), test)
     }
 
     pub(crate) fn build_from(&mut self, lo: &[u8], test: ViewTest<'_>) -> (u32, u64) {
-        call!(self, rowanspan_build_from, lo.as_ptr(), lo.len(), test)
+        answered!(self, rowanspan_build_from, lo.as_ptr(), lo.len(), test)
     }
 
     pub(crate) fn build_between(&mut self, lo: &[u8], hi: &[u8], test: ViewTest<'_>) -> (u32, u64) {
-        call!(self, rowanspan_build_between, lo.as_ptr(), lo.len(), hi.as_ptr(), hi.len(), test)
+        answered!(self, rowanspan_build_between, lo.as_ptr(), lo.len(), hi.as_ptr(), hi.len(), test)
     }
 
     pub(crate) fn view(&self, view: u64, floor: u64, start: &[u8], limit: u16, into: &mut [u8]) -> (u32, u64) {
-        call!(self, rowanspan_view, view, floor, start.as_ptr(), start.len(), limit, into.as_mut_ptr(), into.len())
+        answered!(self, rowanspan_view, view, floor, start.as_ptr(), start.len(), limit, into.as_mut_ptr(), into.len())
     }
 
     pub(crate) fn feed(&self, from: u64, limit: u16, into: &mut [u8]) -> (u32, u64) {
-        call!(self, rowanspan_feed, from, limit, into.as_mut_ptr(), into.len())
+        answered!(self, rowanspan_feed, from, limit, into.as_mut_ptr(), into.len())
     }
 
     pub(crate) fn apply(&mut self, view: u64) -> (u32, u64) {
-        call!(self, rowanspan_apply, view)
+        answered!(self, rowanspan_apply, view)
     }
 
     pub(crate) fn keep_views(&mut self) -> (u32, u64) {
-        call!(self, rowanspan_keep_views)
+        answered!(self, rowanspan_keep_views)
     }
 
-    pub(crate) fn drop_view(&mut self, view: u64) -> (u32, u64) {
+    pub(crate) fn drop_view(&mut self, view: u64) -> u32 {
         call!(self, rowanspan_drop, view)
     }
 
     pub(crate) fn advance(&mut self) -> (u32, u64) {
-        call!(self, rowanspan_advance)
+        answered!(self, rowanspan_advance)
     }
 
-    pub(crate) fn collect(&mut self) -> (u32, u64) {
+    pub(crate) fn collect(&mut self) -> u64 {
         call!(self, rowanspan_collect)
     }
 
-    pub(crate) fn commits(&self) -> (u32, u64) {
+    pub(crate) fn commits(&self) -> u64 {
         call!(self, rowanspan_commits)
     }
 
-    pub(crate) fn nodes(&self) -> (u32, u64) {
+    pub(crate) fn nodes(&self) -> u64 {
         call!(self, rowanspan_nodes)
     }
 
-    pub(crate) fn columns(&self) -> (u32, u64) {
+    pub(crate) fn columns(&self) -> u64 {
         call!(self, rowanspan_columns)
     }
 }

@@ -30,12 +30,9 @@ fn rows() -> Result<(), Error> {
     assert_eq!(index.first(b"", 1, &[])?, pairs[..1]);
     assert_eq!(index.remove(b"apple")?, Some(3));
     assert_eq!(index.remove(b"apple")?, None);
-    assert_eq!(
-        (index.commits()?, index.nodes()?, index.columns()?),
-        (3, 2, 1)
-    );
+    assert_eq!((index.commits(), index.nodes(), index.columns()), (3, 2, 1));
     assert_eq!(index.tidy(b"apple")?, Tidied::Nothing);
-    assert_eq!((index.advance()?, index.collect()?), (1, 0));
+    assert_eq!((index.advance()?, index.collect()), (1, 0));
     Ok(())
 }
 
@@ -194,6 +191,25 @@ fn rows_of_every_size() -> Result<(), Error> {
 }
 
 #[test]
+fn one_column() -> Result<(), Error> {
+    let mut index = Index::open(Options {
+        columns: 16,
+        ..Options::default()
+    })?;
+    index.put(b"key", &[(15, &[7; 64]), (2, b"abc")])?;
+    assert_eq!(index.get_column(b"key", 2)?, Some(b"abc".to_vec()));
+    assert_eq!(index.get_column("key", 15)?, Some(vec![7; 64]));
+    assert_eq!(index.get_column(b"key", 0)?, Some(vec![]));
+    assert_eq!(index.get_column(b"kex", 2)?, None);
+    assert_eq!(index.get_column(b"key", 16), Err(Error::BadColumn));
+    assert_eq!(
+        index.get_column([0; MAX_KEY_BYTES + 1], 2),
+        Err(Error::KeyTooLong)
+    );
+    Ok(())
+}
+
+#[test]
 fn another_thread() -> Result<(), Error> {
     let mut index = Index::open(Options::default())?;
     index.put(b"apple", &[(0, b"red")])?;
@@ -228,7 +244,7 @@ fn threads_by_a_lock() -> Result<(), Error> {
         thread.join().expect("the thread ends")?;
     }
     let index = shared.lock().expect("no thread panics");
-    assert_eq!((index.commits()?, index.range(..).count()), (1000, 1000));
+    assert_eq!((index.commits(), index.range(..).count()), (1000, 1000));
     Ok(())
 }
 
@@ -321,14 +337,17 @@ fn random_calls_against_a_map() -> Result<(), Error> {
             }
             6..=7 => {
                 let key = chance.key();
-                assert_eq!(index.get(&key)?, plain.get(&key).cloned());
+                let wanted = plain.get(&key).cloned();
+                let first = wanted.as_ref().map(|row| row.columns[0].clone());
+                assert_eq!(index.get_column(&key, 0)?, first);
+                assert_eq!(index.get(&key)?, wanted);
             }
             8 => first_by_chance(&index, &plain, &mut chance)?,
             _ => {
                 index.keep_views()?;
                 let shown = plain.iter().filter(|(key, _)| key.starts_with(b"aa"));
                 let wanted: Vec<_> = shown.map(|(key, row)| (key.clone(), row.clone())).collect();
-                let page = index.view(view, index.commits()?, b"", 1000)?;
+                let page = index.view(view, index.commits(), b"", 1000)?;
                 assert_eq!((page.count, page.rows), (wanted.len() as u64, wanted));
             }
         }

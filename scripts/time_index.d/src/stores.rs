@@ -90,7 +90,7 @@ impl Store for Indexed {
 
     fn shown(&self) -> Outcome<Vec<(u64, u128)>> {
         let index = locked(&self.index);
-        let commits = index.commits()?;
+        let commits = index.commits();
         self.views
             .iter()
             .map(|view| {

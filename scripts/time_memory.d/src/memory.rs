@@ -54,7 +54,7 @@ impl Watched {
 
     pub fn reading(&self) -> Outcome<Reading> {
         let bytes = allocated() - self.before;
-        let nodes = locked(&self.store.index).nodes()? as f64;
+        let nodes = locked(&self.store.index).nodes() as f64;
         Ok(Reading { nodes, bytes })
     }
 }

@@ -19,8 +19,8 @@ impl Cache {
     }
 
     fn get(&self, path: &str) -> Result<Option<String>, Error> {
-        let row = self.index.get_columns(path, &[0])?;
-        Ok(row.map(|row| String::from_utf8_lossy(&row.columns[0]).into_owned()))
+        let page = self.index.get_column(path, 0)?;
+        Ok(page.map(|page| String::from_utf8_lossy(&page).into_owned()))
     }
 
     fn put(&mut self, path: &str, page: &str) -> Result<(), Error> {
