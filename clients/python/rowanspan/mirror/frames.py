@@ -1,0 +1,80 @@
+"""The frames by which a mirror writes: each says first, in the position row, that the rows aren't exact."""
+from __future__ import annotations
+
+from typing import Any, List, NamedTuple, Optional, Sequence
+
+from ..core import Refused, Row
+from ..wire import AnswerKind, Get, Put, Query, Remove, Reply, read_replies, request_frame
+from .place import Position
+from .source import Sets
+
+__all__ = ["CHANGES", "Written", "spelled_change", "change_frame", "read_change_frame"]
+
+# how many changes a frame has room for: after the get and the put of the position row
+CHANGES = 62
+# the bytes of an answer to a put, or to a remove of a row that was there
+COMMITTED_BYTES = 25
+# at which byte the one column of the position row begins in the body of a reply
+COLUMN_AT = 29
+
+
+class Written(NamedTuple):
+    """What the server answered to a frame of changes."""
+
+    # the version of the position row before the frame, 0 if there was none; None if the get was refused
+    found: Optional[int]
+    # the version that the frame gave it; None if that put was refused
+    version: Optional[int]
+    # how many changes were made before the first that was refused, and why that was
+    done: int
+    refused: Optional[Refused]
+
+
+def spelled_change(key: bytes, sets: Optional[Sets]) -> bytes:
+    """A put, or a remove if there are no sets, as the wire spells it. The key and the columns are within their
+    bounds."""
+    head = len(key).to_bytes(2, "big") + key
+    if sets is None:
+        return b"\3" + head
+    columns = [bytes((number, len(value))) + value for number, value in sets.items()]
+    return b"\2" + head + bytes((len(sets),)) + b"".join(columns)
+
+
+def change_frame(key: bytes, position: Position, changes: Sequence[bytes]) -> bytes:
+    """A frame that reads the position row, writes it, and makes these changes. The server does it without another
+    commit in between; but nothing depends on that if only one mirror has this name."""
+    return request_frame([Get(key, (0,)).spelled(), Put(key, {0: position.spelled()}).spelled(), *changes])
+
+
+def read_change_frame(body: bytes, count: int) -> Written:
+    """What a server answered to a frame of this many changes. Raises `BadReply`."""
+    quick = read_all_done(body, count)
+    return read_each(body, count) if quick is None else quick
+
+
+def read_all_done(body: bytes, count: int) -> Optional[Written]:
+    """The usual answer: the position row was there, and each change is a commit. None for another."""
+    begin = COLUMN_AT + body[COLUMN_AT - 1] if len(body) > COLUMN_AT else 0
+    rest = body[begin:]
+    if body[:3] != bytes((1, count + 2, AnswerKind.ROW)) or len(rest) != COMMITTED_BYTES * (count + 1):
+        return None
+    if rest[::COMMITTED_BYTES] != bytes((AnswerKind.COMMITTED,)) * (count + 1):
+        return None
+    return Written(int.from_bytes(body[19:27], "big"), int.from_bytes(rest[17:25], "big"), count, None)
+
+
+def read_each(body: bytes, count: int) -> Written:
+    """Any answer."""
+    # (the answers to a put are among those to a remove)
+    asked: List[Query[Any]] = [Get(b"", (0,)), Put(b"", {}), *[Remove(b"")] * count]
+    row, put, *outcomes = read_replies(body, asked)
+    if isinstance(row, Refused):
+        return Written(None, None, 0, row)
+    found = row.value.version if isinstance(row.value, Row) else 0
+    if isinstance(put, Refused):
+        return Written(found, None, 0, put)
+    assert isinstance(put, Reply)
+    for done, outcome in enumerate(outcomes):
+        if isinstance(outcome, Refused):
+            return Written(found, put.value, done, outcome)
+    return Written(found, put.value, count, None)
