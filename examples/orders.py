@@ -98,7 +98,7 @@ def main() -> int:
         made.error("--rate has to be more than 0")
     end = time.monotonic() + options.seconds
     try:
-        with rowanspan.Index(options.port) as index:
+        with rowanspan.Client(options.port) as index:
             shop = Shop(index, random.Random(options.seed))
             while time.monotonic() < end:
                 shop.step()

@@ -16,9 +16,9 @@
  * PROOFS
  *     The functions are thin: each passes its arguments to a function inside the library, of which it is proved what
  *     it does, by its contract in crates/rowanspan_c/src/exports.rt. (rowanspan_open also allocates what the pointer
- *     points to, rowanspan_get_column copies one column of the answer of rowanspan_get, rowanspan_keep_views repeats
- *     rowanspan_apply, and a cursor repeats rowanspan_range or rowanspan_view.) The thin functions, which are in
- *     bindings/c, and the inline functions of this header are only tested.
+ *     points to, rowanspan_get_column copies one column of the answer of rowanspan_get, and a cursor repeats
+ *     rowanspan_range or rowanspan_view.) The thin functions, which are in bindings/c, and the inline functions of this
+ *     header are only tested.
  *
  * ORDER OF REFUSALS
  *     Limits are answered before memory. A call that breaks a limit of its keys, its columns, its test, its range or

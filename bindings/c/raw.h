@@ -38,6 +38,7 @@ uint16_t rowanspan_raw_build_between(raw_handle handle, const uint8_t *lo, size_
 uint16_t rowanspan_raw_view(raw_handle handle, uint64_t view, uint64_t floor, const uint8_t *start,
                             size_t start_length, uint16_t limit, uint8_t *into, size_t room, uint64_t *told);
 uint16_t rowanspan_raw_apply(raw_handle handle, uint64_t view, uint64_t *told);
+uint16_t rowanspan_raw_keep_views(raw_handle handle, uint64_t *told);
 uint16_t rowanspan_raw_drop(raw_handle handle, uint64_t view, uint64_t *told);
 uint16_t rowanspan_raw_feed(raw_handle handle, uint64_t from, uint16_t limit, uint8_t *into, size_t room,
                             uint64_t *told);

@@ -167,16 +167,8 @@ rowanspan_status rowanspan_apply(rowanspan *index, uint64_t view, uint64_t *comm
 }
 
 rowanspan_status rowanspan_keep_views(rowanspan *index, uint64_t *applied) {
-    uint64_t count = 0;
-    rowanspan_status status = rowanspan_apply(index, 0, NULL);
-    while (status == ROWANSPAN_OK) {
-        count++;
-        status = rowanspan_apply(index, 0, NULL);
-    }
-    if (applied) {
-        *applied = status == ROWANSPAN_CURRENT ? count : 0;
-    }
-    return status == ROWANSPAN_CURRENT ? ROWANSPAN_OK : status;
+    uint64_t unread;
+    return (rowanspan_status)rowanspan_raw_keep_views(raw_of(index), applied ? applied : &unread);
 }
 
 rowanspan_status rowanspan_drop(rowanspan *index, uint64_t view) {

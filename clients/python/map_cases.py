@@ -5,8 +5,8 @@ from __future__ import annotations
 import inspect
 from typing import Any, Callable, Iterable, List, Optional, Sequence, Tuple
 
-from rowanspan import (MAX_KEY_BYTES, AtLeast, BadColumn, BadLimit, BadRange, Behind, KeyTooLong, NoSuchView,
-                       OtherVersion, Page, Prefix, Range, Row, RowMap, Sets, TooLong, View)
+from rowanspan import (MAX_KEY_BYTES, AtLeast, BadColumn, BadLimit, BadRange, Behind, ColumnTooLong, KeyTooLong,
+                       NoSuchView, OtherVersion, Page, Prefix, Range, Row, RowMap, Sets, TooLong, View)
 
 KEYS = [b"", b"\0", b"a", b"b", b"b\0", *[b"ba%03d" % number for number in range(150)], b"b\xff", b"b\xff\xff", b"c",
         b"\xff", b"\xff\xff", bytes((255,)) * MAX_KEY_BYTES]
@@ -57,6 +57,80 @@ class MapCases:
                      lambda: len(wrong)):
             with self.assertRaises(TypeError):
                 call()
+
+    def test_changes_by_brackets(self) -> None:
+        index = self.index
+        index[b"a"] = b"v"
+        index[b"a"] = {1: b"w"}
+        self.assertEqual(index[b"a"], Row(2, (b"v", b"w")))
+        del index[b"a"]
+        with self.assertRaises(KeyError) as met:
+            del index[b"a"]
+        self.assertEqual((met.exception.args, index.first()), ((b"a",), []))
+        index[b"b"] = [(0, b"x"), (1, b"y")]
+        with self.assertRaises(BadColumn):
+            index[b"b"] = {2: b""}
+        wrong: Any = index
+        for call in (lambda: wrong.__setitem__(b"b", "v"), lambda: wrong.__setitem__(slice(b"a", b"c"), b"v"),
+                     lambda: wrong.__delitem__("b"), lambda: wrong.__delitem__(slice(b"a", b"c"))):
+            with self.assertRaises(TypeError):
+                call()
+        self.assertEqual(index.first(), [(b"b", Row(4, (b"x", b"y")))])
+
+    def test_pop(self) -> None:
+        index = self.index
+        self.fill([b"a", b"b"])
+        self.assertEqual((index.pop(b"a"), index.pop(b"b", 5)), (Row(1, (b"a", b"")), Row(2, (b"b", b""))))
+        self.assertEqual((index.pop(b"a", 5), index.pop(b"a", None), index.first()), (5, None, []))
+        with self.assertRaises(KeyError) as met:
+            index.pop(b"a")
+        self.assertEqual(met.exception.args, (b"a",))
+
+    def test_pop_of_a_row_that_another_caller_removes(self) -> None:
+        index, read = self.index, self.index._row
+
+        def removed(key: bytes, columns: Optional[Sequence[int]]) -> Optional[Row]:
+            row = read(key, columns)
+            index.remove(key)
+            return row
+
+        index.put(b"a", b"v")
+        index._row = removed  # type: ignore[method-assign]
+        self.assertIsNone(index.pop(b"a", None))
+        self.assertEqual(index.put(b"a", b"w"), 3)
+
+    def test_setdefault(self) -> None:
+        index, put_if = self.index, self.index.put_if
+        self.assertEqual(index.setdefault(b"a", {1: b"w"}), Row(1, (b"", b"w")))
+        self.assertEqual(index.setdefault(b"a", b"x"), Row(1, (b"", b"w")))
+        with self.assertRaises(ColumnTooLong):
+            index.setdefault(b"c", bytes(65))
+
+        def after_another(key: bytes, sets: Sets, version: int) -> int:
+            index.put(key, b"other")
+            return put_if(key, sets, version)
+
+        def before_a_remove(key: bytes, sets: Sets, version: int) -> int:
+            commit = put_if(key, sets, version)
+            if commit == 3:
+                index.remove(key)
+            return commit
+
+        index.put_if = after_another  # type: ignore[method-assign]
+        self.assertEqual(index.setdefault(b"b", b"x"), Row(2, (b"other", b"")))
+        index.put_if = before_a_remove  # type: ignore[method-assign]
+        self.assertEqual(index.setdefault(b"c", b"x"), Row(5, (b"x", b"")))
+
+    def test_items(self) -> None:
+        index = self.index
+        self.assertEqual((list(index.items()), list(index.keys()), list(index.values())), ([], [], []))
+        keys = [b"%04d" % number for number in range(1100)]
+        self.fill(keys[::-1])
+        rows = [Row(1100 - number, (key, b"")) for number, key in enumerate(keys)]
+        self.assertEqual((list(index.items()), list(index.keys()), list(index.values())),
+                         (list(zip(keys, rows)), keys, rows))
+        index.remove(keys[7])
+        self.assertEqual(dict(index.items()), dict(zip(keys[:7] + keys[8:], rows[:7] + rows[8:])))
 
     def test_first(self) -> None:
         self.fill([b"a", b"b", b"c"])
@@ -164,8 +238,9 @@ class MapCases:
         self.assertEqual((met.exception.number, met.exception.detail), (12, 3))
         view.drop()
         for call in (view.page, view.drop, lambda: view.count, lambda: list(view)):
-            with self.assertRaises(NoSuchView):
+            with self.assertRaises(NoSuchView) as gone:
                 call()
+            self.assertTrue(isinstance(gone.exception, LookupError))
 
     def test_rows_of_a_view_by_pages(self) -> None:
         keys = [b"%04d" % number for number in range(2100)]

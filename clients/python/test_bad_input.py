@@ -8,11 +8,11 @@ import subprocess
 import sys
 import unittest
 from pathlib import Path
-from typing import Any, Dict, List, Sequence, Tuple
+from typing import Any, Dict, List, Sequence, Tuple, Type
 
 import rowanspan
 import rowanspan.embedded
-from rowanspan import (MAX_KEY_BYTES, AnyRow, AtLeast, Build, Equals, Get, GetRange, Index, NoLibrary, Prefix, Put,
+from rowanspan import (MAX_KEY_BYTES, AnyRow, AtLeast, Build, Client, Equals, Get, GetRange, NoLibrary, Prefix, Put,
                        PutIf, Query, Range, Row, TooLong, ViewDrop, ViewRead)
 from rowanspan.text import HEX, TEXT, BadLine, read_query
 from stand_in import StandIn
@@ -24,8 +24,10 @@ SECONDS = 20.0
 WRONG_TYPES: List[Tuple[str, Sequence[Any]]] = [
     *[(name, (key, *rest)) for key in ("a", None, 1, [97]) for name, rest in (
         ("get", ()), ("put", (b"v",)), ("put_if", (b"v", 0)), ("remove", ()), ("first", ()), ("range", ()),
-        ("tidy", ()), ("update", (lambda row: b"v",)))],
-    *[(name, (b"a", sets, *rest)) for name, rest in (("put", ()), ("put_if", (0,))) for sets in (
+        ("tidy", ()), ("update", (lambda row: b"v",)), ("__setitem__", (b"v",)), ("__delitem__", ()), ("pop", ()),
+        ("pop", (None,)), ("setdefault", (b"v",)))],
+    *[(name, (b"a", sets, *rest)) for name, rest in (
+        ("put", ()), ("put_if", (0,)), ("__setitem__", ()), ("setdefault", ())) for sets in (
         "v", "", None, 1, ["v"], ["ab"], [b"v"], [(0, b"v", 1)], {0: "v"}, {"0": b"v"}, [(0.0, b"v")], {None: b""})],
     *[("put_if", (b"a", b"v", version)) for version in ("1", None, 1.0, b"1")],
     *[("get", (b"a", None, columns)) for columns in (0, "0", [b"0"], [0.0], [None])],
@@ -47,7 +49,7 @@ WRONG_TYPES: List[Tuple[str, Sequence[Any]]] = [
 
 class ArgumentTest(unittest.TestCase):
     def test_wrong_types(self) -> None:
-        with StandIn() as server, Index(server.port, timeout=SECONDS) as index:
+        with StandIn() as server, Client(server.port, timeout=SECONDS) as index:
             for name, arguments in WRONG_TYPES:
                 with self.subTest(name=name, arguments=arguments), self.assertRaises(TypeError):
                     getattr(index, name)(*arguments)
@@ -66,16 +68,16 @@ class ArgumentTest(unittest.TestCase):
     def test_wrong_addresses(self) -> None:
         for arguments in (("7070",), (None,), (7070, b"localhost"), (7070, 5), (7070, "127.0.0.1", "1")):
             with self.subTest(arguments=arguments), self.assertRaises(TypeError):
-                Index(*arguments)
+                Client(*arguments)
 
     def test_ports_that_there_are_not(self) -> None:
         for port in (-1, 65_536, 65_536 + 7070):
             with self.subTest(port=port), self.assertRaises(rowanspan.TooLong):
-                Index(port)
+                Client(port)
 
     def test_queries_by_an_iterator(self) -> None:
         """They are asked once each, and a conditional put among them makes the frame one of version 2."""
-        with StandIn() as server, Index(server.port, timeout=SECONDS) as index:
+        with StandIn() as server, Client(server.port, timeout=SECONDS) as index:
             queries = [Put(b"a", b"1"), PutIf(b"a", b"2", 1)]
             replies = index.call_all(iter(queries))  # type: ignore[arg-type]
             self.assertEqual([reply.value for reply in replies], [1, 2])  # type: ignore[union-attr]
@@ -86,7 +88,7 @@ class ArgumentTest(unittest.TestCase):
         for fault in (rowanspan.KeyTooLong(), rowanspan.OtherVersion(5)):
             again = pickle.loads(pickle.dumps(fault))
             self.assertEqual((type(again), str(again), again.detail), (type(fault), str(fault), fault.detail))
-        with StandIn() as server, Index(server.port, timeout=SECONDS) as index:
+        with StandIn() as server, Client(server.port, timeout=SECONDS) as index:
             for copying in (copy.copy, copy.deepcopy, pickle.dumps):
                 with self.assertRaisesRegex(TypeError, "Client objects can't be copied"):
                     copying(index)
@@ -110,13 +112,13 @@ class ArgumentTest(unittest.TestCase):
     def test_timeouts(self) -> None:
         for timeout in (0, -1, 0.0, float("nan"), float("inf")):
             with self.subTest(timeout=timeout), self.assertRaisesRegex(TooLong, "^a timeout must be more than 0"):
-                Index(7070, timeout=timeout)
+                Client(7070, timeout=timeout)
             words = [sys.executable, str(SHELL), "-p", "7070", "--timeout", str(timeout), "get", "61", "all"]
             done = subprocess.run(words, capture_output=True, timeout=SECONDS, check=False)
             self.assertEqual((done.returncode, done.stdout), (2, b""))
 
     def test_bytes_of_other_types(self) -> None:
-        with StandIn() as server, Index(server.port, timeout=SECONDS) as index:
+        with StandIn() as server, Client(server.port, timeout=SECONDS) as index:
             self.assertEqual(index.put(bytearray(b"a"), memoryview(b"v")), 1)
             self.assertEqual(index.get(memoryview(b"a"), columns=b"\0"), Row(1, (b"v",)))
 
@@ -130,14 +132,30 @@ class ArgumentTest(unittest.TestCase):
             *[(Get(b"a", [column]), rowanspan.BadColumn) for column in (-1, 1, 255, 256)],
             *[(Put(b"a", {column: b""}), rowanspan.BadColumn) for column in (-1, 1, 256)],
             *[(Build(Prefix(b"", Equals(column, b""))), rowanspan.BadColumn) for column in (-1, 1, 256)]]
-        with StandIn() as server, Index(server.port, timeout=SECONDS) as index:
+        with StandIn() as server, Client(server.port, timeout=SECONDS) as index:
             for query, kind in wrong:
                 with self.subTest(query=str(query)[:40]), self.assertRaises(kind) as met:
                     index.call(query)
                 self.assertEqual((met.exception.number, met.exception.detail, str(met.exception)),
                                  (kind.number, None, kind.cause))
                 self.assertIsInstance(met.exception, ValueError)
+                self.assertEqual(isinstance(met.exception, TooLong), kind.__name__.endswith("TooLong"))
             self.assertIsNone(index.get(b"a"))
+
+    def test_kinds(self) -> None:
+        """Some classes are of a kind of the standard library too, by which they are caught, and keep their texts."""
+        kinds: List[Tuple[rowanspan.RowanspanError, Type[Exception], str]] = [
+            (rowanspan.NoMemory(), MemoryError, "out of memory"),
+            (rowanspan.NoSuchView(), LookupError, "no view has this number"),
+            (rowanspan.ConnectionLost("it ended"), ConnectionError, "it ended"),
+            (rowanspan.BadColumn(), ValueError, rowanspan.BadColumn.cause),
+            (rowanspan.BadLimit(), ValueError, rowanspan.BadLimit.cause)]
+        for fault, kind, text in kinds:
+            with self.subTest(kind=kind), self.assertRaises(kind) as met:
+                raise fault
+            again = pickle.loads(pickle.dumps(met.exception))
+            self.assertEqual((type(again), str(again), str(fault)), (type(fault), text, text))
+            self.assertFalse(isinstance(fault, (TooLong, KeyError)))
 
 
 class BadLineTest(unittest.TestCase):

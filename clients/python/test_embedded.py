@@ -99,8 +99,8 @@ def columns() -> None:
         assert index.put(bytes(MAX_KEY_BYTES), b"") == 2
         assert index.get(bytes(MAX_KEY_BYTES), columns=[0]) == Row(2, (b"",))
         raises(BadLimit, lambda: index.first(limit=0))
-        raises(TooLong, lambda: index.first(limit=65536))
-        raises(TooLong, lambda: index.put(b"k", {256: b""}))
+        raises(BadLimit, lambda: index.first(limit=65536))
+        raises(BadColumn, lambda: index.put(b"k", {256: b""}))
         raises(BadColumn, lambda: Index(columns=17))
         raises(BadLimit, lambda: Index(feed=0))
 
@@ -198,7 +198,7 @@ def closed() -> None:
     raises(Closed, lambda: next(index.range()))
     raises(Closed, lambda: index.build(Prefix(b"")))
     raises(Closed, lambda: index.view(1).count)
-    assert re.fullmatch("<rowanspan.embedded.Index at 0x[0-9a-f]+, closed>", repr(index))
+    assert re.fullmatch("<rowanspan.Index at 0x[0-9a-f]+, closed>", repr(index))
     raises(NoLibrary, lambda: Index(library="/nowhere/librowanspan.so"))
     raises(NoLibrary, lambda: Index(library="/dev/null"))
 
@@ -224,8 +224,9 @@ def wrong_types() -> None:
 def names_of_the_client() -> None:
     """Each method of a map has the same parameters for the client and here, with the same defaults and a text. Rows,
     views and what is raised are the same classes."""
-    methods = [name for name in vars(RowMap) if not name.startswith("__") or name in ("__getitem__", "__contains__")]
-    assert {"get", "put", "put_if", "update", "remove", "first", "range", "tidy", "build", "view"} <= set(methods)
+    methods = [name for name in vars(RowMap) if not name.startswith("__") or name.endswith(("item__", "contains__"))]
+    assert {"get", "put", "put_if", "update", "remove", "first", "range", "tidy", "build", "view", "pop", "setdefault",
+            "items", "keys", "values", "__getitem__", "__setitem__", "__delitem__", "__contains__"} <= set(methods)
     for name in [name for name in methods if callable(getattr(RowMap, name))]:
         client, own = getattr(rowanspan.Client, name), getattr(Index, name)
         assert inspect.signature(own) == inspect.signature(client) == inspect.signature(getattr(RowMap, name)), name

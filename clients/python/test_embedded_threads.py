@@ -99,6 +99,23 @@ class ThreadTest(unittest.TestCase):
         in_threads([work] * THREADS)
         self.assertEqual(self.index[b"n"], Row(100 * THREADS, ((100 * THREADS).to_bytes(8, "big"),)))
 
+    def test_a_pop_is_one_call(self) -> None:
+        """A put of another thread, which comes after the pop has read the row, waits until it has removed it."""
+        index, read, others = self.index, self.index._row, []
+
+        def read_slowly(key: bytes, columns: Optional[Sequence[int]]) -> Optional[Row]:
+            row = read(key, columns)
+            others.append(threading.Thread(target=index.put, args=(b"a", b"w"), daemon=True))
+            others[-1].start()
+            others[-1].join(0.1)
+            return row
+
+        index.put(b"a", b"v")
+        index._row = read_slowly  # type: ignore[method-assign]
+        self.assertEqual(index.pop(b"a"), Row(1, (b"v",)))
+        others[0].join(SECONDS)
+        self.assertEqual(index.first(), [(b"a", Row(3, (b"w",)))])
+
     def test_one_call_at_a_time(self) -> None:
         inside: List[str] = []
         crowds: List[List[str]] = []

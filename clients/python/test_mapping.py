@@ -5,7 +5,7 @@ import unittest
 from typing import List, Sequence
 
 from map_cases import MapCases, keys_of
-from rowanspan import MAX_KEY_BYTES, Closed, GetRange, Index, Pairs, Prefix, Put, Row, ViewRead, key_after
+from rowanspan import MAX_KEY_BYTES, Client, Closed, GetRange, Pairs, Prefix, Put, Row, ViewRead, key_after
 from rowanspan.mapping import scanned
 from stand_in import Options, StandIn
 
@@ -16,7 +16,7 @@ class ClientMapTest(MapCases, unittest.TestCase):
     def setUp(self) -> None:
         self.server = StandIn(Options(columns=2))
         self.addCleanup(self.server.__exit__, None, None, None)
-        self.index = Index(self.server.port, timeout=SECONDS)
+        self.index = Client(self.server.port, timeout=SECONDS)
         self.addCleanup(self.index.close)
 
     def limits(self) -> List[int]:
@@ -38,6 +38,24 @@ class ClientMapTest(MapCases, unittest.TestCase):
             with self.subTest(arguments=arguments):
                 self.assertEqual(len(list(self.index.range(**arguments))), count)  # type: ignore[arg-type]
                 self.assertEqual(self.limits(), limits)
+
+    def test_what_a_map_asks(self) -> None:
+        """How many queries each call makes, and that a listing of keys reads one column."""
+        index, server = self.index, self.server.index
+        self.fill([b"a%04d" % number for number in range(1500)])
+        before = server.events
+        for call, count in ((lambda: index.__setitem__(b"b", b""), 1), (lambda: index.__delitem__(b"b"), 1),
+                            (lambda: index.setdefault(b"b", b"v"), 3), (lambda: index.setdefault(b"b", b"w"), 1),
+                            (lambda: index.pop(b"b"), 2), (lambda: index.pop(b"b", None), 1), (index.keys, 0),
+                            (lambda: next(index.keys()), 1), (lambda: list(index.items()), 2)):
+            call()
+            self.assertEqual(server.events - before, count)
+            before = server.events
+        del server.asked[:]
+        self.assertEqual((len(list(index.keys())), len(list(index.values()))), (1500, 1500))
+        ranges = [query for query in server.asked if isinstance(query, GetRange)]
+        self.assertEqual([(query.limit, tuple(query.columns)) for query in ranges],
+                         [(1000, (0,))] * 2 + [(1000, ())] * 2)
 
     def test_a_range_asks_as_it_is_read(self) -> None:
         self.fill([b"a%04d" % number for number in range(100)])
@@ -65,8 +83,8 @@ class ClientMapTest(MapCases, unittest.TestCase):
             raise KeyError
         self.assertRegex(repr(view), "^<rowanspan.View 2 of <rowanspan.Client 127.0.0.1:[0-9]+, closed>>$")
 
-    def index_again(self) -> Index:
-        return Index(self.server.port, timeout=SECONDS)
+    def index_again(self) -> Client:
+        return Client(self.server.port, timeout=SECONDS)
 
     def test_a_view_by_another_client(self) -> None:
         view = self.index.build(Prefix(b"a"))
@@ -88,7 +106,7 @@ class RangeTest(unittest.TestCase):
         self.assertIsNone(key_after(b"\xff" * MAX_KEY_BYTES))
 
     def scanned(self, keys: Sequence[bytes], start: bytes = b"") -> List[bytes]:
-        with StandIn() as server, Index(server.port, timeout=SECONDS) as index:
+        with StandIn() as server, Client(server.port, timeout=SECONDS) as index:
             for key in keys:
                 server.index.answer(Put(key, b"v"))
             return [key for key, row in index.range(start) if row.columns == (b"v",)]

@@ -1,6 +1,6 @@
 #!/usr/bin/env python3
 """Tests of the client over a stand-in, without the server: broken streams, calls and pipelines. As a program it runs
-test_mapping, test_wire, test_shell, test_bad_input, test_board and test_wheel too, and its last line is 'N passed, M failed'."""
+the other tests that need nothing built too, and its last line is 'N passed, M failed'."""
 from __future__ import annotations
 
 import socket
@@ -13,11 +13,16 @@ import rowanspan
 import test_bad_input
 import test_board
 import test_mapping
+import test_mirror
+import test_mirror_model
+import test_mirror_reading
+import test_mirror_rows
+import test_names
 import test_shell
 import test_wheel
 import test_wire
 from counting import run_counted
-from rowanspan import (MAX_KEY_BYTES, BadReply, Build, ConnectionLost, Get, GetRange, Index, NoSuchView,
+from rowanspan import (MAX_KEY_BYTES, BadReply, Build, Client, ConnectionLost, Get, GetRange, NoSuchView,
                        OtherVersion, Page, Prefix, Put, PutIf, Query, Range, Refused, Reply, Row, Tidied, TooLong,
                        Unanswered, View, ViewDrop, ViewRead, WrongIndex)
 from stand_in import Options, StandIn
@@ -58,7 +63,7 @@ class BrokenStreamTest(unittest.TestCase):
     def test_cut_replies(self) -> None:
         whole = framed([ANSWERS[1][1]])
         for kept in range(len(whole)):
-            with Canned([whole[:kept]]) as server, Index(server.port, timeout=SECONDS) as index:
+            with Canned([whole[:kept]]) as server, Client(server.port, timeout=SECONDS) as index:
                 with self.assertRaises(ConnectionLost):
                     index.get(b"a")
                 with self.assertRaises(ConnectionLost):
@@ -67,12 +72,12 @@ class BrokenStreamTest(unittest.TestCase):
     def test_a_reply_byte_by_byte(self) -> None:
         whole = framed([ANSWERS[1][1]])
         with Canned([whole[at:at + 1] for at in range(len(whole))]) as server:
-            with Index(server.port, timeout=SECONDS) as index:
+            with Client(server.port, timeout=SECONDS) as index:
                 self.assertEqual(index.get(b"a"), ROW)
 
     def test_bad_lengths(self) -> None:
         for length in (0, 1, rowanspan.MAX_REPLY_BODY + 1, 2 ** 32 - 1):
-            with Canned([length.to_bytes(4, "big")]) as server, Index(server.port, timeout=SECONDS) as index:
+            with Canned([length.to_bytes(4, "big")]) as server, Client(server.port, timeout=SECONDS) as index:
                 with self.assertRaises(BadReply):
                     index.get(b"a")
                 with self.assertRaises(ConnectionLost):
@@ -82,18 +87,18 @@ class BrokenStreamTest(unittest.TestCase):
         with socket.create_server(("127.0.0.1", 0)) as listener:
             port = listener.getsockname()[1]
         with self.assertRaises(ConnectionLost):
-            Index(port, timeout=SECONDS)
+            Client(port, timeout=SECONDS)
         with self.assertRaises(ConnectionLost):
-            Index(port, "x" * 70, timeout=SECONDS)
+            Client(port, "x" * 70, timeout=SECONDS)
 
     def test_a_server_that_does_not_answer(self) -> None:
         with socket.create_server(("127.0.0.1", 0)) as listener:
-            with Index(listener.getsockname()[1], timeout=0.05) as index:
+            with Client(listener.getsockname()[1], timeout=0.05) as index:
                 with self.assertRaises(ConnectionLost):
                     index.get(b"a")
 
     def test_unfit_arguments_leave_the_connection(self) -> None:
-        with StandIn() as server, Index(server.port, timeout=SECONDS) as index:
+        with StandIn() as server, Client(server.port, timeout=SECONDS) as index:
             with self.assertRaises(TooLong):
                 index.put(b"a", bytes(256))
             with self.assertRaises(TooLong):
@@ -102,7 +107,7 @@ class BrokenStreamTest(unittest.TestCase):
 
     def test_after_close(self) -> None:
         with StandIn() as server:
-            index = Index(server.port, timeout=SECONDS)
+            index = Client(server.port, timeout=SECONDS)
             index.close()
             index.close()
             for call in (lambda: index.get(b"a"), lambda: index.put(b"a", b"v"), lambda: list(index.range()),
@@ -112,19 +117,19 @@ class BrokenStreamTest(unittest.TestCase):
             self.assertEqual(server.index.events, 0)
 
     def test_a_server_that_is_gone(self) -> None:
-        with Canned([]) as server, Index(server.port, timeout=SECONDS) as index:
-            with self.assertRaisesRegex(ConnectionLost, "the server ended the connection"):
+        with Canned([]) as server, Client(server.port, timeout=SECONDS) as index:
+            with self.assertRaisesRegex(ConnectionLost, "^the server ended the connection$"):
                 index.get(b"a")
             with self.assertRaisesRegex(ConnectionLost, "was lost before"):
                 index.put(b"a", b"v")
         with self.assertRaisesRegex(ConnectionLost, f"no connection to 127.0.0.1, port {server.port}"):
-            Index(server.port, timeout=SECONDS)
+            Client(server.port, timeout=SECONDS)
 
 
 class CallTest(unittest.TestCase):
     def setUp(self) -> None:
         self.server = self.enter(StandIn(Options(columns=2)))
-        self.index = self.enter(Index(self.server.port, timeout=SECONDS))
+        self.index = self.enter(Client(self.server.port, timeout=SECONDS))
 
     def enter(self, context: Any) -> Any:
         self.addCleanup(context.__exit__, None, None, None)
@@ -184,7 +189,7 @@ class PipelineTest(unittest.TestCase):
     def setUp(self) -> None:
         self.server = StandIn(Options(columns=2))
         self.addCleanup(self.server.__exit__, None, None, None)
-        self.index = Index(self.server.port, timeout=SECONDS)
+        self.index = Client(self.server.port, timeout=SECONDS)
         self.addCleanup(self.index.close)
 
     def test_values_in_order(self) -> None:
@@ -277,8 +282,8 @@ class PipelineTest(unittest.TestCase):
 
 def main() -> int:
     load = unittest.defaultTestLoader.loadTestsFromModule
-    modules = (test_wire, sys.modules[__name__], test_mapping, test_shell, test_bad_input, test_board,
-               test_wheel)
+    modules = (test_wire, sys.modules[__name__], test_mapping, test_names, test_shell, test_bad_input, test_board,
+               test_mirror_rows, test_mirror, test_mirror_reading, test_mirror_model, test_wheel)
     return run_counted(unittest.TestSuite(load(module) for module in modules))
 
 

@@ -192,9 +192,9 @@ class ShellTest(unittest.TestCase):
 
 
 def example_of(path: Path) -> str:
-    """The one example of a page that imports an index."""
+    """The one example of a page that imports an index or a client."""
     page = path.read_text(encoding="utf-8")
-    (block,) = (part for part in re.findall(r"(?:^(?:    .*)?\n)+", page, re.M) if "import Index" in part)
+    (block,) = (part for part in re.findall(r"(?:^(?:    .*)?\n)+", page, re.M) if "from rowanspan import" in part)
     return textwrap.dedent(block)
 
 
@@ -215,8 +215,8 @@ class DocumentTest(unittest.TestCase):
 
     def test_the_example_of_the_readme(self) -> None:
         with StandIn() as server:
-            example = example_of(SHELL.parent / "README.md").replace("rowanspan.embedded", "rowanspan")
-            done = subprocess.run([sys.executable, "-c", example.replace("Index()", f"Index({server.port})")],
+            example = example_of(SHELL.parent / "README.md").replace("Index()", f"Client({server.port})")
+            done = subprocess.run([sys.executable, "-c", example.replace("import Index", "import Client")],
                                   cwd=SHELL.parent, stdout=subprocess.PIPE, timeout=SECONDS, check=True)
         self.assertEqual(done.stdout, b"Row(version=1, columns=(b'red',))\nb'apple' (b'green',)\n1\n")
 

@@ -101,7 +101,8 @@ class WheelTest(Folder):
             packed = {name: wheel.read(name) for name in names}
             modes = {info.filename: info.external_attr >> 16 for info in wheel.infolist()}
         package, page = HERE / "rowanspan", "rowanspan/board/"
-        sources = {str(file.relative_to(HERE)) for it in (package, package / "board") for file in it.glob("*.py")}
+        folders = (package, package / "board", package / "mirror")
+        sources = {str(file.relative_to(HERE)) for it in folders for file in it.glob("*.py")}
         sources |= {page + file for file in ("page.html", "board.css", "icon.svg", "board.js", "card.js", "form.js",
                                              "line.js", "notation.js")}
         info = f"rowanspan-{VERSION}.dist-info"
@@ -114,6 +115,8 @@ class WheelTest(Folder):
         self.assertEqual({modes["rowanspan/bin/mtserve"], modes["rowanspan/core.py"]}, {0o100755, 0o100644})
         self.assertIn(f"\nVersion: {VERSION}\n".encode(), packed[f"{info}/METADATA"])
         self.assertIn(b"\nRequires-Python: >=3.9\n", packed[f"{info}/METADATA"])
+        self.assertIn(b'\nProvides-Extra: postgres\nRequires-Dist: psycopg2 >=2.9; extra == "postgres"\n',
+                      packed[f"{info}/METADATA"])
         self.assertIn(f"\nTag: {path.stem.split('-', 2)[2]}\n".encode(), packed[f"{info}/WHEEL"])
         self.assertEqual(packed[f"{info}/entry_points.txt"], b"[console_scripts]\nrowan = rowanspan.shell:main\n")
         self.check_licences(packed, info)
@@ -210,6 +213,7 @@ class InstalledTest(Folder):
         status, output, errors = run([self.rowan, "board", "--help"])
         self.assertEqual((status, errors), (0, ""))
         self.assertIn("--build SPEC", output)
+        self.check_mirror()
         self.assertEqual(run([self.rowan, "serve", "--port", "7"])[:2], (0, f"--port 7\n{IGNORED}\n"))
         # an installer that drops the mode
         (package / "bin" / "mtserve").chmod(0o644)
@@ -223,6 +227,18 @@ class InstalledTest(Folder):
         status, output, errors = run([self.rowan, "--embedded", "get", "61", "all"])
         self.assertEqual((status, output, errors.count("\n")), (3, "", 1))
         self.assertIn(str(package / "librowanspan.so"), errors)
+
+    def check_mirror(self) -> None:
+        """A mirror of etcd needs nothing, and one of PostgreSQL a package that isn't there."""
+        of_all = ["-p", "1", "--name", "a"]
+        of_table = [*of_all, "--dsn", "", "--table", "t", "--key", "t/{id}"]
+        self.assertEqual(run([self.rowan, "mirror", "postgres", *of_table]), (
+            1, "", "rowan mirror: the Python package psycopg2 isn't installed: pip install 'rowanspan[postgres]', or "
+            "Debian's python3-psycopg2\n"))
+        of_etcd = [*of_all, "--url", "http://127.0.0.1:1", "--prefix", "a"]
+        status, output, errors = run([self.rowan, "mirror", "etcd", *of_etcd])
+        self.assertEqual((status, output), (4, ""))
+        self.assertIn("rowan mirror: the source: ", errors)
 
     def test_the_built_files(self) -> None:
         missing = [str(file) for file in (LIBRARY, MTSERVE) if not file.exists()]

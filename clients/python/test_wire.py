@@ -4,12 +4,13 @@ from __future__ import annotations
 
 import socket
 import unittest
-from typing import Any, Dict, List, Sequence, Tuple
+from typing import Any, Dict, List, Sequence, Tuple, Type
 
 import rowanspan
-from rowanspan import (MAX_KEY_BYTES, AnswerKind, AnyRow, AtLeast, BadReply, Behind, Build, Equals, FeedFull, Get,
-                       GetRange, OtherVersion, Page, Prefix, Put, PutIf, Query, Range, Refused, Remove, Reply, Row,
-                       Tidied, Tidy, TooLong, ViewDrop, ViewRead, frame_version, read_replies, request_frame)
+from rowanspan import (MAX_KEY_BYTES, AnswerKind, AnyRow, AtLeast, BadColumn, BadLimit, BadReply, Behind, Build, Equals,
+                       FeedFull, Get, GetRange, OtherVersion, Page, Prefix, Put, PutIf, Query, Range, Refused, Remove,
+                       Reply, Row, Tidied, Tidy, TooLong, ViewDrop, ViewRead, frame_version, read_replies,
+                       request_frame)
 from stand_in import PlainIndex, StandIn
 from stand_in_wire import read_queries, reply_frame, spelled_done, spelled_page, spelled_pairs
 from wire_page import worked_bytes
@@ -152,13 +153,15 @@ class SpellingTest(unittest.TestCase):
             read_replies(body_of(answer, 1), [put_if])
 
     def test_what_does_not_fit(self) -> None:
-        unfit: List[Query[Any]] = [
-            Get(bytes(65_536)), Get(b"a", [256]), Get(b"a", [-1]), Get(b"a", [0] * 256), Put(b"a", bytes(256)),
-            Put(b"a", [(0, b"")] * 256), GetRange(b"", 65_536), GetRange(b"", -1), ViewRead(2 ** 64), ViewDrop(-1),
-            Build(Prefix(b"", AtLeast(0, 2 ** 64))), PutIf(b"a", b"v", 2 ** 64)]
-        for query in unfit:
-            with self.subTest(query=type(query)), self.assertRaises(TooLong):
-                query.spelled()
+        unfit: List[Tuple[Type[ValueError], List[Query[Any]]]] = [
+            (TooLong, [Get(bytes(65_536)), Get(b"a", [0] * 256), Put(b"a", bytes(256)), Put(b"a", [(0, b"")] * 256),
+                       ViewRead(2 ** 64), ViewDrop(-1), Build(Prefix(b"", AtLeast(0, 2 ** 64))),
+                       PutIf(b"a", b"v", 2 ** 64)]),
+            (BadColumn, [Get(b"a", [256]), Get(b"a", [-1])]), (BadLimit, [GetRange(b"", 65_536), GetRange(b"", -1)])]
+        for kind, queries in unfit:
+            for query in queries:
+                with self.subTest(query=type(query)), self.assertRaises(kind):
+                    query.spelled()
 
     def test_frames_that_do_not_fit(self) -> None:
         message = Get(b"a").spelled()

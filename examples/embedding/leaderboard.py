@@ -6,7 +6,7 @@ from pathlib import Path
 
 sys.path.insert(0, str(Path(__file__).resolve().parent.parent.parent / "clients" / "python"))
 
-from rowanspan.embedded import AtLeast, Index, Prefix  # noqa: E402
+from rowanspan import AtLeast, Index, Prefix  # noqa: E402
 
 
 def points(number: int) -> bytes:

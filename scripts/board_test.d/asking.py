@@ -20,7 +20,7 @@ from seeing import seen, wait_for_cards
 
 sys.path.insert(0, str(CLIENTS))
 
-from rowanspan import Index, Prefix  # noqa: E402
+from rowanspan import Client, Prefix  # noqa: E402
 
 FORM = {"kind": "prefix", "key": "a"}
 # what no reply of the board is without
@@ -75,7 +75,7 @@ window.tried = Promise.all(Object.entries(tries).map(([name, attempt]) =>
 </script></body>"""
 
 
-def next_view(index: Index) -> int:
+def next_view(index: Client) -> int:
     """The number that the next view has; it uses one."""
     with index.build(Prefix(b"none")) as view:
         return view.number

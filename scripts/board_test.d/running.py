@@ -17,7 +17,7 @@ TOP = Path(__file__).resolve().parent.parent.parent
 CLIENTS = TOP / "clients" / "python"
 sys.path.insert(0, str(CLIENTS))
 
-from rowanspan import Index, NoSuchView, Page  # noqa: E402
+from rowanspan import Client, NoSuchView, Page  # noqa: E402
 
 SECONDS = 30.0
 FORM_TYPE = "application/x-www-form-urlencoded"
@@ -36,7 +36,7 @@ def want_same(what: str, got: object, wanted: object) -> None:
     want(got == wanted, f"{what}: {str(got)[:400]} instead of {str(wanted)[:400]}")
 
 
-def want_no_view(index: Index, number: int) -> None:
+def want_no_view(index: Client, number: int) -> None:
     """The server has no view of this number."""
     try:
         index.view(number).page(limit=1)
@@ -102,8 +102,8 @@ class Server(Program):
     def __enter__(self) -> Server:
         return self
 
-    def index(self) -> Index:
-        return Index(self.port, timeout=SECONDS)
+    def index(self) -> Client:
+        return Client(self.port, timeout=SECONDS)
 
 
 class Answer(NamedTuple):
@@ -162,7 +162,7 @@ class Writer(threading.Thread):
 
     def __init__(self, port: int, rate: float, keys: Sequence[bytes]) -> None:
         super().__init__(daemon=True)
-        self._index = Index(port, timeout=SECONDS)
+        self._index = Client(port, timeout=SECONDS)
         self._pause, self._keys = 1 / rate, keys
         self._chance = random.Random(7)
         self._is_ending = threading.Event()
@@ -201,7 +201,7 @@ class PageReader(threading.Thread):
 
     def __init__(self, port: int, view: int, limit: int) -> None:
         super().__init__(daemon=True)
-        self._index = Index(port, timeout=SECONDS)
+        self._index = Client(port, timeout=SECONDS)
         self._view, self._limit = self._index.view(view), limit
         self._is_ending = threading.Event()
         self.pages: Dict[int, Page] = {}

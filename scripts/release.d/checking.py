@@ -26,14 +26,14 @@ LICENCE = b"MIT OR Apache-2.0"
 OF_SYSTEM = ("linux-vdso", "/lib/", "/lib64/", "/usr/lib/", "/usr/lib64/")
 # a put and a get of the server at the port that is named, by the client of the wheel
 ASKING = """import sys
-from rowanspan import Index
-with Index(int(sys.argv[1])) as index:
+from rowanspan import Client
+with Client(int(sys.argv[1])) as index:
     commit = index.put(b"apple", b"red")
     print(commit, index.get(b"apple").version, index.get(b"apple").columns, index.get(b"pear"))
 """
 ASKED = "1 1 (b'red',) None\n"
 # whether an embedded index has the extension module
-WHICH_CALLS = "from rowanspan.embedded import Index; print(type(Index()._native).__name__)"
+WHICH_CALLS = "from rowanspan import Index; print(type(Index()._native).__name__)"
 # the board of the wheel over the server at the port that is named: each file of its page
 LOOKING = """import re, subprocess, sys, urllib.request
 board = ["board", "-p", sys.argv[1], "--http", "0", "--build", "prefix 61 any"]
@@ -229,6 +229,17 @@ def check_board(checks: Checks) -> None:
     checks.case("rowan board --help", outcome.status == 0 and "--http PORT" in outcome.output, outcome.why())
 
 
+def check_mirror(checks: Checks) -> None:
+    """The command of the wheel says how a mirror is used; without psycopg2 it says what is missing."""
+    rowan = str(checks.python.parent / "rowan")
+    outcome = checks.run([rowan, "mirror", "etcd", "--help"])
+    checks.case("rowan mirror etcd --help", outcome.status == 0 and "--prefix PREFIX" in outcome.output, outcome.why())
+    outcome = checks.run([rowan, "mirror", "postgres", "-p", "1", "--name", "a", "--dsn", "", "--table", "t", "--key",
+                          "t/{id}"])
+    checks.case("rowan mirror postgres without psycopg2", outcome.status == 1 and "psycopg2" in outcome.errors,
+                outcome.why())
+
+
 def check_printed_licences(checks: Checks) -> None:
     """The command of the wheel prints the notices."""
     outcome = checks.run([str(checks.python.parent / "rowan"), "--licenses"])
@@ -319,6 +330,7 @@ def check() -> int:
             if checks.python is not None:
                 check_server(checks)
                 check_board(checks)
+                check_mirror(checks)
                 check_printed_licences(checks)
                 check_python(checks)
     print(f"{checks.passed} passed, {checks.failed} failed")

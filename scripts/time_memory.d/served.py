@@ -17,7 +17,7 @@ sys.path.insert(0, str(measuring.TOP / "tests" / "refusals"))
 from sessions import preloaded, serving_test  # noqa: E402
 from shim import built  # noqa: E402
 
-from rowanspan import MAX_QUERIES, Index, Put, Query, Refused, Remove, RowanspanError  # noqa: E402
+from rowanspan import MAX_QUERIES, Client, Put, Query, Refused, Remove, RowanspanError  # noqa: E402
 
 SERVING = serving_test()
 LIVE = measuring.TOP / "tests" / "refusals" / "live.c"
@@ -56,10 +56,10 @@ def resident_of(process: int) -> int:
     return 1024 * int(found[1])
 
 
-class Client:
+class Measured:
     """The one client of a server, which also reads the server's memory."""
 
-    def __init__(self, process: int, index: Index, told: Path) -> None:
+    def __init__(self, process: int, index: Client, told: Path) -> None:
         self._process = process
         self._index = index
         self._told = told
@@ -96,7 +96,7 @@ class Client:
 
 
 @contextmanager
-def started(program: Path) -> Iterator[Client]:
+def started(program: Path) -> Iterator[Measured]:
     """A server of one worker, whose allocations are counted, and its client."""
     with tempfile.TemporaryDirectory() as made:
         told = Path(made) / "told"
@@ -104,7 +104,7 @@ def started(program: Path) -> Iterator[Client]:
         with preloaded({"LD_PRELOAD": str(built(LIVE, Path(made))), "LIVE_TELL": str(told)}):
             server = SERVING.Server(str(program), "--forever")
         with server, server.index() as index:
-            yield Client(server.process.pid, index, told)
+            yield Measured(server.process.pid, index, told)
 
 
 # ---- cases

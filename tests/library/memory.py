@@ -13,7 +13,7 @@ from typing import Any, Callable, Dict
 
 sys.path.insert(0, str(Path(__file__).resolve().parent.parent.parent / "clients" / "python"))
 
-from rowanspan.embedded import Index, NoMemory, Prefix, Row  # noqa: E402
+from rowanspan import Index, NoMemory, Prefix, Row  # noqa: E402
 from rowanspan.native import NoCalls  # noqa: E402
 
 PRELOADED = ctypes.PyDLL(None)

@@ -17,7 +17,7 @@ from reading import Wrong, want
 from sessions import preloaded
 from shim import Shim
 
-from rowanspan import (AnyRow, AtLeast, Behind, Build, ConnectionLost, Get, GetRange, Index, NoMemory, Outcome, Pairs,
+from rowanspan import (AnyRow, AtLeast, Behind, Build, Client, ConnectionLost, Get, GetRange, NoMemory, Outcome, Pairs,
                        Prefix, Put, Query, Range, Refused, Remove, Reply, Row, Tidy, ViewRead, ViewSpec, key_after)
 
 CLIENTS, FRAMES, ODDS, SECONDS = 8, 120, 50, 60.0
@@ -35,7 +35,7 @@ class Member:
     server: Any
     number: int
     chance: random.Random
-    index: Index
+    index: Client
     keys: List[bytes] = field(default_factory=list)
     rows: Dict[bytes, bytes] = field(default_factory=dict)
     said: List[Any] = field(default_factory=list)
@@ -149,7 +149,7 @@ class Member:
     def again(self) -> None:
         """The session was lost: another begins."""
         self.lost += 1
-        self.index = Index(self.server.port, timeout=SECONDS)
+        self.index = Client(self.server.port, timeout=SECONDS)
 
     def find_out(self, queries: Sequence[Query[Any]]) -> None:
         """Whether the change of a lost frame was done."""

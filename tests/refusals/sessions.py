@@ -17,7 +17,7 @@ from reading import Held, Said, want
 TOP = Path(__file__).resolve().parent.parent.parent
 sys.path.insert(0, str(TOP / "clients" / "python"))
 
-from rowanspan import ConnectionLost, Index  # noqa: E402
+from rowanspan import Client, ConnectionLost  # noqa: E402
 from rowanspan.text import HEX, outcome_line, read_query  # noqa: E402
 
 SECONDS = 60.0
@@ -71,8 +71,8 @@ class Asker:
     built: int = 0
     lost: int = 0
 
-    def connect(self) -> Index:
-        return Index(self.server.port, timeout=SECONDS)
+    def connect(self) -> Client:
+        return Client(self.server.port, timeout=SECONDS)
 
     def ask_all(self, frames: Sequence[Sequence[str]]) -> None:
         """Asks these frames in one session, or in several, as sessions are lost."""
@@ -87,7 +87,7 @@ class Asker:
                 self.find_out(index, frame)
         index.close()
 
-    def ask(self, index: Index, frame: Sequence[str]) -> None:
+    def ask(self, index: Client, frame: Sequence[str]) -> None:
         queries = [read_query(line, HEX) for line in frame]
         outcomes = index.call_all(queries)
         for line, query, outcome in zip(frame, queries, outcomes):
@@ -101,7 +101,7 @@ class Asker:
             self.commits = int(words[2])
             self.built += words[3] == "built"
 
-    def find_out(self, index: Index, frame: Sequence[str]) -> None:
+    def find_out(self, index: Client, frame: Sequence[str]) -> None:
         """Of a lost frame, puts and removes are done as far as there are commits, and a build if its view exists."""
         query = read_query("get - all", HEX)
         now = index.call_all([query])[0].to
@@ -116,7 +116,7 @@ class Asker:
                 self.take(line, "dropped")
         want(self.commits == now, f"there are {now} commits, {self.commits} by the first queries of the lost frame")
 
-    def stands(self, index: Index, view: int) -> bool:
+    def stands(self, index: Client, view: int) -> bool:
         query = read_query(f"view {view} 0 - 1", HEX)
         return outcome_line(query, index.call_all([query])[0], HEX) != "refused 11"
 

@@ -28,18 +28,30 @@
 #![warn(missing_docs)]
 
 mod answers;
+mod calls;
 mod error;
 mod index;
+mod options;
 mod range;
 #[allow(unsafe_code)]
 mod raw;
+mod upkeep;
+mod views;
 
 pub use answers::{Delta, Page, Row};
 pub use error::Error;
-pub use index::{Index, Keys, Options, RowTest, Tidied, MAX_KEY_BYTES, MAX_LIMIT};
+pub use index::{Index, MAX_KEY_BYTES, MAX_LIMIT};
+pub use options::Options;
 pub use range::{KeyRange, Pairs};
+pub use upkeep::Tidied;
+pub use views::{Keys, RowTest, View};
 
 /// The version of the library that is linked, as `1.2.3`.
+///
+/// ```
+/// assert_eq!(rowanspan::version(), env!("CARGO_PKG_VERSION"));
+/// ```
+#[must_use]
 pub fn version() -> &'static str {
     raw::version()
 }

@@ -84,6 +84,8 @@ fn after_key(key: &[u8]) -> Option<Vec<u8>> {
 const FIRST_LIMIT: u16 = 32;
 
 /// The rows of a range, in the order of their keys: see [`Index::range`] and [`Index::prefix`]. After an error it ends.
+#[derive(Debug)]
+#[must_use = "an iterator reads no rows before it is asked for them"]
 pub struct Pairs<'a> {
     index: &'a Index,
     // the key from which the next rows are read, if there may be more

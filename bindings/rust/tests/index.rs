@@ -1,7 +1,7 @@
 //! The index by example, and 20,000 calls by chance against a `BTreeMap`.
 
-use rowanspan::{Delta, Error, Index, Keys, Options, Row, RowTest, Tidied, MAX_KEY_BYTES};
-use std::collections::BTreeMap;
+use rowanspan::{Delta, Error, Index, Keys, Options, Row, RowTest, Tidied, View, MAX_KEY_BYTES};
+use std::collections::{BTreeMap, HashSet};
 use std::sync::{Arc, Mutex};
 use std::thread;
 
@@ -27,6 +27,7 @@ fn rows() -> Result<(), Error> {
             (b"apple".to_vec(), row(1, &[b"red"]))
         ]
     );
+    assert_eq!(index.into_iter().collect::<Result<Vec<_>, Error>>()?, pairs);
     assert_eq!(index.first(b"", 1, &[])?, pairs[..1]);
     assert_eq!(index.remove(b"apple")?, Some(3));
     assert_eq!(index.remove(b"apple")?, None);
@@ -56,23 +57,33 @@ fn conditional_puts() -> Result<(), Error> {
     Ok(())
 }
 
-const TWO: Options = Options {
-    columns: 2,
-    feed: 2,
-    keep: 1,
-};
+fn two() -> Options {
+    Options::default().columns(2).feed(2).keep(1)
+}
+
+#[test]
+fn options() {
+    let options = two();
+    assert_eq!((options.columns, options.feed, options.keep), (2, 2, 1));
+    let default = Options::default();
+    assert_eq!(
+        (default.columns, default.feed, default.keep),
+        (1, 65_536, 0)
+    );
+    for (wrong, error) in [
+        (two().columns(0), Error::BadColumn),
+        (two().columns(17), Error::BadColumn),
+        (two().feed(0), Error::BadLimit),
+        (two().feed(65_537), Error::BadLimit),
+        (two().keep(65_537), Error::BadLimit),
+    ] {
+        assert_eq!(Index::open(wrong).err(), Some(error), "{wrong:?}");
+    }
+}
 
 #[test]
 fn refusals() -> Result<(), Error> {
-    assert_eq!(
-        Index::open(Options { columns: 17, ..TWO }).err(),
-        Some(Error::BadColumn)
-    );
-    assert_eq!(
-        Index::open(Options { feed: 0, ..TWO }).err(),
-        Some(Error::BadLimit)
-    );
-    let mut index = Index::open(TWO)?;
+    let mut index = Index::open(two())?;
     assert_eq!(
         index.put([0u8; MAX_KEY_BYTES + 1], &[]),
         Err(Error::KeyTooLong)
@@ -94,23 +105,26 @@ fn refusals() -> Result<(), Error> {
 
 #[test]
 fn refusals_of_views() -> Result<(), Error> {
-    let mut index = Index::open(TWO)?;
-    assert_eq!(index.view(1, 0, b"", 1), Err(Error::NoSuchView));
+    let mut index = Index::open(two())?;
     let view = index.build(Keys::From(b""), RowTest::Any)?;
     assert_eq!(index.put(b"a", &[])?, 1);
     assert_eq!(index.put(b"b", &[])?, 2);
     assert_eq!(index.put(b"c", &[]), Err(Error::FeedFull(0)));
     assert_eq!(index.view(view, 1, b"", 1), Err(Error::Behind(0)));
-    assert_eq!(index.apply(view)?, Some(1));
+    assert_eq!(index.apply(Some(view))?, Some(1));
     assert_eq!(index.keep_views()?, 1);
     assert_eq!(index.keep_views()?, 0);
-    assert_eq!(index.apply(0)?, None);
+    assert_eq!(index.apply(None)?, None);
+    assert_eq!(index.apply(Some(view))?, None);
     assert_eq!(index.feed(0, 1), Err(Error::Behind(1)));
     index.drop_view(view)?;
     assert_eq!(index.drop_view(view), Err(Error::NoSuchView));
-    for _ in 0..64 {
-        index.build(Keys::Prefix(b"z"), RowTest::Any)?;
-    }
+    assert_eq!(index.view(view, 0, b"", 1), Err(Error::NoSuchView));
+    assert_eq!(index.apply(Some(view)), Err(Error::NoSuchView));
+    let built = (0..64)
+        .map(|_| index.build(Keys::Prefix(b"z"), RowTest::Any))
+        .collect::<Result<HashSet<View>, Error>>()?;
+    assert_eq!((built.len(), built.contains(&view)), (64, false));
     assert_eq!(
         index.build(Keys::Prefix(b"z"), RowTest::Any),
         Err(Error::TooManyViews)
@@ -120,10 +134,7 @@ fn refusals_of_views() -> Result<(), Error> {
 
 #[test]
 fn views_and_feeds() -> Result<(), Error> {
-    let mut index = Index::open(Options {
-        keep: 9,
-        ..Options::default()
-    })?;
+    let mut index = Index::open(Options::default().keep(9))?;
     index.put(b"a1", &[(0, &[255; 8])])?;
     let all = index.build(Keys::Prefix(b"a"), RowTest::Any)?;
     let large = index.build(Keys::Between(b"a", b"b"), RowTest::AtLeast(0, 8))?;
@@ -174,10 +185,7 @@ fn ranges_of_many() -> Result<(), Error> {
 
 #[test]
 fn rows_of_every_size() -> Result<(), Error> {
-    let mut index = Index::open(Options {
-        columns: 16,
-        ..Options::default()
-    })?;
+    let mut index = Index::open(Options::default().columns(16))?;
     for length in [0, 1, 63, 64] {
         let bytes = vec![b'x'; length];
         let sets: Vec<(u8, &[u8])> = (0..16).map(|column| (column, &bytes[..])).collect();
@@ -191,11 +199,24 @@ fn rows_of_every_size() -> Result<(), Error> {
 }
 
 #[test]
+fn which_keys_are_there() -> Result<(), Error> {
+    let mut index = Index::open(Options::default().columns(2))?;
+    index.put("empty", &[])?;
+    index.put("full", &[(0, &[7; 64]), (1, b"x")])?;
+    assert!(index.contains_key("empty")? && index.contains_key(b"full")?);
+    assert!(!index.contains_key("")? && !index.contains_key("ful")?);
+    index.remove("full")?;
+    assert!(!index.contains_key("full")?);
+    assert_eq!(
+        index.contains_key([0; MAX_KEY_BYTES + 1]),
+        Err(Error::KeyTooLong)
+    );
+    Ok(())
+}
+
+#[test]
 fn one_column() -> Result<(), Error> {
-    let mut index = Index::open(Options {
-        columns: 16,
-        ..Options::default()
-    })?;
+    let mut index = Index::open(Options::default().columns(16))?;
     index.put(b"key", &[(15, &[7; 64]), (2, b"abc")])?;
     assert_eq!(index.get_column(b"key", 2)?, Some(b"abc".to_vec()));
     assert_eq!(index.get_column("key", 15)?, Some(vec![7; 64]));
@@ -320,10 +341,7 @@ fn first_by_chance(
 
 #[test]
 fn random_calls_against_a_map() -> Result<(), Error> {
-    let mut index = Index::open(Options {
-        columns: 2,
-        ..Options::default()
-    })?;
+    let mut index = Index::open(Options::default().columns(2))?;
     let mut plain = BTreeMap::new();
     let mut chance = Chance(88172645463325252);
     let view = index.build(Keys::Prefix(b"aa"), RowTest::Any)?;
@@ -339,6 +357,7 @@ fn random_calls_against_a_map() -> Result<(), Error> {
                 let key = chance.key();
                 let wanted = plain.get(&key).cloned();
                 let first = wanted.as_ref().map(|row| row.columns[0].clone());
+                assert_eq!(index.contains_key(&key)?, first.is_some());
                 assert_eq!(index.get_column(&key, 0)?, first);
                 assert_eq!(index.get(&key)?, wanted);
             }
@@ -349,6 +368,9 @@ fn random_calls_against_a_map() -> Result<(), Error> {
                 let wanted: Vec<_> = shown.map(|(key, row)| (key.clone(), row.clone())).collect();
                 let page = index.view(view, index.commits(), b"", 1000)?;
                 assert_eq!((page.count, page.rows), (wanted.len() as u64, wanted));
+                let keys = index.into_iter().map(|pair| Ok(pair?.0));
+                let keys = keys.collect::<Result<Vec<_>, Error>>()?;
+                assert!(keys.iter().eq(plain.keys()));
             }
         }
     }

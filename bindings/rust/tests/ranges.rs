@@ -184,11 +184,7 @@ fn errors_say_what_was_wrong() -> Result<(), Error> {
     );
     let error = index.put([0; MAX_KEY_BYTES + 1], &[]).unwrap_err();
     assert_eq!(error.to_string(), "a key has more than 1,024 bytes");
-    let error = Index::open(Options {
-        columns: 0,
-        ..Options::default()
-    })
-    .unwrap_err();
+    let error = Index::open(Options::default().columns(0)).unwrap_err();
     assert_eq!(
         error.to_string(),
         "a column doesn't exist or is named twice; an index has 1 to 16 columns"

@@ -1,14 +1,14 @@
 """Rowanspan, an ordered key-value index. Python 3.9 or later, the standard library alone.
 
-    with Index(7070) as index:                    # a connection to a server on this machine
+    with Index() as index:                        # in this process; Client(7070) is a connection to a server
         commit = index.put(b"apple", b"red")      # plain bytes are column 0
         row = index.get(b"apple")                 # Row(version=commit, columns=(b"red",)), or None
         index.put_if(b"apple", b"green", commit)  # only if the row still has this version; 0: if there is none
         for key, row in index.range(prefix=b"a"):
             print(key, row.columns)
 
-Here `Index` is the client of a server, `Client`. `rowanspan.embedded` has an `Index` inside the caller's own process,
-with the same calls.
+`Index` is an index inside the caller's own process, by a library that its first use loads. `Client` is a connection to
+a server, with the same calls.
 
 Keys and columns are bytes; keys are in the order of their bytes, and a key is before those that it begins.
 Each change of a row is a commit: commits are numbered from 1 on, over all clients. What is refused is raised as a
@@ -29,8 +29,6 @@ from .mapping import *  # noqa: F401,F403
 from .pipeline import *  # noqa: F401,F403
 from .wire import *  # noqa: F401,F403
 
-Index = client.Client
-
 __all__ = ["Index"]
 __all__ += client.__all__
 __all__ += core.__all__
@@ -39,13 +37,22 @@ __all__ += pipeline.__all__
 __all__ += wire.__all__
 
 if TYPE_CHECKING:
+    from .embedded import Index
+
     __version__: str
 else:
-    def __getattr__(name: str) -> str:
-        """`__version__`, which is read when it is first asked for."""
-        if name != "__version__":
-            raise AttributeError(f"module 'rowanspan' has no attribute {name!r}")
-        from .places import version
+    def __getattr__(name: str) -> object:
+        """`Index` and `__version__`, which are looked for when they are first asked for."""
+        if name == "Index":
+            from .embedded import Index as found
+        elif name == "__version__":
+            from .places import version
 
-        globals()[name] = version()
-        return globals()[name]
+            found = version()
+        else:
+            raise AttributeError(f"module 'rowanspan' has no attribute {name!r}")
+        globals()[name] = found
+        return found
+
+    def __dir__() -> list[str]:
+        return sorted({*globals(), *__all__})

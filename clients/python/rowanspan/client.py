@@ -111,16 +111,31 @@ class Client(RowMap):
         """Sends a frame of these queries, which are spelled as these messages, and reads the answers to them."""
         connection, frame = self._connection, request_frame(messages, frame_version(queries))
         if connection is None:
-            raise (ConnectionLost("the connection was lost before; make a new index") if self._is_lost
+            raise (ConnectionLost("the connection was lost before; make a new client") if self._is_lost
                    else Closed("the index is closed"))
         try:
             connection.sendall(frame)
             return read_replies(receive_body(connection), queries)
+        except BaseException as fault:
+            # a reply may still come, which would be taken for that to the next frame
+            self._lose()
+            if isinstance(fault, OSError) and not isinstance(fault, ConnectionLost):
+                raise ConnectionLost(f"the connection broke: {fault}") from fault
+            raise
+
+    def exchange_frames(self, frames: Sequence[bytes]) -> List[bytes]:
+        """Sends whole frames, and then reads the bodies of the replies to them. The replies have to be short, such as
+        those to puts: while they aren't read, the server waits for room for them."""
+        connection = self._connection
+        if connection is None:
+            raise ConnectionLost("the connection was lost before") if self._is_lost else Closed("the index is closed")
+        try:
+            connection.sendall(b"".join(frames))
+            return [receive_body(connection) for _ in frames]
         except OSError as fault:
             self._lose()
             raise ConnectionLost(f"the connection broke: {fault}") from fault
         except BaseException:
-            # a reply may still come, which would be taken for that to the next frame
             self._lose()
             raise
 

@@ -43,7 +43,7 @@ class NoLibrary(RowanspanError):
     """The library of the embedded index isn't there, or is another one."""
 
 
-class ConnectionLost(RowanspanError):
+class ConnectionLost(RowanspanError, ConnectionError):
     """There is no connection to a server, or it ended, or the timeout was over. It isn't known whether the last queries
     were done."""
 
@@ -78,7 +78,7 @@ class Refused(RowanspanError):
         return type(self), (self.detail,)
 
 
-class NoMemory(Refused):
+class NoMemory(Refused, MemoryError):
     number, cause = 1, "out of memory"
 
 
@@ -86,7 +86,7 @@ class KeyTooLong(Refused, TooLong):
     number, cause = 2, "a key has more than 1,024 bytes"
 
 
-class BadColumn(Refused, TooLong):
+class BadColumn(Refused, ValueError):
     number, cause = 3, "a column doesn't exist or is named twice; an index has 1 to 16 columns"
 
 
@@ -94,7 +94,7 @@ class ColumnTooLong(Refused, TooLong):
     number, cause = 4, "a column has more than 64 bytes"
 
 
-class BadLimit(Refused, TooLong):
+class BadLimit(Refused, ValueError):
     """A limit is not from 1 to 1000; or an embedded index was to be opened, and `feed` is not from 1 to 65536, or
     `keep` is over 65536."""
 
@@ -121,7 +121,7 @@ class TooManyViews(Refused):
     number, cause = 10, "there are already 64 views"
 
 
-class NoSuchView(Refused):
+class NoSuchView(Refused, LookupError):
     number, cause = 11, "no view has this number"
 
 

@@ -1,6 +1,6 @@
 """Rowanspan inside this process, by librowanspan.so.
 
-    from rowanspan.embedded import Index
+    from rowanspan import Index
 
     with Index() as index:
         commit = index.put(b"apple", b"red")       # plain bytes are column 0
@@ -9,10 +9,9 @@
         for key, row in index.range(prefix=b"a"):
             print(key, row.columns)
 
-The calls are those of the server's client, and so are the rows, the views and what is raised. To change from one to the
-other, a program changes the line that imports `Index`, and the arguments of `Index`. There are no pipelines here, and
-no queries as values. `feed`, `commits`, `nodes`, `columns`, `apply`, `keep_views`, `advance` and `collect` are only
-here.
+The calls are those of the server's client, and so are the rows, the views and what is raised: to change from one to the
+other, a program opens an `Index` or a `Client`. There are no pipelines here, and no queries as values. `feed`,
+`commits`, `nodes`, `columns`, `apply`, `keep_views`, `advance` and `collect` are only here.
 
 The library is the one that `Index` is given; without one, that of the environment's ROWANSPAN_LIBRARY; without it, that
 in the package's own folder, or in the folder dist of the checkout. The most frequent calls are made by the extension
@@ -32,6 +31,7 @@ from . import core, mapping
 from .core import *  # noqa: F401,F403
 from .core import (MAX_LIMIT, REFUSALS, Closed, Delta, NoLibrary, Page, Pairs, Prefix, Refused, Row, Sets, Tidied,
                    ViewNo, ViewSpec, checked_limit, checked_number, checked_spec, checked_view)
+from .former import client_of, is_of_client, signature_of
 from .library import (ABSENT, CLOSED, CURRENT, DONE, NO_ROOM, U64, Handle, Reader, column_numbers, column_sets, loaded,
                       spelled, view_test)
 from .mapping import *  # noqa: F401,F403
@@ -60,6 +60,12 @@ class Index(RowMap):
     ended. During a call of the library by ctypes, other threads of the program run.
     """
 
+    def __new__(cls, *arguments: Any, **named: Any) -> Any:
+        # for one release: a call as it was when `rowanspan.Index` was the client
+        if cls is Index and is_of_client(arguments, named):
+            return client_of(arguments, named)
+        return super().__new__(cls)
+
     def __init__(self, columns: int = 1, feed: int = 65536, keep: int = 0, *, keep_views: bool = True,
                  library: Optional[Union[str, Path]] = None) -> None:
         asked = checked_number(columns, "columns"), checked_number(feed, "feed"), checked_number(keep, "keep")
@@ -72,8 +78,10 @@ class Index(RowMap):
         self._views_lag = False
         self._raise_for(self._library.open(self._handle, *asked), 0)
 
+    __signature__ = signature_of(__init__)
+
     def __repr__(self) -> str:
-        return f"<rowanspan.embedded.Index at {id(self):#x}{'' if self._handle.is_open else ', closed'}>"
+        return f"<rowanspan.Index at {id(self):#x}{'' if self._handle.is_open else ', closed'}>"
 
     def __enter__(self) -> Index:
         return self
@@ -200,6 +208,11 @@ class Index(RowMap):
         if number is not NotImplemented:
             return number
         return self._change("remove", *spelled(key, "a key"))
+
+    def _taken(self, key: bytes) -> Optional[Row]:
+        # a get and a remove, between which no other thread's call comes
+        with self._lock:
+            return super()._taken(key)
 
     def first(self, start: bytes = b"", limit: int = MAX_LIMIT, columns: Optional[Sequence[int]] = None) -> Pairs:
         pairs: Pairs = self._native.range(start, limit, columns)

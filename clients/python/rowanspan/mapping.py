@@ -2,11 +2,12 @@
 from __future__ import annotations
 
 import abc
+import enum
 from typing import Any, Callable, Iterator, Optional, Sequence, Tuple, Type, TypeVar, Union, overload
 
 from .core import (MAX_LIMIT, NoSuchView, OtherVersion, Page, Pairs, RowanspanError, Row, Sets, Tidied, ViewNo,
                    ViewSpec, WrongIndex, checked_bytes, checked_columns, checked_count, checked_key,
-                   checked_number, checked_view, key_after, prefix_end)
+                   checked_number, checked_view, key_after, prefix_end, set_pairs)
 
 __all__ = ["RowMap", "View"]
 
@@ -16,6 +17,12 @@ FIRST_ROWS = 60
 Default = TypeVar("Default")
 RowPairs = Iterator[Tuple[bytes, Row]]
 Totals = Tuple[int, int, Tuple[int, ...]]
+
+
+class NoDefault(enum.Enum):
+    """What `pop` has as its default if it is given none."""
+
+    NONE = enum.auto()
 
 
 class RowMap(abc.ABC):
@@ -62,6 +69,15 @@ class RowMap(abc.ABC):
         """Whether a key has a row."""
         return self._row(checked_bytes(key, "a key"), (0,)) is not None
 
+    def __setitem__(self, key: bytes, sets: Sets) -> None:
+        """Sets columns of a key's row, as `put` does."""
+        self.put(key, sets)
+
+    def __delitem__(self, key: bytes) -> None:
+        """Removes a key's row. Raises KeyError if it has none."""
+        if self.remove(key) is None:
+            raise KeyError(key)
+
     @abc.abstractmethod
     def put(self, key: bytes, sets: Sets) -> int:
         """Sets columns of a key's row, by their numbers; plain bytes are column 0. The others stay as they were; those
@@ -93,6 +109,44 @@ class RowMap(abc.ABC):
     def remove(self, key: bytes) -> Optional[int]:
         """Removes a key's row. Returns the number of the commit, or None if there was no row."""
 
+    def _taken(self, key: bytes) -> Optional[Row]:
+        """Removes a key's row. Returns it as it was, or None if there was no row."""
+        row = self._row(key, None)
+        return None if row is None or self.remove(key) is None else row
+
+    @overload
+    def pop(self, key: bytes) -> Row:
+        ...
+
+    @overload
+    def pop(self, key: bytes, default: Default) -> Union[Row, Default]:
+        ...
+
+    def pop(self, key: bytes, default: Any = NoDefault.NONE) -> Any:
+        """Removes a key's row, and returns it. If there is none, returns `default`, or raises KeyError without one.
+
+        On an embedded index it is one call for all threads. On a client it is two, a get and a remove: a put of another
+        client in between is removed too, and the row before it is returned. A row is returned to one caller only."""
+        row = self._taken(key)
+        if row is not None:
+            return row
+        if default is NoDefault.NONE:
+            raise KeyError(key)
+        return default
+
+    def setdefault(self, key: bytes, sets: Sets) -> Row:
+        """The row of a key. If there is none, sets these columns first, by `put_if`: so the row of another caller is
+        never changed. If another caller removes the row before it was read, it is put again."""
+        pairs = set_pairs(sets)
+        while True:
+            row = self._row(key, None)
+            if row is not None:
+                return row
+            try:
+                self.put_if(key, pairs, 0)
+            except OtherVersion:
+                pass
+
     @abc.abstractmethod
     def first(self, start: bytes = b"", limit: int = MAX_LIMIT, columns: Optional[Sequence[int]] = None) -> Pairs:
         """The first rows from the key `start` on, in the order of their keys, 1 to 1000 of them at most, by one call.
@@ -112,6 +166,19 @@ class RowMap(abc.ABC):
         most = None if limit is None else checked_count(limit, "a limit")
         numbers = None if columns is None else checked_columns(columns)
         return scanned(lambda key, count: self.first(key, count, numbers), begin, end, most)
+
+    def items(self) -> RowPairs:
+        """All keys with their rows, in the order of the keys: a `range`, by calls of 1000 rows. Each row was true at
+        some moment of its call, not all at one moment."""
+        return self.range()
+
+    def keys(self) -> Iterator[bytes]:
+        """All keys in their order, as of `items`."""
+        return (key for key, _ in self.range(columns=(0,)))
+
+    def values(self) -> Iterator[Row]:
+        """All rows in the order of their keys, as of `items`."""
+        return (row for _, row in self.range())
 
     @abc.abstractmethod
     def tidy(self, key: bytes) -> Tidied:

@@ -7,7 +7,7 @@ import sys
 from typing import TYPE_CHECKING, Any, Callable, Iterable, List, Optional, Sequence
 
 from .client import Client
-from .core import BadReply, ConnectionLost, NoLibrary, Refused, TooLong
+from .core import BadColumn, BadReply, ConnectionLost, NoLibrary, Refused, TooLong
 from .places import third_party, version
 from .serving import NoServer, become_server
 from .text import HEX, TEXT, BadLine, Notation, outcome_line, read_query
@@ -21,11 +21,13 @@ USES = """\
 rowan [-p PORT [--host HOST] [--timeout SECONDS] | --embedded [--columns N]] [--text] [WORD ..]
        rowan serve [OPTION ..]
        rowan board -p PORT [OPTION ..]
+       rowan mirror postgres | etcd -p PORT [OPTION ..]
        rowan --version | --licenses"""
 
 LINES = """\
-`rowan serve` runs the server mtserve, with the options of mtserve (`rowan serve --help`). `rowan board` shows the views of
-a server in a browser (`rowan board --help`).
+`rowan serve` runs the server mtserve, with the options of mtserve (`rowan serve --help`). `rowan board` shows the views
+of a server in a browser (`rowan board --help`). `rowan mirror` keeps rows of a server as another system has them
+(`rowan mirror --help`).
 
 Lines, whose words are separated by one space, and their answers:
   get KEY COLS                   done FROM TO row VERSION VALUES, or done FROM TO absent
@@ -210,8 +212,8 @@ def answer_by_index(options: argparse.Namespace, lines: Iterable[str], notation:
 
     columns = 1 if options.columns is None else options.columns
     try:
-        index = Index(columns)
-    except TooLong as fault:
+        index = Index(columns=columns)
+    except (BadColumn, TooLong) as fault:
         complain(f"--columns {columns}: {fault}")
         return 2
     with index:
@@ -234,6 +236,10 @@ def main(arguments: Optional[Sequence[str]] = None) -> int:
             from .board.command import main as show_board
 
             return show_board(given[1:])
+        if given[:1] == ["mirror"]:
+            from .mirror.command import main as mirror
+
+            return mirror(given[1:])
         options = parsed(given)
         words: List[str] = options.words[1:] if options.words[:1] == ["--"] else options.words
         lines = [" ".join(words)] if words else lines_of_input()

@@ -6,7 +6,7 @@ use Rattle.std.proofs.lemmas.List.Elements.{All-nil, All-push}
 use Rattle.mt_types.specs.declared.row.Delta.{Delta}
 use Rattle.mt_check.specs.declared.receipt.Receipt.{Receipt}
 use Rattle.mt_check.specs.Receipts.{IsAsked}
-use Rattle.mt_drive.proofs.PlayLemmas.{append_none}
+use Rattle.mt_script.proofs.PlayLemmas.{append_none}
 use Rattle.mt_audit.specs.Lines.{line_of}
 use Rattle.mt_audit.specs.Audit.{Reads, CanRead}
 use Rattle.mt_audit.specs.Book.{IsTaken, Places, Adds}

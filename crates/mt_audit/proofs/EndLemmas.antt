@@ -1,8 +1,8 @@
 -- A book that is being read.
 use Rattle.std.proofs.Common.{◌≡◌, ℕ, ◌+◌, ◌-◌, List, [], ◌∷◌, ◌++◌, length, take, refl, ap, sym, subst, ◌∙◌, arith, length-append, append_assoc, Option, Some, None, IfSome}
 use Rattle.std.proofs.Math.Seq.{take-append_seam}
-use Rattle.mt_drive.specs.Lines.{lines_of, LosesLine, LosesNoLine}
-use Rattle.mt_drive.proofs.PlayLemmas.{Goes, Goes-start, Goes-more, Goes-end, Goes-front, Goes-cut}
+use Rattle.mt_script.specs.Lines.{lines_of, LosesLine, LosesNoLine}
+use Rattle.mt_script.proofs.PlayLemmas.{Goes, Goes-start, Goes-more, Goes-end, Goes-front, Goes-cut}
 use Rattle.mt_audit.specs.Audit.{CanRead, IsVerdictOn, ReadsSoFar}
 use Rattle.mt_audit.specs.Book.{IsBookOf, IsWholeBook}
 use Rattle.mt_audit.specs.declared.book.Book.{Book}

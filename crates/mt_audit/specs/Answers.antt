@@ -6,8 +6,8 @@ use Rattle.mt_types.specs.declared.event.Answer.TheVariants.{Absent, Found, Stor
 use Rattle.mt_types.specs.declared.event.TidyRule.{TidyRule}
 use Rattle.mt_types.specs.declared.event.TidyRule.TheVariants.{Nothing, EmptyBorder, LoneChild, LoneRootChild, EmptyLayer}
 use Rattle.mt_types.specs.declared.view.Page.{Page}
-use Rattle.mt_drive.specs.Words.{◌>>=◌, word_at, number_of, each, parts}
-use Rattle.mt_drive.specs.Values.{row_of, rows_of}
+use Rattle.mt_script.specs.Words.{◌>>=◌, word_at, number_of, each, parts}
+use Rattle.mt_script.specs.Values.{row_of, rows_of}
 
 -- VERSION VALUES
 unfoldable pub found_of : List ℕ → Option Answer

@@ -5,9 +5,9 @@ use Rattle.mt_types.specs.declared.row.Delta.{Delta}
 use Rattle.mt_check.specs.Receipts.{IsSoundLog, IsSound, NoneClaimsAgain}
 use Rattle.mt_check.specs.Faults.{rule_number, DeltaBreaks, IsFirstFault, IsFirstReceiptFault}
 use Rattle.mt_check.specs.declared.receipt.Receipt.{Receipt}
-use Rattle.mt_drive.specs.declared.fault.ScriptFault.{ScriptFault}
-use Rattle.mt_drive.specs.declared.fault.ScriptFault.TheVariants.{Read}
-use Rattle.mt_drive.specs.Lines.{lines_of, line_text, ReadsLines}
+use Rattle.mt_script.specs.declared.fault.ScriptFault.{ScriptFault}
+use Rattle.mt_script.specs.declared.fault.ScriptFault.TheVariants.{Read}
+use Rattle.mt_script.specs.Lines.{lines_of, line_text, ReadsLines}
 use Rattle.mt_audit.specs.Lines.{line_of}
 use Rattle.mt_audit.specs.declared.line.Line.TheVariants.{Logged, Kept}
 use Rattle.mt_audit.specs.declared.verdict.Verdict.{Verdict}

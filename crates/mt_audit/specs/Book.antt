@@ -1,7 +1,7 @@
 -- What was read so far.
 use Rattle.std.specs.Prelude.{◌≡◌, ℕ, Bool, true, false, List, [], ◌∷◌, ◌++◌, All, Option, IfSome}
 use Rattle.mt_check.specs.Receipts.{IsAsked}
-use Rattle.mt_drive.specs.Lines.{lines_of}
+use Rattle.mt_script.specs.Lines.{lines_of}
 use Rattle.mt_audit.specs.Audit.{Reads, CanRead}
 use Rattle.mt_audit.specs.declared.book.Book.{Book}
 use Rattle.mt_audit.specs.declared.line.Line.{Line}

@@ -11,9 +11,9 @@ use Rattle.mt_types.specs.declared.event.Request.{Request}
 use Rattle.mt_types.specs.declared.event.Request.TheVariants.{Tidy, Build}
 use Rattle.mt_check.specs.declared.receipt.Receipt.{Receipt}
 use Rattle.mt_check.specs.declared.receipt.Receipt.TheVariants.{Call, Page}
-use Rattle.mt_drive.specs.Words.{◌>>=◌, word_at, last_word_at, number_of, bytes_of}
-use Rattle.mt_drive.specs.Values.{key_of, row_of}
-use Rattle.mt_drive.specs.Reading.{request_of, spec_of}
+use Rattle.mt_script.specs.Words.{◌>>=◌, word_at, last_word_at, number_of, bytes_of}
+use Rattle.mt_script.specs.Values.{key_of, row_of}
+use Rattle.mt_script.specs.Reading.{request_of, spec_of}
 use Rattle.mt_audit.specs.Answers.{answer_of, shown_of}
 use Rattle.mt_audit.specs.declared.line.Line.{Line}
 use Rattle.mt_audit.specs.declared.line.Line.TheVariants.{Logged, Kept}

@@ -1,12 +1,12 @@
 //! What an answer says.
 
 ghost use Rattle.std.specs.Prelude.{◌≡◌};
-ghost use Rattle.mt_drive.specs.Words.{Gives};
+ghost use Rattle.mt_script.specs.Words.{Gives};
 ghost use Rattle.mt_audit.specs.Answers.{found_of, stored_of, removed_of, listed_of, rule_of, tidied_of, built_of, upkeep_answer_of, long_answer_of, answer_of, page_of, shown_of};
 
-use mt_drive::fault::LineError;
-use mt_drive::values::{row_from, rows_from};
-use mt_drive::words::{cut, number, read_parts};
+use mt_script::fault::LineError;
+use mt_script::values::{row_from, rows_from};
+use mt_script::words::{cut, number, read_parts};
 use mt_types::event::{Answer, TidyRule};
 use mt_types::numbers::ViewNo;
 use mt_types::view::{Page, Sums};

@@ -2,11 +2,11 @@
 
 ghost use Rattle.std.specs.Prelude.{◌≡◌, [], IfOk, IfErr};
 ghost use Rattle.mt_audit.specs.Book.{Places, Adds};
-ghost use Rattle.mt_drive.specs.declared.fault.ScriptFault.TheVariants.{NoMemory};
+ghost use Rattle.mt_script.specs.declared.fault.ScriptFault.TheVariants.{NoMemory};
 
 use crate::line::{Line, read_line};
 use mt_check::receipt::Receipt;
-use mt_drive::fault::{LineError, ScriptFault};
+use mt_script::fault::{LineError, ScriptFault};
 use mt_types::row::Delta;
 use std::alloc::{AllocError, Global};
 

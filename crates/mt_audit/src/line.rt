@@ -3,15 +3,15 @@
 ghost use Rattle.std.specs.Prelude.{◌≡◌, nat_lt, length, IfOk};
 ghost use Rattle.std.specs.List.{list_any};
 ghost use Rattle.mt_types.specs.declared.limits.TheConstants.{MAX_COLUMN_BYTES};
-ghost use Rattle.mt_drive.specs.Words.{Gives};
+ghost use Rattle.mt_script.specs.Words.{Gives};
 ghost use Rattle.mt_audit.specs.Book.{IsTaken};
 ghost use Rattle.mt_audit.specs.Lines.{is_whole, whole_row_of, state_of, delta_of, logged_of, kept_of, line_of};
 
 use crate::receipts::read_receipt;
 use mt_check::receipt::Receipt;
-use mt_drive::fault::LineError;
-use mt_drive::values::{key_from, row_from};
-use mt_drive::words::{cut, number};
+use mt_script::fault::LineError;
+use mt_script::values::{key_from, row_from};
+use mt_script::words::{cut, number};
 use mt_types::limits::MAX_COLUMN_BYTES;
 use mt_types::row::{Columns, Delta, Row};
 use std::alloc::Global;

@@ -1,16 +1,16 @@
 //! What a receipt says.
 
 ghost use Rattle.std.specs.Prelude.{◌≡◌, true, IfOk};
-ghost use Rattle.mt_drive.specs.Words.{Gives};
+ghost use Rattle.mt_script.specs.Words.{Gives};
 ghost use Rattle.mt_check.specs.Receipts.{IsAsked};
 ghost use Rattle.mt_audit.specs.Lines.{around_arrow, call_of, page_receipt_of, asked_of, said_of, is_asked, receipt_of};
 
 use crate::answers::{read_answer, read_shown};
 use mt_check::check::is_asked;
 use mt_check::receipt::Receipt;
-use mt_drive::fault::LineError;
-use mt_drive::reading::{read_request, read_spec};
-use mt_drive::words::{bytes_from, cut, cut_last, number};
+use mt_script::fault::LineError;
+use mt_script::reading::{read_request, read_spec};
+use mt_script::words::{bytes_from, cut, cut_last, number};
 use std::alloc::Global;
 
 // What is before and after ` => `.

@@ -1,7 +1,7 @@
 //! The verdict of an audit.
 
 ghost use Rattle.std.specs.Prelude.{◌≡◌, IfOk, string_bytes};
-ghost use Rattle.mt_drive.specs.Lines.{line_text};
+ghost use Rattle.mt_script.specs.Lines.{line_text};
 ghost use Rattle.mt_audit.specs.Audit.{verdict_text, verdict_status};
 
 use mt_check::fault::Fault;

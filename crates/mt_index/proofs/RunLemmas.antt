@@ -127,7 +127,7 @@ module _ (s : MachineView) (pass : PassNo) where
       fails = r.step.fails;
       follows = r.step.follows;
       read = tt;
-      posts = (r.step.head, r.step.posts, r.arena, r.arena_after);
+      posts = (r.step.head, r.step.posts, r.arena, r.arena_after, r.step.drops);
       same_call = refl;
       pass_is = refl;
       reads_is = sym (no_reader x.write.key x.write.edit);

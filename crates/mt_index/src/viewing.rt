@@ -1,7 +1,7 @@
 //! Views in the machine: how a view is opened, advanced and read, while it holds the log from the number of commits at
 //! which it is.
 
-ghost use Rattle.std.specs.Prelude.{◌≡◌, ◌+◌, ◌<◌, ◌≤◌, ◌⊎◌, length, IfOk, IfErr, IsSome, OnOk, OnErr, MatchOption, Some, Err, true};
+ghost use Rattle.std.specs.Prelude.{◌≡◌, ◌+◌, ◌<◌, ◌≤◌, ◌⊎◌, ◌↔◌, length, IfOk, IfErr, IsSome, IsTrue, OnOk, OnErr, MatchOption, Some, Err, true};
 ghost use Rattle.mt_promise.specs.History.{History, moment};
 ghost use Rattle.mt_commit.specs.Laws.{times_held};
 ghost use Rattle.mt_types.specs.Numbers.{greatest_number};
@@ -12,7 +12,7 @@ ghost use Rattle.mt_commit.specs.declared.log.TheConstants.{MAX_HOLDERS};
 ghost use Rattle.mt_view.specs.State.{StateView, applied, page_of_state};
 ghost use Rattle.mt_view.specs.Views.{state_at, with_state};
 ghost use Rattle.mt_commit.specs.Log.{IsLog};
-ghost use Rattle.mt_index.specs.Stands.{Stands, Applies, ReadsView, Drops, HasBounds, with_view, vacated};
+ghost use Rattle.mt_index.specs.Stands.{Stands, Applies, ReadsView, Drops, HasBounds, meant_number, with_view, vacated};
 ghost use Rattle.mt_index.specs.Viewing.{TakesView, CopiesView, page_outcome};
 
 use crate::machine::Machine;
@@ -163,6 +163,13 @@ pub(crate) fn page(
 }
 
 impl Machine {
+    /// Returns whether there is a view. O(log n) in the views.
+    pub fn has_views(&self) -> bool
+        ensures { IsTrue result ↔ IsSome (meant_number self.now 0) }
+    {
+        self.views.meant(0).is_some()
+    }
+
     /// Returns the number of commits at which a view is, and a copy of its state. From there on a caller can advance
     /// the copy by deltas. No event happens. Shares keys and rows. O(n log n) in the rows of the view.
     ///

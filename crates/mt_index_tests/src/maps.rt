@@ -2,14 +2,13 @@
 
 use bytes::Bytes;
 use mt_index::options::Options;
+use mt_map::borrowed::{Set, Spec, Test};
 use mt_map::map::Map;
 use mt_types::event::TidyRule;
 use mt_types::items::Items;
-use mt_types::key::Key;
 use mt_types::numbers::ViewNo;
 use mt_types::refusal::Refusal;
 use mt_types::row::Sets;
-use mt_types::view::{RowTest, ViewSpec};
 use std::alloc::Global;
 use std::test::Fail;
 
@@ -37,20 +36,15 @@ fn open(alloc: Global) -> Result<Map, Refusal> {
     Map::open(alloc, options)
 }
 
-fn put(
-    alloc: Global,
-    map: &mut Map,
-    key: &'static [u8],
-    value: &'static [u8],
-) -> Result<u64, Refusal> {
-    map.put(Bytes::from_static(key), sets(alloc, value)?)
+fn put(map: &mut Map, key: &[u8], value: &[u8]) -> Result<u64, Refusal> {
+    map.put(key, &[Set::new(0, value)])
 }
 
 // A map with a row for each of the keys, put in an order that isn't theirs.
 fn filled(alloc: Global) -> Result<Map, Refusal> {
     let mut map = open(alloc)?;
     for key in KEYS.iter().rev() {
-        let _ = put(alloc, &mut map, *key, b"\x05")?;
+        let _ = put(&mut map, *key, b"\x05")?;
     }
     Ok(map)
 }
@@ -65,11 +59,11 @@ fn seen(map: &Map, key: &'static [u8]) -> Result<Option<(u64, usize)>, Refusal> 
 fn rows_of_a_map(rt: HostRuntime) -> Result<(), Fail> {
     let alloc = rt.alloc();
     let mut map = open(alloc)?;
-    assert_eq!(rt; put(alloc, &mut map, b"apple", b"red"), Ok(1));
-    assert_eq!(rt; put(alloc, &mut map, b"apple", b"green"), Ok(2));
+    assert_eq!(rt; put(&mut map, b"apple", b"red"), Ok(1));
+    assert_eq!(rt; put(&mut map, b"apple", b"green"), Ok(2));
     assert_eq!(rt; seen(&map, b"apple"), Ok(Some((2, 5))));
-    assert_eq!(rt; map.remove(Bytes::from_static(b"apple")), Ok(Some(3)));
-    assert_eq!(rt; map.remove(Bytes::from_static(b"apple")), Ok(None));
+    assert_eq!(rt; map.remove(b"apple"), Ok(Some(3)));
+    assert_eq!(rt; map.remove(b"apple"), Ok(None));
     assert_eq!(rt; map.contains_key(b"apple"), Ok(false));
     assert_eq!(rt; (map.commits(), map.feed(1, 10)?.len()), (3, 2));
     Ok(())
@@ -78,18 +72,90 @@ fn rows_of_a_map(rt: HostRuntime) -> Result<(), Fail> {
 #[test]
 fn conditional_puts_of_a_map(rt: HostRuntime) -> Result<(), Fail> {
     let mut map = open(rt.alloc())?;
-    let late = sets(rt.alloc(), b"late")?;
-    let first = map.put_if(Bytes::from_static(b"pear"), sets(rt.alloc(), b"first")?, 0);
-    assert_eq!(rt; first, Ok(1));
-    let refused = map.put_if(Bytes::from_static(b"pear"), late, 0);
-    assert_eq!(rt; refused, Err(Refusal::OtherVersion(1)));
+    let set = [Set::new(0, b"first")];
+    assert_eq!(rt; map.put_if(b"pear", &set, 0), Ok(1));
+    assert_eq!(rt; map.put_if(b"pear", &[], 0), Err(Refusal::OtherVersion(1)));
+    assert_eq!(rt; map.put_if(b"pear", &[], 1), Ok(2));
+    assert_eq!(rt; seen(&map, b"pear"), Ok(Some((2, 5))));
+    Ok(())
+}
+
+#[test]
+fn owned_changes_of_a_map(rt: HostRuntime) -> Result<(), Fail> {
+    let alloc = rt.alloc();
+    let mut map = open(alloc)?;
+    let put = map.put_owned(Bytes::from_static(b"pear"), sets(alloc, b"first")?);
+    assert_eq!(rt; put, Ok(1));
+    let put = map.put_if_owned(Bytes::from_static(b"pear"), sets(alloc, b"late")?, 0);
+    assert_eq!(rt; put, Err(Refusal::OtherVersion(1)));
     assert_eq!(rt; seen(&map, b"pear"), Ok(Some((1, 5))));
+    assert_eq!(rt; map.remove_owned(Bytes::from_static(b"pear")), Ok(Some(2)));
+    Ok(())
+}
+
+#[test]
+fn limits_of_a_map(rt: HostRuntime) -> Result<(), Fail> {
+    let mut map = open(rt.alloc())?;
+    let long = [7; 1025];
+    let set = Set::new(0, b"red");
+    assert_eq!(rt; map.put(&long, &[]), Err(Refusal::KeyTooLong));
+    assert_eq!(rt; map.put(&long[1..], &[Set::new(0, &long[..64])]), Ok(1));
+    assert_eq!(rt;
+        map.put(b"a", &[set, Set::new(1, b"sweet")]),
+        Err(Refusal::BadColumn)
+    );
+    assert_eq!(rt; map.put_if(b"a", &[set, set], 0), Err(Refusal::BadColumn));
+    assert_eq!(rt;
+        map.put(b"a", &[Set::new(0, &long[..65])]),
+        Err(Refusal::ColumnTooLong)
+    );
+    assert_eq!(rt;
+        (map.remove(&long), map.tidy(&long)),
+        (Err(Refusal::KeyTooLong), Err(Refusal::KeyTooLong))
+    );
+    assert_eq!(rt; map.get(&long).is_err(), true);
+    assert_eq!(rt; map.walk(&long).is_err(), true);
+    assert_eq!(rt; map.commits(), 1);
+    Ok(())
+}
+
+#[test]
+fn limits_of_builds(rt: HostRuntime) -> Result<(), Fail> {
+    let mut map = open(rt.alloc())?;
+    let long = [7; 1025];
+    let lo = b"b";
+    let test = Test::Equals(1, &long);
+    assert_eq!(rt;
+        map.build(&Spec::Prefix { key: &long, test }),
+        Err(Refusal::KeyTooLong)
+    );
+    assert_eq!(rt;
+        map.build(&Spec::From { lo, test }),
+        Err(Refusal::BadColumn)
+    );
+    let test = Test::Equals(0, &long);
+    assert_eq!(rt;
+        map.build(&Spec::From { lo, test }),
+        Err(Refusal::ColumnTooLong)
+    );
+    let test = Test::AtLeast(0, 3);
+    assert_eq!(rt;
+        map.build(&Spec::Between { lo, hi: b"b", test }),
+        Err(Refusal::BadRange)
+    );
+    assert_eq!(rt;
+        map.build(&Spec::Between { lo, hi: b"c", test }),
+        Ok(ViewNo(1))
+    );
+    let page = map.page(ViewNo(1), 1, &long, 0);
+    assert_eq!(rt; page, Err(Refusal::KeyTooLong));
+    assert_eq!(rt; map.page(ViewNo(2), 0, b"", 1), Err(Refusal::NoSuchView));
     Ok(())
 }
 
 // Walks over a map from a key on. Refused `Behind` if it doesn't meet exactly these keys.
 fn walk(map: &Map, start: &'static [u8], keys: &[&'static [u8]]) -> Result<(), Refusal> {
-    let mut walk = map.walk(&Key::new(Bytes::from_static(start))?)?;
+    let mut walk = map.walk(start)?;
     for (index, key) in keys.iter().enumerate() {
         if walk.next()?.is_none() || walk.key() != *key {
             return Err(Refusal::Behind(index as u64));
@@ -112,29 +178,44 @@ fn walks_of_a_map(rt: HostRuntime) -> Result<(), Fail> {
 }
 
 #[test]
+fn first_of_a_map(rt: HostRuntime) -> Result<(), Fail> {
+    let mut map = filled(rt.alloc())?;
+    for key in &KEYS {
+        assert!(rt; !map.is_empty()?);
+        let first = map.first()?;
+        assert!(rt; matches!(&first, Some(first) if first.as_slice() == *key));
+        assert!(rt; map.remove(*key)?.is_some());
+    }
+    assert!(rt; map.first()?.is_none());
+    assert!(rt; map.is_empty()?);
+    Ok(())
+}
+
+#[test]
 fn range_of_a_map(rt: HostRuntime) -> Result<(), Fail> {
     let map = filled(rt.alloc())?;
-    let pairs = map.range(Bytes::from_static(b"apr"), 2, Items::new(rt.alloc()))?;
+    let pairs = map.pairs(b"apr", 2, &[])?;
     let last = pairs
         .as_slice()
         .last()
         .map(|(key, row)| (key.as_slice().len(), row.version));
     assert_eq!(rt; (pairs.as_slice().len(), last), (2, Some((10, 3))));
-    let none = map.range(Bytes::new(), 0, Items::new(rt.alloc()));
-    assert_eq!(rt; none, Err(Refusal::BadLimit));
+    assert_eq!(rt; map.pairs(b"", 0, &[]), Err(Refusal::BadLimit));
+    assert_eq!(rt; map.pairs(b"", 1, &[1]), Err(Refusal::BadColumn));
     Ok(())
 }
 
 // A view of the keys in the layer.
 fn build(map: &mut Map) -> Result<ViewNo, Refusal> {
-    let key = Bytes::from_static(b"apricots");
-    let test = RowTest::Any;
-    map.build(ViewSpec::Prefix { key, test })
+    map.build(&Spec::Prefix {
+        key: b"apricots",
+        test: Test::Any,
+    })
 }
 
 // The number of commits at which a view is, how many rows it has, and how many a page shows.
 fn page(map: &Map, view: ViewNo, floor: u64) -> Result<(u64, u64, usize), Refusal> {
-    let page = map.page(view, floor, &Bytes::new(), 3)?;
+    let page = map.page(view, floor, b"", 3)?;
     Ok((page.at, page.count, page.rows.as_slice().len()))
 }
 
@@ -143,7 +224,7 @@ fn views_of_a_map(rt: HostRuntime) -> Result<(), Fail> {
     let mut map = filled(rt.alloc())?;
     let view = build(&mut map)?;
     assert_eq!(rt; page(&map, view, 6), Ok((6, 3, 3)));
-    assert_eq!(rt; put(rt.alloc(), &mut map, b"apricots/c", b"\x07"), Ok(7));
+    assert_eq!(rt; put(&mut map, b"apricots/c", b"\x07"), Ok(7));
     assert_eq!(rt; page(&map, view, 7), Err(Refusal::Behind(6)));
     assert_eq!(rt; map.keep_views(10), Ok(1));
     assert_eq!(rt; map.apply(view), Ok(None));
@@ -158,11 +239,11 @@ fn tidies_of_a_map(rt: HostRuntime) -> Result<(), Fail> {
     let mut map = filled(rt.alloc())?;
     let nodes = map.nodes();
     for key in &KEYS[3..5] {
-        let _ = map.remove(Bytes::from_static(*key))?;
+        let _ = map.remove(*key)?;
     }
     // The head and the border of the layer went with the last of its rows.
     assert_eq!(rt; Some(map.nodes()), nodes.checked_sub(2));
-    let done = map.tidy(Bytes::from_static(b"apricots/a"));
+    let done = map.tidy(b"apricots/a");
     assert_eq!(rt; (done, map.collect()), (Ok(TidyRule::Nothing), 0));
     Ok(())
 }

@@ -1,8 +1,8 @@
 //! Requests as they are written. What scripts answer, and readers and writers that fail under them, is shown by the
 //! cases of `mtdrive`.
 
-use mt_drive::asking::request_text;
-use mt_drive::reading::read_request;
+use mt_script::asking::request_text;
+use mt_script::reading::read_request;
 use std::test::Fail;
 
 // Requests of each kind, as they are written.

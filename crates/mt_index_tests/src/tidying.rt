@@ -2,13 +2,12 @@
 
 use bytes::Bytes;
 use mt_index::options::Options;
+use mt_map::borrowed::{Spec, Test};
 use mt_map::map::Map;
 use mt_types::event::TidyRule;
 use mt_types::items::Items;
-use mt_types::key::Key;
 use mt_types::numbers::ViewNo;
 use mt_types::refusal::Refusal;
-use mt_types::view::{RowTest, ViewSpec};
 use std::alloc::Global;
 use std::collections::BTreeMap;
 use std::test::Fail;
@@ -37,7 +36,7 @@ fn key(alloc: Global, shape: Shape, number: u64) -> Result<Bytes, Refusal> {
 fn filled(alloc: Global, options: Options, shape: Shape, many: u64) -> Result<Map, Refusal> {
     let mut map = Map::open(alloc, options)?;
     for number in 0..many {
-        let _ = map.put(key(alloc, shape, number)?, Items::new(alloc))?;
+        let _ = map.put_owned(key(alloc, shape, number)?, Items::new(alloc))?;
     }
     Ok(map)
 }
@@ -53,7 +52,7 @@ fn emptied(
 ) -> Result<usize, Refusal> {
     for count in 0..many {
         let number = count.wrapping_mul(step) % many;
-        if map.remove(key(alloc, shape, number)?)?.is_none() {
+        if map.remove_owned(key(alloc, shape, number)?)?.is_none() {
             return Err(Refusal::Behind(number));
         }
     }
@@ -97,8 +96,8 @@ fn window_keeps_its_nodes(rt: HostRuntime) -> Result<(), Fail> {
     let mut map = filled(alloc, Options::default(), Shape::Short, 200)?;
     let nodes = map.nodes();
     for number in 0..3000 {
-        let _ = map.put(key(alloc, Shape::Short, number + 200)?, Items::new(alloc))?;
-        let _ = map.remove(key(alloc, Shape::Short, number)?)?;
+        let _ = map.put_owned(key(alloc, Shape::Short, number + 200)?, Items::new(alloc))?;
+        let _ = map.remove_owned(key(alloc, Shape::Short, number)?)?;
     }
     assert!(rt; map.nodes() <= nodes + 8);
     assert_eq!(rt; map.commits(), 6200);
@@ -111,8 +110,8 @@ fn no_empty_node_is_left(rt: HostRuntime) -> Result<(), Fail> {
     let alloc = rt.alloc();
     let mut map = filled(alloc, Options::default(), Shape::Long, 200)?;
     for number in 40..160 {
-        let _ = map.remove(key(alloc, Shape::Long, number)?)?;
-        let tidied = map.tidy(key(alloc, Shape::Long, number)?);
+        let _ = map.remove_owned(key(alloc, Shape::Long, number)?)?;
+        let tidied = map.tidy(&key(alloc, Shape::Long, number)?);
         assert!(rt;
             matches!(
                 tidied,
@@ -120,10 +119,10 @@ fn no_empty_node_is_left(rt: HostRuntime) -> Result<(), Fail> {
             )
         );
     }
-    let rest = map.range(Bytes::new(), 300, Items::new(alloc))?;
+    let rest = map.pairs(b"", 300, &[])?;
     assert_eq!(rt; rest.as_slice().len(), 80);
-    let next = Key::new(key(alloc, Shape::Long, 160)?)?;
-    let mut walk = map.walk(&Key::new(key(alloc, Shape::Long, 40)?)?)?;
+    let next = key(alloc, Shape::Long, 160)?;
+    let mut walk = map.walk(&key(alloc, Shape::Long, 40)?)?;
     let _ = walk.next()?;
     assert_eq!(rt; walk.key(), next.as_slice());
     Ok(())
@@ -148,17 +147,17 @@ fn change(
     // Long stretches in which most changes are puts, and then most removes.
     let puts = (random >> 32) % 8 < 1 + 6 * ((map.commits() / 400) % 2);
     if puts {
-        let commit = map.put(key(alloc, Shape::Long, number)?, Items::new(alloc))?;
+        let commit = map.put_owned(key(alloc, Shape::Long, number)?, Items::new(alloc))?;
         let _ = plain.insert(number, commit)?;
         return Ok(true);
     }
-    let removed = map.remove(key(alloc, Shape::Long, number)?)?;
+    let removed = map.remove_owned(key(alloc, Shape::Long, number)?)?;
     Ok(removed.is_some() == plain.remove(&number).is_some())
 }
 
 // Whether the map has exactly these rows.
 fn has_rows(alloc: Global, map: &Map, plain: &BTreeMap<u64, u64>) -> Result<bool, Refusal> {
-    let mut walk = map.walk(&Key::new(Bytes::new())?)?;
+    let mut walk = map.walk(b"")?;
     for (number, version) in plain.iter() {
         let found = walk.next()?.map(|row| row.version);
         if found != Some(*version) || walk.key() != key(alloc, Shape::Long, *number)?.as_slice() {
@@ -171,7 +170,7 @@ fn has_rows(alloc: Global, map: &Map, plain: &BTreeMap<u64, u64>) -> Result<bool
 // Whether a view of all rows, once it is at the newest commit, has this many.
 fn counts(map: &mut Map, view: ViewNo, many: u64) -> Result<bool, Refusal> {
     let _ = map.keep_views(400)?;
-    let page = map.page(view, map.commits(), &Bytes::new(), 1)?;
+    let page = map.page(view, map.commits(), b"", 1)?;
     Ok(page.count == many)
 }
 
@@ -179,9 +178,9 @@ fn counts(map: &mut Map, view: ViewNo, many: u64) -> Result<bool, Refusal> {
 fn random_changes_are_a_plain_map(rt: HostRuntime) -> Result<(), Fail> {
     let alloc = rt.alloc();
     let mut map = Map::open(alloc, Options::default())?;
-    let view = map.build(ViewSpec::Prefix {
-        key: Bytes::new(),
-        test: RowTest::Any,
+    let view = map.build(&Spec::Prefix {
+        key: b"",
+        test: Test::Any,
     })?;
     let mut plain = BTreeMap::new(alloc);
     let mut random = 88172645463325252;

@@ -3,3 +3,4 @@ pub mod MapLemmas
 pub mod WalkLemmas
 pub mod Ranges
 pub mod TidyLemmas
+pub mod KeysToCome

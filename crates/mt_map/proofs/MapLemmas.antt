@@ -1,13 +1,13 @@
 -- What calls and events come to on a machine on which no call is open.
-use Rattle.std.proofs.Common.{arith, ◌≡◌, ◌≤◌, ℕ, List, length, suc, ◌<◌, refl, sym, ap, subst, ◌∙◌, inl, inr, Bool, true, false, eqb}
+use Rattle.std.proofs.Common.{arith, ◌≡◌, ◌≤◌, ℕ, List, [], length, suc, ◌<◌, refl, sym, ap, subst, ◌∙◌, inl, inr, Bool, true, false, eqb}
 use Rattle.std.specs.Prelude.{Option, Some, None, Result, Ok, Err, IfOk, MatchBool, MatchOption, if◌then◌else◌, ◌&&◌, is_some, nat_le}
 use Rattle.std.specs.Option.{option_or}
 use Rattle.std.proofs.lemmas.Bool.Decides.{leb_tells}
 use Rattle.mt_types.specs.Numbers.{greatest_number}
-use Rattle.mt_types.specs.declared.limits.TheConstants.{MAX_KEY_BYTES, MAX_OPEN_CALLS}
+use Rattle.mt_types.specs.declared.limits.TheConstants.{MAX_KEY_BYTES, MAX_OPEN_CALLS, MAX_VIEWS}
 use Rattle.mt_types.specs.declared.numbers.ViewNo.{ViewNo}
 use Rattle.mt_types.specs.declared.refusal.Refusal.{Refusal}
-use Rattle.mt_types.specs.declared.refusal.Refusal.TheVariants.{NoMemory, NoSuchView, Behind, KeyTooLong, Spent, TooManyCalls}
+use Rattle.mt_types.specs.declared.refusal.Refusal.TheVariants.{NoMemory, NoSuchView, Behind, KeyTooLong, Spent, TooManyCalls, TooManyViews}
 use Rattle.mt_types.specs.declared.event.Answer.{Answer}
 use Rattle.mt_types.specs.declared.event.Answer.TheVariants.{Absent, Removed}
 use Rattle.mt_types.specs.declared.event.Event.{Event}
@@ -18,18 +18,21 @@ use Rattle.mt_types.specs.declared.event.Reply.{Reply}
 use Rattle.mt_types.specs.declared.event.Request.{Request}
 use Rattle.mt_types.specs.declared.event.Request.TheVariants.{Remove}
 use Rattle.mt_types.specs.declared.view.Page.{Page}
-use Rattle.mt_types.specs.Limits.{key_fault, page_fault, refused_if}
+use Rattle.mt_types.specs.Limits.{key_fault, page_fault, refused_if, request_fault}
 use Rattle.mt_promise.specs.History.{History, moment}
+use Rattle.mt_promise.specs.Legal.{is_build}
 use Rattle.mt_view.specs.Laws.{ShowsPage}
-use Rattle.mt_view.specs.Views.{state_at}
+use Rattle.mt_view.specs.Views.{places, state_at}
 use Rattle.mt_view.specs.State.{StateView, page_of_state}
 use Rattle.mt_index.specs.Alone.{IsIdle, AnswersPlainly, RefusesPlainly}
 use Rattle.mt_index.specs.Events.{EventDoes, HappensAlone}
 use Rattle.mt_index.specs.Stands.{MachineView, Stands, HasBounds, ReadsPage, ReadsView, fault_of}
 use Rattle.mt_map.specs.Calls.{CameTo, IsAnswerTo, removed_by}
 use Rattle.mt_index.specs.Viewing.{page_outcome}
+use Rattle.mt_index.proofs.AloneStands.{begin_refuses_plainly}
+use Rattle.mt_index.proofs.EventLemmas.{turned_away}
 use Rattle.mt_index.proofs.MachineLemmas.{copies_view}
-use Rattle.mt_map.specs.Tidies.{MapCameTo, MapView, PurgesAfter, PurgesIfEmptied, Removes, RemovesAndTidies, RemovesNone, has_removed}
+use Rattle.mt_map.specs.Tidies.{MapCameTo, MapView, PurgesIfEmptied, Removes, RemovesAndTidies}
 use Rattle.mt_map.specs.Views.{IsOutside, ShowsView}
 
 -- ---- answers
@@ -69,11 +72,41 @@ came_refused s t request refusal plainly happens fault columns bounds = record {
   bounds = bounds;
 }
 
--- ---- nothing follows a call
-pub purges_none : (request : Request) (ended : Result Reply Refusal) (s : MachineView) → false ≡ has_removed ended → PurgesAfter request ended s s
-purges_none (Remove key) ended s not_removed = subst (λ (b : Bool). MatchBool b (PurgesIfEmptied s key s) (s ≡ s)) not_removed refl
-purges_none _ ended s not_removed = refl
+-- ---- limits
+or_first : (first second : Option Refusal) (refusal : Refusal) → first ≡ Some refusal → option_or first second ≡ Some refusal
+or_first first second refusal is = ap (λ (f : Option Refusal). option_or f second) is
 
+due_fault : (fault : Option Refusal) (refusal : Refusal) → fault ≡ Some refusal → MatchOption fault (Unit {0}) (λ (due : Refusal). ◌≡◌ {A = Result Answer Refusal} (Err refusal) (Err due))
+due_fault fault refusal is =
+    subst (λ (f : Option Refusal). MatchOption f (Unit {0}) (λ (due : Refusal). ◌≡◌ {A = Result Answer Refusal} (Err refusal) (Err due))) (sym is) refl
+
+first_fault : (s : MachineView) (request : Request) (refusal : Refusal) → request_fault s.columns request ≡ Some refusal → fault_of s request ≡ Some refusal
+first_fault s request refusal limit =
+    or_first (request_fault s.columns request)
+    (option_or (refused_if (nat_le greatest_number s.calls.begun) Spent)
+    (option_or (refused_if (nat_le MAX_OPEN_CALLS (length s.calls.calls)) TooManyCalls)
+    (if is_build request then refused_if (nat_le MAX_VIEWS (places s.views)) TooManyViews else None))) refusal limit
+
+came_limited : (s : MachineView) (request : Request) (refusal : Refusal) → IsIdle s → fault_of s request ≡ Some refusal → CameTo s request (Err refusal) s
+came_limited s request refusal idle due = record {
+  answered = tt;
+  refused = record {
+    plainly = begin_refuses_plainly s request refusal idle (inl due, refl);
+    happens = turned_away s s request refusal (inl due, refl);
+  };
+  fault = due_fault (fault_of s request) refusal due;
+  columns = refl;
+  bounds = (refl, refl);
+}
+
+-- a call that breaks a limit comes to a refusal for it, if nothing is done
+pub limit_refuses : (s : MapView) (request : Request) (refusal : Refusal) → IsIdle s.machine → request_fault s.machine.columns request ≡ Some refusal → MapCameTo s request (Err refusal) s
+limit_refuses s request refusal idle limit = record {
+  came = came_limited s.machine request refusal idle (first_fault s.machine request refusal limit);
+  tidies = refl;
+}
+
+-- ---- keys that are too long
 pub long_fault : (key : List ℕ) → MAX_KEY_BYTES < length key → key_fault key ≡ Some KeyTooLong
 long_fault key long = elim (leb_tells (suc MAX_KEY_BYTES) (length key)) [
   | inl t ↦ ap (λ (b : Bool). refused_if b KeyTooLong) t.0
@@ -92,12 +125,6 @@ pub long_ends : {A : Type 0} (s : MachineView) (key : List ℕ) (ended : Result 
 long_ends s key ended long fault =
     subst (λ (own : Option Refusal). MatchOption (option_or own (option_or (refused_if (nat_le greatest_number s.calls.begun) Spent) (option_or (refused_if (nat_le MAX_OPEN_CALLS (length s.calls.calls)) TooManyCalls) None))) (Unit {0}) (λ (due : Refusal). ended ≡ Err due))
     (long_fault key long) fault
-
-pub none_removed : (s : MachineView) (request : Request) (ended : Result Reply Refusal) (done : MachineView) → RemovesNone request
-    → MatchOption (fault_of s request) (Unit {0}) (λ (due : Refusal). ended ≡ Err due) → PurgesAfter request ended done done
-none_removed s (Remove key) ended done long fault =
-    purges_none (Remove key) ended done (sym (ap has_removed (long_ends s key ended long fault)))
-none_removed s _ ended done none fault = refl
 
 -- ---- removes
 untaken : (s t : MapView) (key : List ℕ) (found : Option ℕ) → MapCameTo s (Remove key) (removed_by (Ok found)) t → (s.tidies && is_some found) ≡ false → RemovesAndTidies s key found t
@@ -204,6 +231,33 @@ page_shows s view floor start limit page shows reads h st = at (page_fault start
             | inr wants ↦ absurd (let clash : ◌≡◌ {A = Outcome} (View page) (Refused NoMemory) = wants in cc)
           ]
         ]
+
+-- ---- a page whose start is not copied
+-- where a page is read, there may be no memory for it
+pub page_wants : (s : MachineView) (view : ℕ) (floor : ℕ) (page : Page) → ReadsView s view floor [] 1 (View page) → ReadsView s view floor [] 1 (Refused NoMemory)
+page_wants s view floor page reads = at (state_at view s.views.views) reads
+  where
+    at : (there : Option StateView) → ReadsPage None there floor [] 1 (View page) → ReadsPage None there floor [] 1 (Refused NoMemory)
+    at None r = absurd (let clash : ◌≡◌ {A = Outcome} (View page) (Refused NoSuchView) = r in cc)
+    at (Some state) (inl behind) = absurd (let clash : ◌≡◌ {A = Outcome} (View page) (Refused (Behind state.at)) = behind.1 in cc)
+    at (Some state) (inr (above, reads)) = inr (above, inr refl)
+
+-- what refuses a page with an empty start refuses one with any start that breaks no limit
+pub page_refused : (s : MachineView) (view : ℕ) (floor : ℕ) (start : List ℕ) (limit : ℕ) (refusal : Refusal) → ReadsView s view floor [] 1 (Refused refusal) → page_fault start limit ≡ None
+    → ReadsView s view floor start limit (Refused refusal)
+page_refused s view floor start limit refusal reads fits =
+    subst (λ (fault : Option Refusal). ReadsPage fault (state_at view s.views.views) floor start limit (Refused refusal)) (sym fits) (at (state_at view s.views.views) reads)
+  where
+    at : (there : Option StateView) → ReadsPage None there floor [] 1 (Refused refusal) → ReadsPage None there floor start limit (Refused refusal)
+    at None r = r
+    at (Some state) (inl behind) = inl behind
+    at (Some state) (inr (above, inl shows)) = absurd (let clash : ◌≡◌ {A = Outcome} (Refused refusal) (View (page_of_state state [] 1)) = shows in cc)
+    at (Some state) (inr (above, inr wants)) = inr (above, inr wants)
+
+-- and so does a limit
+pub page_stopped : (s : MachineView) (view : ℕ) (floor : ℕ) (start : List ℕ) (limit : ℕ) (refusal : Refusal) → page_fault start limit ≡ Some refusal → ReadsView s view floor start limit (Refused refusal)
+page_stopped s view floor start limit refusal is =
+    subst (λ (fault : Option Refusal). ReadsPage fault (state_at view s.views.views) floor start limit (Refused refusal)) (sym is) refl
 
 pub drop_or_refusal : (s t : MachineView) (view : ViewNo) (outcome : Outcome) → EventDoes s (ViewDrop view) outcome t
     → (outcome ≡ Dropped → ⊥) → ((refusal : Refusal) → outcome ≡ Refused refusal → ⊥) → ⊥

@@ -2,7 +2,7 @@
 use Rattle.std.proofs.Common.{ℕ, ◌<◌, List, Bool, true, false, inl, inr, suc, arith}
 use Rattle.mt_index.specs.Stands.{MachineView}
 use Rattle.mt_map.specs.Tidies.{Tidies, TidiesAll, TidiesOnce}
-use Rattle.mt_map.specs.declared.tidying.TheConstants.{MAX_TIDIES}
+use Rattle.mt_walk.specs.declared.place.TheConstants.{MAX_TIDIES}
 
 -- one more, which is the last
 pub tidied_once : (s m t : MachineView) (key : List ℕ) (tidies : ℕ) (took : Bool) → Tidies tidies s key m → TidiesOnce m key took t → tidies < MAX_TIDIES → TidiesAll s key t

@@ -1,22 +1,25 @@
 -- A walk over the places of a tree is one over the keys of its rows.
-use Rattle.std.proofs.Common.{ℕ, ◌≡◌, ◌⊎◌, ◌↔◌, inl, inr, List, Bool, true, false, refl, sym, ap, ◌∙◌}
-use Rattle.std.specs.Prelude.{Option, Some, None, if◌then◌else◌}
+use Rattle.std.proofs.Common.{ℕ, ◌≡◌, ◌⊎◌, ◌↔◌, inl, inr, List, [], ◌∷◌, Bool, true, false, refl, sym, ap, subst, ◌∙◌}
+use Rattle.std.specs.Prelude.{Option, Some, None, IsTrue, is_some, not, if◌then◌else◌}
 use Rattle.std.specs.FinMap.{get}
 use Rattle.std.specs.Option.{option_map}
 use Rattle.std.specs.declared.cmp.Ordering.{Ordering}
 use Rattle.std.specs.declared.cmp.Ordering.TheVariants.{Less, Equal, Greater}
+use Rattle.std.proofs.lemmas.Bool.{false≢true}
 use Rattle.mt_types.specs.Keys.{key_cmp}
 use Rattle.mt_types.specs.Rows.{Rows}
 use Rattle.mt_types.specs.declared.row.Row.{Row}
+use Rattle.mt_promise.specs.History.{History, moment, rows}
 use Rattle.mt_slice.specs.Place.{Place, Precedes, AreBytes, place_of}
 use Rattle.mt_slice.proofs.Canonical.{same_from_place_of}
 use Rattle.mt_slice.proofs.KeyOrder.{KeyLess, key_three, cmp_less, cmp_greater, cmp_equal, place_order, rises}
 use Rattle.mt_chart.specs.Tree.{Arena, Has}
 use Rattle.mt_walk.specs.Walk.{WalkAt, from, behind, ToCome, Gives}
-use Rattle.mt_map.specs.Walks.{At, IsAfter, GivesNext}
+use Rattle.mt_index.specs.Stands.{MachineView, Stands}
+use Rattle.mt_map.specs.Walks.{At, IsAfter, IsEmpty, IsFirst, GivesNext}
 
 -- ---- the order of keys and of their places
-less_back : (one other : List ℕ) → key_cmp one other ≡ Less → KeyLess one other
+pub less_back : (one other : List ℕ) → key_cmp one other ≡ Less → KeyLess one other
 less_back one other is = go (key_three one other)
   where
     not_equal : ◌≡◌ {A = Ordering} Equal Less → ⊥
@@ -37,7 +40,7 @@ less_of one other bytes others before = cmp_less one other ((place_order one oth
 abbrev pub place_at : Bool → List ℕ → WalkAt
 place_at given key = if given then behind (place_of key) else from (place_of key)
 
-after_of : (key : List ℕ) (given : Bool) (other : List ℕ) → AreBytes key → AreBytes other → ToCome (place_at given key) (place_of other) → IsAfter key given other
+pub after_of : (key : List ℕ) (given : Bool) (other : List ℕ) → AreBytes key → AreBytes other → ToCome (place_at given key) (place_of other) → IsAfter key given other
 after_of key true other bytes others comes = less_of key other bytes others comes
 after_of key false other bytes others (inl same) = inl (same_from_place_of key other bytes others same)
 after_of key false other bytes others (inr before) = inr (less_of key other bytes others before)
@@ -48,7 +51,7 @@ comes_of key false other bytes others (inl same) = inl (ap place_of same)
 comes_of key false other bytes others (inr less) = inr (rises key other bytes others (less_back key other less))
 
 -- ---- one place, one key
-is_given : (given : Bool) (key : List ℕ) (place : Place) → place_at given key ≡ behind place → given ≡ true
+pub is_given : (given : Bool) (key : List ℕ) (place : Place) → place_at given key ≡ behind place → given ≡ true
 is_given true key place is = refl
 is_given false key place is = absurd (let clash : ◌≡◌ {A = WalkAt} (from (place_of key)) (behind place) = is in cc)
 
@@ -82,3 +85,48 @@ module _ (map : Rows) (arena : Arena) (content : (key : List ℕ) → AreBytes k
         let good = keys key row there in
         none (place_of key) row ((content key good row).1 there) (comes_of at.key at.given key bytes good comes),
   )
+
+-- ---- the first key
+any_comes : (key : List ℕ) → IsAfter [] false key
+any_comes [] = inl refl
+any_comes (byte ∷ key) = inr refl
+
+abbrev from_least : At
+from_least = record { key = []; given = false }
+
+module _ (s m : MachineView) (at new : At) (least : List ℕ) where
+  at_least : (found : Option Row) → m ≡ s → at ≡ record { key = least; given = false } → least ≡ []
+      → ((h : History) → Stands m h → GivesNext (rows m.columns (moment h)) at found new) → (h : History) → Stands s h → GivesNext (rows s.columns (moment h)) from_least found new
+  at_least found same begins empty gives =
+      subst (λ (k : List ℕ). (h : History) → Stands s h → GivesNext (rows s.columns (moment h)) (record { key = k; given = false }) found new) empty
+      (subst (λ (a : At). (h : History) → Stands s h → GivesNext (rows s.columns (moment h)) a found new) begins
+      (subst (λ (v : MachineView). (h : History) → Stands v h → GivesNext (rows v.columns (moment h)) at found new) same gives))
+
+  -- the first row that a walk from the least key on gives is that of the first key
+  pub first_found : (row : Row) (key : List ℕ) → m ≡ s → at ≡ record { key = least; given = false } → least ≡ []
+      → ((h : History) → Stands m h → GivesNext (rows m.columns (moment h)) at (Some row) new) → key ≡ new.key → (h : History) → Stands s h → IsFirst (rows s.columns (moment h)) (Some key)
+  first_found row key same begins empty gives is h stands =
+      subst (λ (k : List ℕ). IsFirst (rows s.columns (moment h)) (Some k)) (sym is) (go (at_least (Some row) same begins empty gives h stands))
+    where
+      go : GivesNext (rows s.columns (moment h)) from_least (Some row) new → IsFirst (rows s.columns (moment h)) (Some new.key)
+      go (given, there, comes, least) = (ap is_some there, λ key other has. least key other has (any_comes key))
+
+  -- and if it gives none, there is no row
+  pub first_lacks : m ≡ s → at ≡ record { key = least; given = false } → least ≡ []
+      → ((h : History) → Stands m h → GivesNext (rows m.columns (moment h)) at None new) → (h : History) → Stands s h → IsFirst (rows s.columns (moment h)) None
+  first_lacks same begins empty gives h stands key = go (get (rows s.columns (moment h)) key) refl
+    where
+      none : GivesNext (rows s.columns (moment h)) from_least None new
+      none = at_least None same begins empty gives h stands
+
+      go : (found : Option Row) → get (rows s.columns (moment h)) key ≡ found → get (rows s.columns (moment h)) key ≡ None
+      go None is = is
+      go (Some row) is = absurd (none.1 key row is (any_comes key))
+
+-- a map without a first key is empty, and one with a first key isn't
+pub first_tells : (map : Rows) (first : Option (List ℕ)) (empty : Bool) → IsFirst map first → is_some first ≡ not empty → IsTrue empty ↔ IsEmpty map
+first_tells map None true none is = ((λ yes. none), (λ all. refl))
+first_tells map None false none is = absurd (false≢true is)
+first_tells map (Some first) true found is = absurd (false≢true (sym is))
+first_tells map (Some first) false (there, least) is =
+    ((λ yes. absurd (false≢true yes)), (λ all. absurd (false≢true (sym (ap is_some (all first)) ∙ there))))

@@ -1,26 +1,23 @@
 -- A map as contracts see it, and the tidies that follow a remove.
-use Rattle.std.specs.Prelude.{ℕ, zero, suc, ◌≡◌, ◌≢◌, ◌<◌, ◌≤◌, ◌⊎◌, ◌&&◌, Bool, true, false, List, Option, None, Result, Ok, Err, IfOk, IfErr, MatchBool, is_some, length}
+use Rattle.std.specs.Prelude.{ℕ, zero, suc, ◌≡◌, ◌≢◌, ◌<◌, ◌≤◌, ◌⊎◌, ◌&&◌, Bool, true, false, List, Option, None, Result, Ok, Err, MatchBool, is_some}
 use Rattle.mt_types.specs.Limits.{key_fault, request_fault}
-use Rattle.mt_types.specs.declared.limits.TheConstants.{MAX_KEY_BYTES}
 use Rattle.mt_types.specs.declared.refusal.Refusal.{Refusal}
 use Rattle.mt_types.specs.declared.refusal.Refusal.TheVariants.{NoMemory}
 use Rattle.mt_types.specs.declared.event.Answer.{Answer}
-use Rattle.mt_types.specs.declared.event.Answer.TheVariants.{Removed, Tidied}
+use Rattle.mt_types.specs.declared.event.Answer.TheVariants.{Tidied}
 use Rattle.mt_types.specs.declared.event.Event.{Event}
 use Rattle.mt_types.specs.declared.event.Event.TheVariants.{Collect}
 use Rattle.mt_types.specs.declared.event.Outcome.{Outcome}
 use Rattle.mt_types.specs.declared.event.Outcome.TheVariants.{Freed}
-use Rattle.mt_types.specs.declared.event.Reply.{Reply}
 use Rattle.mt_types.specs.declared.event.Request.{Request}
 use Rattle.mt_types.specs.declared.event.Request.TheVariants.{Remove, Tidy}
 use Rattle.mt_types.specs.declared.event.TidyRule.{TidyRule}
 use Rattle.mt_types.specs.declared.event.TidyRule.TheVariants.{Nothing}
-use Rattle.mt_index.specs.Alone.{AnswersPlainly, RefusesPlainly}
-use Rattle.mt_index.specs.Events.{HappensAlone, Makes, last_outcome}
+use Rattle.mt_index.specs.Events.{Makes}
 use Rattle.mt_index.specs.Stands.{MachineView}
 use Rattle.mt_walk.specs.Emptied.{IsEmptied}
+use Rattle.mt_walk.specs.declared.place.TheConstants.{MAX_TIDIES}
 use Rattle.mt_map.specs.Calls.{CameTo, removed_by}
-use Rattle.mt_map.specs.declared.tidying.TheConstants.{MAX_TIDIES}
 
 -- a machine on which no call is open, and whether tidies follow its removes
 pub record MapView : Type 0 where
@@ -57,46 +54,18 @@ pub record Purges (s : MachineView) (key : List ℕ) (t : MachineView) : Type 0 
 abbrev pub PurgesIfEmptied : MachineView → List ℕ → MachineView → Type 0
 PurgesIfEmptied s key t = (empty : Bool) × IsEmptied s.tree key empty × MatchBool empty (Purges s key t) (t ≡ s)
 
--- ---- calls of a machine
-
-abbrev pub removes : Answer → Bool
-removes (Removed commit) = true
-removes _ = false
-
-abbrev pub has_removed : Result Reply Refusal → Bool
-has_removed (Ok reply) = removes reply.answer
-has_removed (Err refusal) = false
-
--- what follows a call alone: tidies if it has removed a row
-abbrev pub PurgesAfter : Request → Result Reply Refusal → MachineView → MachineView → Type 0
-PurgesAfter (Remove key) ended s t = MatchBool (has_removed ended) (PurgesIfEmptied s key t) (t ≡ s)
-PurgesAfter request ended s t = t ≡ s
-
--- a request that removes no row: it is no remove, or its key is too long
-abbrev pub RemovesNone : Request → Type 0
-RemovesNone (Remove key) = MAX_KEY_BYTES < length key
-RemovesNone request = Unit {0}
-
--- A CALL ALONE, AND WHAT FOLLOWS
-pub record DoesAndTidies (s : MachineView) (request : Request) (ended : Result Reply Refusal) (t : MachineView) : Type 0 where
-  pub done : MachineView
-  pub answered : IfOk ended (λ reply. AnswersPlainly s request reply done)
-  pub refused : IfErr ended (λ refusal. RefusesPlainly s request refusal done)
-  pub happens : HappensAlone s request (last_outcome ended) done
-  pub follows : PurgesAfter request ended done t
-
--- or memory for a copy of the key was refused before it: then nothing happened
-pub record IsShort (s : MachineView) (request : Request) (ended : Result Reply Refusal) (t : MachineView) : Type 0 where
-  pub within : request_fault s.columns request ≡ None
-  pub short : ended ≡ Err NoMemory
-  pub same : t ≡ s
-
 -- ---- calls of a map
 
 -- WHAT A CALL OF A MAP CAME TO (see `CameTo`); whether tidies follow removes is as before
 pub record MapCameTo (s : MapView) (request : Request) (result : Result Answer Refusal) (t : MapView) : Type 0 where
   pub came : CameTo s.machine request result t.machine
   pub tidies : t.tidies ≡ s.tidies
+
+-- WHAT A CALL OF A MAP CAME TO whose bytes are borrowed (see `CameTo`). It is also refused if memory for a copy of them
+-- was refused: then it breaks no limit, and nothing happened.
+abbrev pub MapComesTo : MapView → Request → Result Answer Refusal → MapView → Type 0
+MapComesTo s request result t = MapCameTo s request result t
+    ⊎ ((result ≡ Err NoMemory) × (request_fault s.machine.columns request ≡ None) × (t ≡ s))
 
 -- an event happens to the machine of a map; whether tidies follow removes is as before
 pub record MapMakes (s : MapView) (event : Event) (outcome : Outcome) (t : MapView) : Type 0 where
@@ -115,3 +84,9 @@ abbrev pub Removes : MapView → List ℕ → Result (Option ℕ) Refusal → Ma
 Removes s key (Ok found) t = RemovesAndTidies s key found t
 Removes s key (Err refusal) t = MapCameTo s (Remove key) (Err refusal) t
     ⊎ ((refusal ≡ NoMemory) × (key_fault key ≡ None) × (t ≡ s))
+
+-- WHAT A CHANGE CAME TO that was asked for in borrowed bytes
+abbrev pub ChangeComesTo : MapView → Request → Result Answer Refusal → MapView → Type 0
+ChangeComesTo s (Remove key) result t =
+    (found : Result (Option ℕ) Refusal) × (result ≡ removed_by found) × Removes s key found t
+ChangeComesTo s request result t = MapComesTo s request result t

@@ -1,23 +1,26 @@
 //! The map: what it holds, how it is opened, and how its rows are read.
 
-ghost use Rattle.std.specs.Prelude.{◌≡◌, ◌↔◌, IsTrue, IsSome, IfOk, IfErr, MatchOption, Err, [], length, take, drop};
-ghost use Rattle.std.specs.Option.{option_copied, option_or};
+ghost use Rattle.std.specs.Prelude.{◌≡◌, ◌↔◌, IsTrue, IsSome, IsOk, IfOk, IfErr, MatchOption, Err, None, [], length, take, drop};
+ghost use Rattle.std.specs.Option.{option_copied};
 ghost use Rattle.std.specs.FinMap.{get};
-ghost use Rattle.mt_types.specs.Limits.{columns_fault, key_fault, limit_fault, open_fault};
+ghost use Rattle.mt_types.specs.Limits.{key_fault, open_fault, request_fault};
+ghost use Rattle.mt_types.specs.declared.event.Request.TheVariants.{Range};
 ghost use Rattle.mt_promise.specs.Alone.{IsRangeOfMap};
 ghost use Rattle.mt_promise.specs.History.{History, moment, rows};
 ghost use Rattle.mt_arena.specs.Node.{occupied};
 ghost use Rattle.mt_commit.specs.Log.{newest};
 ghost use Rattle.mt_commit.specs.Logged.{deltas_of};
+ghost use Rattle.mt_index.specs.Alone.{IsIdle};
 ghost use Rattle.mt_index.specs.Feed.{feed_fault};
 ghost use Rattle.mt_index.specs.Stands.{HasBounds, Stands};
 
+use crate::limits::{key_fault, range_fault};
 use bytes::Bytes;
 use mt_index::machine::Machine;
 use mt_index::options::Options;
+use mt_types::items::Items;
 use mt_types::key::Key;
-use mt_types::limits::MAX_KEY_BYTES;
-use mt_types::refusal::Refusal;
+use mt_types::refusal::{NoMemory, Refusal};
 use mt_types::row::{ColumnNumbers, Delta, Pairs, Row};
 use std::alloc::Global;
 use std::marker::Model;
@@ -57,8 +60,52 @@ impl Drop for Map {
     }
 }
 
+// The key of these bytes. Copies them.
+pub(crate) fn key_of(alloc: Global, bytes: &[u8]) -> Result<Key, Refusal>
+    ensures key { IfOk result (λ key. key ≡ bytes.now) }
+    ensures fault { MatchOption (key_fault bytes.now) (IfErr result (λ refusal. refusal ≡ Refusal.NoMemory))
+        (λ refusal. result ≡ Err refusal) }
+{
+    if let Some(refusal) = key_fault(bytes) {
+        return Err(refusal);
+    }
+    match Bytes::copy_from_slice(alloc, bytes) {
+        Ok(bytes) => Key::new(bytes),
+        Err(_) => Err(Refusal::NoMemory),
+    }
+}
+
+fn numbers_of(alloc: Global, columns: &[u8]) -> Result<ColumnNumbers, NoMemory>
+    ensures { IfOk result (λ made. made ≡ columns.now) }
+{
+    let mut made = Vec::new(alloc);
+    made.extend_from_slice(columns)?;
+    Ok(Items::from_vec(made))
+}
+
+// The first rows from a key on. Copies the bytes of what is asked for.
+fn pairs_of(
+    alloc: Global,
+    machine: &Machine,
+    start: &[u8],
+    limit: u16,
+    columns: &[u8],
+) -> Result<Pairs, Refusal>
+    requires idle { IsIdle machine.now }
+    requires fits { request_fault machine.now.columns (Range start.now limit columns.now) ≡ None }
+    ensures pairs { IfOk result (λ pairs. (h : History) → Stands machine.now h
+        → IsRangeOfMap (rows machine.now.columns (moment h)) columns.now start.now limit pairs) }
+    ensures fault { IfErr result (λ refusal. refusal ≡ Refusal.NoMemory) }
+{
+    let start = key_of(alloc, start)?;
+    let columns = numbers_of(alloc, columns)?;
+    machine.range(alloc, start, limit, columns)
+}
+
 impl Map {
     /// Opens an empty map. It keeps `alloc` for its later allocations. A few allocations.
+    ///
+    ///     let mut map = Map::open(rt.alloc(), Options::default())?;
     ///
     /// # Errors
     ///
@@ -80,6 +127,8 @@ impl Map {
     }
 
     /// Returns how many columns a row has.
+    ///
+    ///     println!(rt; "{} columns", map.columns())?;
     pub fn columns(&self) -> u8
         ensures { result ≡ self.now.machine.columns }
     {
@@ -87,14 +136,20 @@ impl Map {
     }
 
     /// Returns how many commits have been made.
+    ///
+    ///     let seen = map.commits();
     pub fn commits(&self) -> u64
         ensures number { result ≡ newest self.now.machine.log }
         ensures told { (h : History) → Stands self.now.machine h → result ≡ length (moment h).commits }
+        ensures stands { (h : History) × Stands self.now.machine h }
     {
+        let _stands = self.machine.is_idle();
         self.machine.commits()
     }
 
     /// Returns how many of the `MAX_NODES` node numbers are occupied.
+    ///
+    ///     println!(rt; "{} nodes", map.nodes())?;
     pub fn nodes(&self) -> usize
         ensures { result ≡ occupied self.now.machine.tree.nodes }
     {
@@ -103,15 +158,11 @@ impl Map {
 
     /// Returns the row of `key`, borrowed, or `None` if it has none.
     ///
+    ///     if let Some(row) = map.get(b"apple")? {
+    ///         println!(rt; "{} bytes, version {}", row.columns.get_or_empty(0).len(), row.version)?;
+    ///     }
+    ///
     /// Costs the visit of each node on the way to the key. Allocates nothing, and copies nothing.
-    pub fn row(&self, key: &Key) -> Option<&Row>
-        ensures { (h : History) → Stands self.now.machine h
-            → option_copied result ≡ get (rows self.now.machine.columns (moment h)) key.now }
-    {
-        self.machine.row(key.as_slice())
-    }
-
-    /// Returns the row of `key`, borrowed, or `None` if it has none. Does what [`Map::row`] does, of bytes of any length.
     ///
     /// # Errors
     ///
@@ -119,15 +170,19 @@ impl Map {
     pub fn get(&self, key: &[u8]) -> Result<Option<&Row>, Refusal>
         ensures row { IfOk result (λ row. (h : History) → Stands self.now.machine h
             → option_copied row ≡ get (rows self.now.machine.columns (moment h)) key.now) }
-        ensures fault { IfErr result (λ refusal. key_fault key.now ≡ Some refusal) }
+        ensures fault { MatchOption (key_fault key.now) (IsOk result) (λ refusal. result ≡ Err refusal) }
     {
-        if key.len() > MAX_KEY_BYTES {
-            return Err(Refusal::KeyTooLong);
+        if let Some(refusal) = key_fault(key) {
+            return Err(refusal);
         }
         Ok(self.machine.row(key))
     }
 
     /// Returns whether `key` has a row. Costs what [`Map::get`] costs.
+    ///
+    ///     if !map.contains_key(b"apple")? {
+    ///         let _ = map.put(b"apple", &[])?;
+    ///     }
     ///
     /// # Errors
     ///
@@ -135,13 +190,16 @@ impl Map {
     pub fn contains_key(&self, key: &[u8]) -> Result<bool, Refusal>
         ensures there { IfOk result (λ there. (h : History) → Stands self.now.machine h
             → IsTrue there ↔ IsSome (get (rows self.now.machine.columns (moment h)) key.now)) }
-        ensures fault { IfErr result (λ refusal. key_fault key.now ≡ Some refusal) }
+        ensures fault { MatchOption (key_fault key.now) (IsOk result) (λ refusal. result ≡ Err refusal) }
     {
         Ok(self.get(key)?.is_some())
     }
 
     /// Returns the first rows whose keys are at or after `start`, at most `limit`, in the order of keys, each with the
     /// columns that are asked for, or with all if none is asked for.
+    ///
+    ///     let pairs = map.pairs(b"a", 10, &[])?;
+    ///     println!(rt; "{} rows", pairs.len())?;
     ///
     /// Costs the visit of the nodes on the way to `start`, and of each border from there on. Allocates for the keys,
     /// and for the columns if some are asked for; all columns of a row are shared.
@@ -151,18 +209,24 @@ impl Map {
     /// `KeyTooLong` if `start` has more than `MAX_KEY_BYTES` bytes; `BadColumn` if a column does not exist or is named
     /// twice; `BadLimit` if `limit` is 0 or more than `MAX_RANGE`; `NoMemory` if an allocation is refused. The first of
     /// these that applies.
-    pub fn range(&self, start: Bytes, limit: u16, columns: ColumnNumbers) -> Result<Pairs, Refusal>
+    pub fn pairs(&self, start: &[u8], limit: u16, columns: &[u8]) -> Result<Pairs, Refusal>
         ensures pairs { IfOk result (λ pairs. (h : History) → Stands self.now.machine h
-            → IsRangeOfMap (rows self.now.machine.columns (moment h)) columns start limit pairs) }
-        ensures fault { MatchOption (option_or (key_fault start) (option_or (columns_fault self.now.machine.columns columns) (limit_fault limit)))
+            → IsRangeOfMap (rows self.now.machine.columns (moment h)) columns.now start.now limit pairs) }
+        ensures fault { MatchOption (request_fault self.now.machine.columns (Range start.now limit columns.now))
             (IfErr result (λ refusal. refusal ≡ Refusal.NoMemory)) (λ refusal. result ≡ Err refusal) }
     {
-        let start = Key::new(start)?;
-        self.machine.range(self.alloc, start, limit, columns)
+        if let Some(refusal) = range_fault(self.columns(), start, limit, columns) {
+            return Err(refusal);
+        }
+        pairs_of(self.alloc, &self.machine, start, limit, columns)
     }
 
     /// Returns the deltas of the commits after the first `from`, at most `limit`, in their order, as `Machine::feed`
     /// does.
+    ///
+    ///     for delta in map.feed(seen, 100)?.iter() {
+    ///         println!(rt; "commit {}", delta.number)?;
+    ///     }
     ///
     /// # Errors
     ///

@@ -1,8 +1,9 @@
 //! How the views of a map are read, advanced and dropped, and how its memory is freed: each by one event.
 
-ghost use Rattle.std.specs.Prelude.{◌≡◌, ◌≤◌, IfOk, IfErr};
+ghost use Rattle.std.specs.Prelude.{◌≡◌, ◌≤◌, IfOk, IfErr, None, []};
+ghost use Rattle.mt_types.specs.Limits.{page_fault};
 ghost use Rattle.mt_types.specs.declared.event.Event.TheVariants.{Apply, Collect, ViewDrop};
-ghost use Rattle.mt_types.specs.declared.event.Outcome.TheVariants.{Dropped, Freed};
+ghost use Rattle.mt_types.specs.declared.event.Outcome.TheVariants.{Dropped, Freed, Refused};
 ghost use Rattle.mt_promise.specs.History.{History, moment};
 ghost use Rattle.mt_index.specs.Alone.{IsIdle};
 ghost use Rattle.mt_index.specs.Events.{Makes};
@@ -15,6 +16,7 @@ use crate::map::Map;
 use bytes::Bytes;
 use mt_index::machine::Machine;
 use mt_types::event::{Event, Outcome};
+use mt_types::limits::page_fault;
 use mt_types::numbers::ViewNo;
 use mt_types::refusal::Refusal;
 use mt_types::view::Page;
@@ -43,27 +45,76 @@ pub(crate) fn free(alloc: Global, machine: &mut Machine) -> u32
     }
 }
 
+// Why a page that breaks no limit is refused, if memory for a copy of its start was refused. A cause that its view has
+// comes first: it is found by reading a page with an empty start, of which nothing is copied.
+fn page_cause(alloc: Global, machine: &Machine, view: ViewNo, floor: u64) -> Refusal
+    ensures { ReadsView machine.now view.0 floor [] 1 (Refused result) }
+{
+    match machine.page(alloc, view, floor, &Bytes::new(), 1) {
+        Ok(_) => Refusal::NoMemory,
+        Err(refusal) => refusal,
+    }
+}
+
+// Reads a page of a view. Tests limits, and then copies the start.
+fn page_from(
+    alloc: Global,
+    machine: &Machine,
+    view: ViewNo,
+    floor: u64,
+    start: &[u8],
+    limit: u16,
+) -> Result<Page, Refusal>
+    ensures { ReadsView machine.now view.0 floor start.now limit (page_outcome result) }
+{
+    if let Some(refusal) = page_fault(start, limit) {
+        return Err(refusal);
+    }
+    match Bytes::copy_from_slice(alloc, start) {
+        Ok(start) => machine.page(alloc, view, floor, &start, limit),
+        Err(_) => Err(page_cause(alloc, machine, view, floor)),
+    }
+}
+
 impl Map {
+    /// Makes an event that is no part of a call, for callers that choose it while they run.
+    ///
+    ///     let outcome = map.event(&Event::Advance);
+    ///
+    /// Costs what the event costs. A refused event changes nothing.
+    pub fn event(&mut self, event: &Event) -> Outcome
+        requires { IsOutside event.now }
+        ensures { MapMakes self.old event.now result self.new }
+    {
+        meet(self.alloc, &mut self.machine, event)
+    }
+
     /// Reads a page of a view: its count, its sums, and its first rows whose keys are at or after `start`, at most
     /// `limit`. The page is at `floor` commits or more. Nothing happens to the map.
     ///
-    /// Costs O(log n + k) for a page of k rows, which share the bytes of the view's.
+    ///     let page = map.page(view, map.commits(), b"", 10)?;
+    ///     println!(rt; "{} rows in all", page.count)?;
+    ///
+    /// Costs O(log n + k) for a page of k rows, which share the bytes of the view's. Copies the start.
     ///
     /// # Errors
     ///
     /// `KeyTooLong`; `BadLimit` unless `limit` is from 1 to `MAX_RANGE`; `NoSuchView` if no view has this number;
-    /// `Behind`, with the number of commits at which the view is, if they are fewer than `floor`; `NoMemory`.
-    pub fn page(&self, view: ViewNo, floor: u64, start: &Bytes, limit: u16) -> Result<Page, Refusal>
+    /// `Behind`, with the number of commits at which the view is, if they are fewer than `floor`; `NoMemory`. The first
+    /// of these that applies.
+    pub fn page(&self, view: ViewNo, floor: u64, start: &[u8], limit: u16) -> Result<Page, Refusal>
         ensures page { ReadsView self.now.machine view.0 floor start.now limit (page_outcome result) }
         ensures exact { IfOk result (λ page. (h : History) → Stands self.now.machine h
             → ShowsView self.now.machine.columns (moment h) view.0 start.now limit page) }
         ensures floor { IfOk result (λ page. floor ≤ page.at) }
     {
         states_show_pages();
-        self.machine.page(self.alloc, view, floor, start, limit)
+        page_from(self.alloc, &self.machine, view, floor, start, limit)
     }
 
     /// Ends a view. Its number isn't used again. O(n) in the rows of the view.
+    ///
+    ///     map.drop_view(view)?;
     ///
     /// # Errors
     ///
@@ -82,6 +133,10 @@ impl Map {
     /// which it then is, or `None` if it was at the newest commit, or if `view` is 0 and no view is behind. O(log n) in
     /// the rows of the view.
     ///
+    ///     if let Some(at) = map.apply(view)? {
+    ///         println!(rt; "at commit {at}")?;
+    ///     }
+    ///
     /// # Errors
     ///
     /// `NoSuchView` if no view has this number; `NoMemory`. Nothing has changed then.
@@ -98,6 +153,8 @@ impl Map {
 
     /// Advances views, in at most `turns` turns: each advances the view that is furthest behind by one commit. Returns
     /// how many turns have advanced a view. If they are fewer than `turns`, all views are at the newest commit.
+    ///
+    ///     let _ = map.keep_views(100)?;
     ///
     /// # Errors
     ///
@@ -116,6 +173,8 @@ impl Map {
     }
 
     /// Frees the nodes that tidies have taken out, and returns how many. O(n) in these nodes.
+    ///
+    ///     let freed = map.collect();
     pub fn collect(&mut self) -> u32
         ensures { MapMakes self.old Collect (Freed result) self.new }
     {

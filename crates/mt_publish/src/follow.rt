@@ -8,7 +8,7 @@ ghost use Rattle.mt_publish.specs.Marks.{StartsWith};
 ghost use Rattle.mt_publish.specs.Follows.{Follows};
 
 use crate::publisher::Publisher;
-use mt_shared::index::Door;
+use mt_shared::door::Door;
 use mt_types::refusal::Refusal;
 use mt_types::row::Delta;
 use std::alloc::Global;

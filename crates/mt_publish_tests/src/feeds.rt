@@ -9,8 +9,9 @@ use mt_index::machine::Machine;
 use mt_index::options::Options;
 use mt_publish::follow::follow;
 use mt_publish::publisher::{Publisher, ViewReader};
-use mt_shared::calls::{put, remove, view_add};
-use mt_shared::index::{Door, Index};
+use mt_shared::asking::ask;
+use mt_shared::door::Door;
+use mt_shared::map::SharedMap;
 use mt_shared::pass::Pass;
 use mt_types::event::{Answer, Request};
 use mt_types::items::Items;
@@ -119,8 +120,8 @@ fn put_one<R: Wait>(
     key: &'static [u8],
     value: &'static [u8],
 ) -> Result<(), Refusal> {
-    let sets = sets_of(alloc, value)?;
-    let _ = put(alloc, door, pass, Bytes::from_static(key), sets)?;
+    let (key, sets) = (Bytes::from_static(key), sets_of(alloc, value)?);
+    let _ = ask(alloc, door, pass, Request::Put { key, sets })?;
     Ok(())
 }
 
@@ -132,12 +133,12 @@ fn copy_of_two<R: Wait>(
 ) -> Result<ViewState, Refusal> {
     put_one(alloc, door, pass, ONE, ONE)?;
     put_one(alloc, door, pass, TWO, TWO)?;
-    let everything = ViewSpec::Range {
+    let spec = ViewSpec::Range {
         lo: Bytes::new(),
         hi: None,
         test: RowTest::Any,
     };
-    let Answer::Built(view) = view_add(alloc, door, pass, everything)?.answer else {
+    let Answer::Built(view) = ask(alloc, door, pass, Request::Build { spec })?.answer else {
         return Err(Refusal::NoSuchView);
     };
     let (_, state) = door.view_copy(alloc, view)?;
@@ -147,14 +148,15 @@ fn copy_of_two<R: Wait>(
 #[test]
 fn follows_from_a_copy(rt: HostRuntime) -> Result<(), Fail> {
     let alloc = rt.alloc();
-    let (index, mut passes) = Index::start(alloc, OPTIONS, 1)?;
+    let (index, mut passes) = SharedMap::start(alloc, OPTIONS, 1)?;
     let mut pass = passes.pop().expect(&rt, "one pass");
-    let mut door = Door::new(&index, &rt);
+    let mut door = Door::new(&index, &rt, 1);
     let state = copy_of_two(alloc, &mut door, &mut pass)?;
     let (mut publisher, mut readers) = Publisher::start(alloc, &rt, state, 1)?;
     let mut reader = readers.pop().expect(&rt, "one reader");
     put_one(alloc, &mut door, &mut pass, b"\x03", b"\x05")?;
-    let _ = remove(alloc, &mut door, &mut pass, Bytes::from_static(ONE))?;
+    let key = Bytes::from_static(ONE);
+    let _ = ask(alloc, &mut door, &mut pass, Request::Remove { key })?;
     assert!(rt; comes_to(&read_all(&mut reader)?, 2, 2, 3));
     assert_eq!(rt; follow(alloc, &door, &mut publisher, 1000)?, 2);
     let page = read_all(&mut reader)?;
@@ -168,9 +170,9 @@ fn follows_from_a_copy(rt: HostRuntime) -> Result<(), Fail> {
 #[test]
 fn counts_never_fall_from_a_copy(rt: HostRuntime) -> Result<(), Fail> {
     let alloc = rt.alloc();
-    let (index, mut passes) = Index::start(alloc, OPTIONS, 1)?;
+    let (index, mut passes) = SharedMap::start(alloc, OPTIONS, 1)?;
     let mut pass = passes.pop().expect(&rt, "one pass");
-    let mut door = Door::new(&index, &rt);
+    let mut door = Door::new(&index, &rt, 1);
     let state = copy_of_two(alloc, &mut door, &mut pass)?;
     let seen = read_beside(&rt, alloc, state, Changes::OfNewKeys, 1)?;
     assert_eq!(rt; seen, Seen::of_new_keys(CHANGES + 2));
@@ -180,9 +182,9 @@ fn counts_never_fall_from_a_copy(rt: HostRuntime) -> Result<(), Fail> {
 #[test]
 fn a_gap_is_refused(rt: HostRuntime) -> Result<(), Fail> {
     let alloc = rt.alloc();
-    let (index, mut passes) = Index::start(alloc, OPTIONS, 1)?;
+    let (index, mut passes) = SharedMap::start(alloc, OPTIONS, 1)?;
     let mut pass = passes.pop().expect(&rt, "one pass");
-    let mut door = Door::new(&index, &rt);
+    let mut door = Door::new(&index, &rt, 1);
     for _ in 0..4 {
         put_one(alloc, &mut door, &mut pass, b"\x01", b"\x01")?;
     }

@@ -220,7 +220,10 @@ drop_is (Some v) (Err refusal) may = let clash : outcomes.Refused refusal ≡ ou
 asks_are : (s t : Store) (query : Query) (response : Response) → 0 < s.machine.log.feed → NoneBehind 0 s → PlainlyAsks s query response t → IsAmple response → IsAnswer s.machine.columns (now s) query response
 asks_are s t (Call request) response feed close (result, ends, is) ample =
     subst (IsAnswer s.machine.columns (now s) (Call request)) (sym is) (call_is s t request result feed close ends (subst IsAmple is ample))
-asks_are s t (ViewRead view floor start limit) response feed close (result, (leads, (note, may)), is) ample =
+asks_are s t (ViewRead view floor start limit) response feed close (result, inl (leads, (note, may)), is) ample =
+    subst (IsAnswer s.machine.columns (now s) (ViewRead view floor start limit)) (sym is)
+    (page_is s.machine.columns (now s) (page_fault start limit) view.0 floor start limit result may (subst IsAmple is ample))
+asks_are s t (ViewRead view floor start limit) response feed close (result, inr (same, (note, may)), is) ample =
     subst (IsAnswer s.machine.columns (now s) (ViewRead view floor start limit)) (sym is)
     (page_is s.machine.columns (now s) (page_fault start limit) view.0 floor start limit result may (subst IsAmple is ample))
 asks_are s t (ViewDrop view) response feed close (result, (leads, (note, may)), is) ample =

@@ -22,7 +22,7 @@ use Rattle.mt_wire.specs.Answered.{end_of}
 use Rattle.mt_serve.specs.Asking.{call_response, changes, end_changes}
 use Rattle.mt_serve.specs.Store.{Store, now, newest}
 use Rattle.mt_serve.specs.Plain.{CallRuns, IsReadAtOnce, CallEnds, PlainlyAsks, PlainlyFollows, NoneBehind, MayBeTidied, TidiesPlainly, TidiesPlainlyOnce}
-use Rattle.mt_shared.specs.declared.tidying.TheConstants.{MAX_TIDIES}
+use Rattle.mt_walk.specs.declared.place.TheConstants.{MAX_TIDIES}
 use Rattle.mt_serve.specs.Ample.{RanOutBefore, ViewsStayNewest}
 
 -- each of these views is at most this many commits short of the number n
@@ -123,7 +123,10 @@ asks_close : (s t : Store) (query : Query) (response : Response) → NoneBehind 
 asks_close s t (Call request) response close (result, ends, is) =
     let (one, none) = call_close s t request result close ends in
     (one, λ same. none (ap changes (sym is) ∙ same))
-asks_close s t (ViewRead view floor start limit) response close (result, ((all, (note, past)), may), is) =
+asks_close s t (ViewRead view floor start limit) response close (result, inr (same, shown), is) =
+    let still : NoneBehind 0 t = subst (NoneBehind 0) (sym same) close in
+    (close_more (newest t) (newest t) 1 (now t).views (omega arith) still, λ none. still)
+asks_close s t (ViewRead view floor start limit) response close (result, inl ((all, (note, past)), may), is) =
     let still : NoneBehind 0 t = subst (λ (h : History). Close 0 (length (moment h).commits) (moment h).views) (sym past) close in
     (close_more (newest t) (newest t) 1 (now t).views (omega arith) still, λ none. still)
 asks_close s t (ViewDrop view) response close (Ok done, ((all, (note, past)), may), is) =

@@ -20,7 +20,7 @@ use Rattle.mt_shared.specs.Passes.{PassView}
 use Rattle.mt_shared.specs.Kept.{KeptView, IsRefusedBy}
 use Rattle.mt_shared.specs.Reads.{IsRead, IsPlainNow, IsReadNow, IsToldNow, MustDrive, ReadsNow, read_reply}
 use Rattle.mt_shared.proofs.ReadLemmas.{unbroken}
-use Rattle.mt_shared.specs.Tidies.{RemovesWithin}
+use Rattle.mt_walk.specs.Removes.{RemovesWithin}
 use Rattle.mt_serve.specs.Plain.{AloneReadsAtOnce, IsAlone, IsReadAtOnce, store_of}
 
 -- if no call is open in the history, none is in the machine

@@ -147,7 +147,7 @@ module _ (P : Refusal → Type 0) where
     moved (Made place stored columns logged) new e never fails says = absurd never
     moved (Taken place stored before) new e never fails says = absurd never
     moved (Hidden commit) new e (inl is, to) fails says = subst StageSays (sym is) tt
-    moved (Hidden commit) new e (inr is, to) fails says = subst StageSays (sym is) tt
+    moved (Hidden commit) new e (inr (is, spent), to) fails says = subst StageSays (sym is) tt
     moved _ new e stays fails says = subst StageSays (sym stays.0) tt
 
     rests : (stage new : Stage) → StageRests a way stage next new → StageSays stage → StageSays new

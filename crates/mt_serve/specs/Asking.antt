@@ -1,14 +1,14 @@
 -- What is done for a query, and what is answered: over any events that are made on what is shared.
 use Rattle.std.specs.Prelude.{ℕ, ◌≡◌, ◌⊎◌, ⊤, Bool, true, false, List, [], ◌∷◌, Result, Ok, Err, MatchBool}
 use Rattle.mt_types.specs.declared.refusal.Refusal.{Refusal}
-use Rattle.mt_types.specs.declared.event.Event.TheVariants.{ViewRead as ReadOf, ViewDrop as DropOf}
+use Rattle.mt_types.specs.declared.event.Event.TheVariants.{ViewDrop as DropOf}
 use Rattle.mt_types.specs.declared.event.Reply.{Reply}
 use Rattle.mt_types.specs.declared.view.Page.{Page}
 use Rattle.mt_shared.specs.Passes.{PassView}
 use Rattle.mt_shared.specs.Drives.{EventLaw}
 use Rattle.mt_shared.specs.Reads.{ReadLaw, IsCall}
+use Rattle.mt_shared.specs.Pages.{PageLaw, PageIsRead}
 use Rattle.mt_shared.specs.Tidies.{IsShort, LookLaw, PurgesAfter}
-use Rattle.mt_index.specs.Viewing.{page_outcome}
 use Rattle.mt_shared.specs.Turns.{drop_outcome, KeepsUp, IsStopped}
 use Rattle.mt_wire.specs.declared.query.Query.{Query}
 use Rattle.mt_wire.specs.declared.query.Query.TheVariants.{Call, ViewRead, ViewDrop}
@@ -36,15 +36,15 @@ drop_response (Err refusal) = Refused refusal
 -- ---- one query
 
 -- A call is read at once if it may be, and else driven from its begin to its end, unless memory is short before a remove;
--- a page is read, or a view dropped, by one event. This is the answer.
-abbrev pub Asks : {S : Type 0} → EventLaw S → ReadLaw S → S → PassView → Query → Response → S → PassView → Type 0
-Asks does shows s p (Call request) response t q =
+-- a page is read at once if it may be, and else by one event; a view is dropped by one event. This is the answer.
+abbrev pub Asks : {S : Type 0} → EventLaw S → ReadLaw S → PageLaw S → S → PassView → Query → Response → S → PassView → Type 0
+Asks does shows pages s p (Call request) response t q =
     (result : Result Reply Refusal) × (IsCall does shows s p request result t q ⊎ IsShort s p request result t q)
     × (response ≡ call_response result)
-Asks does shows s p (ViewRead view floor start limit) response t q =
-    (result : Result Page Refusal) × does s p (ReadOf view floor start limit) (page_outcome result) t q
+Asks does shows pages s p (ViewRead view floor start limit) response t q =
+    (result : Result Page Refusal) × PageIsRead does pages s p view floor start limit result t q
     × (response ≡ page_response result)
-Asks does shows s p (ViewDrop view) response t q =
+Asks does shows pages s p (ViewDrop view) response t q =
     (result : Result ⊤ Refusal) × does s p (DropOf view) (drop_outcome result) t q × (response ≡ drop_response result)
 
 abbrev pub end_changes : End → Bool
@@ -73,32 +73,32 @@ Follows {S} does looks query s p t q =
     (m : S) × (r : PassView) × KeepsViews does s p m r × PurgesFor does looks query m r t q
 
 -- A QUERY IS ANSWERED: it is done, and this follows if it changed rows or built a view.
-abbrev pub Answers : {S : Type 0} → EventLaw S → ReadLaw S → LookLaw S → S → PassView → Query → Response → S → PassView → Type 0
-Answers {S} does shows looks s p query response t q =
-    (m : S) × (r : PassView) × Asks does shows s p query response m r
+abbrev pub Answers : {S : Type 0} → EventLaw S → ReadLaw S → PageLaw S → LookLaw S → S → PassView → Query → Response → S → PassView → Type 0
+Answers {S} does shows pages looks s p query response t q =
+    (m : S) × (r : PassView) × Asks does shows pages s p query response m r
     × MatchBool (changes response) (Follows does looks query m r t q) ((t ≡ m) × (q ≡ r))
 
 -- ---- one frame, and frames
 
 -- these queries, one after the other, each by one answer
-abbrev pub AnswersAll : {S : Type 0} → EventLaw S → ReadLaw S → LookLaw S → S → PassView → List Query → List Response → S → PassView → Type 0
-AnswersAll does shows looks s p [] [] t q = (t ≡ s) × (q ≡ p)
-AnswersAll {S} does shows looks s p (query ∷ queries) (response ∷ responses) t q =
-    (m : S) × (r : PassView) × Answers does shows looks s p query response m r × AnswersAll does shows looks m r queries responses t q
-AnswersAll does shows looks s p [] (response ∷ responses) t q = ⊥
-AnswersAll does shows looks s p (query ∷ queries) [] t q = ⊥
+abbrev pub AnswersAll : {S : Type 0} → EventLaw S → ReadLaw S → PageLaw S → LookLaw S → S → PassView → List Query → List Response → S → PassView → Type 0
+AnswersAll does shows pages looks s p [] [] t q = (t ≡ s) × (q ≡ p)
+AnswersAll {S} does shows pages looks s p (query ∷ queries) (response ∷ responses) t q =
+    (m : S) × (r : PassView) × Answers does shows pages looks s p query response m r × AnswersAll does shows pages looks m r queries responses t q
+AnswersAll does shows pages looks s p [] (response ∷ responses) t q = ⊥
+AnswersAll does shows pages looks s p (query ∷ queries) [] t q = ⊥
 
 -- a frame of queries, by one of as many answers, in its version
 abbrev pub AnswersFrame :
-    {S : Type 0} → EventLaw S → ReadLaw S → LookLaw S → S → PassView → Frame Query → Frame Response → S → PassView → Type 0
-AnswersFrame does shows looks s p frame reply t q =
-    (reply.version ≡ frame.version) × AnswersAll does shows looks s p frame.messages reply.messages t q
+    {S : Type 0} → EventLaw S → ReadLaw S → PageLaw S → LookLaw S → S → PassView → Frame Query → Frame Response → S → PassView → Type 0
+AnswersFrame does shows pages looks s p frame reply t q =
+    (reply.version ≡ frame.version) × AnswersAll does shows pages looks s p frame.messages reply.messages t q
 
 -- these frames, one after the other, each by one frame
 abbrev pub AnswersFrames :
-    {S : Type 0} → EventLaw S → ReadLaw S → LookLaw S → S → PassView → List (Frame Query) → List (Frame Response) → S → PassView → Type 0
-AnswersFrames does shows looks s p [] [] t q = (t ≡ s) × (q ≡ p)
-AnswersFrames {S} does shows looks s p (frame ∷ frames) (reply ∷ replies) t q =
-    (m : S) × (r : PassView) × AnswersFrame does shows looks s p frame reply m r × AnswersFrames does shows looks m r frames replies t q
-AnswersFrames does shows looks s p [] (reply ∷ replies) t q = ⊥
-AnswersFrames does shows looks s p (frame ∷ frames) [] t q = ⊥
+    {S : Type 0} → EventLaw S → ReadLaw S → PageLaw S → LookLaw S → S → PassView → List (Frame Query) → List (Frame Response) → S → PassView → Type 0
+AnswersFrames does shows pages looks s p [] [] t q = (t ≡ s) × (q ≡ p)
+AnswersFrames {S} does shows pages looks s p (frame ∷ frames) (reply ∷ replies) t q =
+    (m : S) × (r : PassView) × AnswersFrame does shows pages looks s p frame reply m r × AnswersFrames does shows pages looks m r frames replies t q
+AnswersFrames does shows pages looks s p [] (reply ∷ replies) t q = ⊥
+AnswersFrames does shows pages looks s p (frame ∷ frames) [] t q = ⊥

@@ -31,8 +31,10 @@ use Rattle.mt_shared.specs.declared.trace.Trace.TheVariants.{Off}
 use Rattle.mt_shared.specs.Passes.{PassView, IsNewPass}
 use Rattle.mt_shared.specs.Kept.{KeptView, Does, IsFresh, has_book}
 use Rattle.mt_shared.specs.Reads.{IsRead, ReadsNow}
-use Rattle.mt_shared.specs.Tidies.{Looks, RemovesWithin, has_taken_out}
-use Rattle.mt_shared.specs.declared.tidying.TheConstants.{MAX_TIDIES}
+use Rattle.mt_shared.specs.Pages.{PagesNow}
+use Rattle.mt_shared.specs.Tidies.{Looks, has_taken_out}
+use Rattle.mt_walk.specs.Removes.{RemovesWithin}
+use Rattle.mt_walk.specs.declared.place.TheConstants.{MAX_TIDIES}
 use Rattle.mt_index.specs.Viewing.{page_outcome}
 use Rattle.mt_shared.specs.Turns.{drop_outcome, furthest}
 use Rattle.mt_wire.specs.declared.query.Query.{Query}
@@ -105,13 +107,18 @@ abbrev pub OneHappens : Store → Event → Outcome → Store → Type 0
 OneHappens s event outcome t =
     Leads s (event ∷ []) (outcome ∷ []) t × ((note : ℕ) × MayHappen s.machine.columns s.past event outcome note)
 
+-- a page was read at once, and nothing happened: it is one with which the event that reads it may happen
+abbrev pub IsShownAtOnce : Store → Event → Outcome → Store → Type 0
+IsShownAtOnce s event outcome t = (t ≡ s) × ((note : ℕ) × MayHappen s.machine.columns s.past event outcome note)
+
 -- A page is what the view's filter and sums give afresh on the rows after the changes that it is at; a view that is
 -- dropped is there no more; each is refused if there is no such view.
 abbrev pub PlainlyAsks : Store → Query → Response → Store → Type 0
 PlainlyAsks s (Call request) response t =
     (result : Result Reply Refusal) × CallEnds s request result t × (response ≡ call_response result)
 PlainlyAsks s (ViewRead view floor start limit) response t =
-    (result : Result Page Refusal) × OneHappens s (ReadOf view floor start limit) (page_outcome result) t
+    (result : Result Page Refusal) × (OneHappens s (ReadOf view floor start limit) (page_outcome result) t
+    ⊎ IsShownAtOnce s (ReadOf view floor start limit) (page_outcome result) t)
     × (response ≡ page_response result)
 PlainlyAsks s (ViewDrop view) response t =
     (result : Result ⊤ Refusal) × OneHappens s (DropOf view) (drop_outcome result) t
@@ -232,7 +239,7 @@ FreshIsAlone =
 abbrev pub AloneReadsAtOnce : Type 0
 AloneReadsAtOnce =
     (s t : KeptView) (p q : PassView) (h : History) (request : Request) (response : Response)
-    → IsAlone s p h → s.trace ≡ Off → IsRead request → Asks Does ReadsNow s p (Call request) response t q
+    → IsAlone s p h → s.trace ≡ Off → IsRead request → Asks Does ReadsNow PagesNow s p (Call request) response t q
     → (result : Result Reply Refusal) × IsReadAtOnce (store_of s h) request result (store_of t h)
     × (response ≡ call_response result)
 
@@ -240,14 +247,14 @@ AloneReadsAtOnce =
 abbrev pub AloneAnswersPlainly : Type 0
 AloneAnswersPlainly =
     (s t : KeptView) (p q : PassView) (h : History) (queries : List Query) (responses : List Response)
-    → IsAlone s p h → t.events < greatest_number → AnswersAll Does ReadsNow Looks s p queries responses t q
+    → IsAlone s p h → t.events < greatest_number → AnswersAll Does ReadsNow PagesNow Looks s p queries responses t q
     → (then : History) × IsAlone t q then × (t.machine.columns ≡ s.machine.columns)
     × PlainlyAnswersAll (store_of s h) queries responses (store_of t then)
 
 abbrev pub AloneAnswersFramesPlainly : Type 0
 AloneAnswersFramesPlainly =
     (s t : KeptView) (p q : PassView) (h : History) (frames : List (Frame Query)) (replies : List (Frame Response))
-    → IsAlone s p h → t.events < greatest_number → AnswersFrames Does ReadsNow Looks s p frames replies t q
+    → IsAlone s p h → t.events < greatest_number → AnswersFrames Does ReadsNow PagesNow Looks s p frames replies t q
     → (then : History) × IsAlone t q then × (t.machine.columns ≡ s.machine.columns)
     × PlainlyAnswersFrames (store_of s h) frames replies (store_of t then)
 
@@ -264,7 +271,7 @@ pub record ServesPlainly (s : Store) (input : List ℕ) (old new : Option (List 
 abbrev pub AloneServesPlainly : Type 0
 AloneServesPlainly =
     (s t : KeptView) (p q : PassView) (h : History) (input : List ℕ) (old new : Option (List ℕ)) (summary : Summary)
-    → IsAlone s p h → t.events < greatest_number → IsServed Does ReadsNow Looks s p (Some input) old summary new t q
+    → IsAlone s p h → t.events < greatest_number → IsServed Does ReadsNow PagesNow Looks s p (Some input) old summary new t q
     → (then : History) × IsAlone t q then × ServesPlainly (store_of s h) input old new (store_of t then)
 
 -- A SESSION ALONE THAT BREAKS OFF: the frames before are answered plainly; then no frame is there, for this fault, after
@@ -303,5 +310,5 @@ abbrev pub AloneBreaksPlainly : Type 0
 AloneBreaksPlainly =
     (s t : KeptView) (p q : PassView) (h : History) (input : List ℕ) (unread old new : Option (List ℕ))
     (fault : SessionFault)
-    → IsAlone s p h → t.events < greatest_number → IsBroken Does ReadsNow Looks s p (Some input) old fault unread new t q
+    → IsAlone s p h → t.events < greatest_number → IsBroken Does ReadsNow PagesNow Looks s p (Some input) old fault unread new t q
     → (then : History) × IsAlone t q then × BreaksPlainly (store_of s h) input old fault unread new (store_of t then)

@@ -55,7 +55,7 @@ fn answer_call<S: Shared>(
     pass: &mut Pass,
     request: Request,
 ) -> Response
-    ensures answers { Answers S.does S.shows S.looks shared.old pass.old (Call request) result shared.new pass.new }
+    ensures answers { Answers S.does S.shows S.pages S.looks shared.old pass.old (Call request) result shared.new pass.new }
     ensures limited { ResponseIsLimited result }
 {
     match read_at_once(alloc, shared, pass, &request) {
@@ -65,13 +65,14 @@ fn answer_call<S: Shared>(
 }
 
 /// Does what a query asks, and returns its answer. A get or a range is read at once if it may be (`read_at_once`), and
-/// any other call is driven from its begin to its end (`drive_and_keep`). A page is read, or a view dropped, by one event.
+/// any other call is driven from its begin to its end (`drive_and_keep`). A page is read at once if it may be
+/// (`view_read`), and a view is dropped by one event.
 /// If the query changed rows or built a view, views are then advanced, in at most 64 turns, and tidies follow a remove.
 ///
 /// Over a `Door` each event or read holds the lock once, so events of other threads can come between them. Over a
-/// `ThroughDoor` the lock is held once for a change and the turns of its views, if the change ends in its first run.
+/// `Door` the lock is held once for a change and the turns of its views, if the change ends in its first run.
 pub fn answer<S: Shared>(alloc: Global, shared: &mut S, pass: &mut Pass, query: Query) -> Response
-    ensures answers { Answers S.does S.shows S.looks shared.old pass.old query result shared.new pass.new }
+    ensures answers { Answers S.does S.shows S.pages S.looks shared.old pass.old query result shared.new pass.new }
     ensures limited { ResponseIsLimited result }
 {
     match query {

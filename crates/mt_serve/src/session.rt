@@ -61,12 +61,12 @@ fn answer_each<S: Shared>(
     pass: &mut Pass,
     queries: Vec<Query>,
 ) -> Result<Vec<Response>, AllocError>
-    ensures all { IfOk result (λ responses. AnswersAll S.does S.shows S.looks shared.old pass.old queries.items responses.items shared.new
+    ensures all { IfOk result (λ responses. AnswersAll S.does S.shows S.pages S.looks shared.old pass.old queries.items responses.items shared.new
         pass.new) }
     ensures limited { IfOk result (λ responses. AllByRecursion ResponseIsLimited responses.items) }
     ensures part { OnErr result ((done : List Query) × (undone : List Query) × (responses : List Response)
         × (queries.items ≡ done ++ undone)
-        × AnswersAll S.does S.shows S.looks shared.old pass.old done responses shared.new pass.new) }
+        × AnswersAll S.does S.shows S.pages S.looks shared.old pass.old done responses shared.new pass.new) }
 {
     let mut responses = Vec::new(alloc);
     for query in queries {
@@ -106,9 +106,9 @@ fn answer_frame<W: Write, S: Shared>(
 ) -> Result<(), SessionFault>
     requires { RequestsFit frame }
     ensures answered { OnOk result ((reply : Frame Response)
-        × AnswersFrame S.does S.shows S.looks shared.old pass.old frame reply shared.new pass.new
+        × AnswersFrame S.does S.shows S.pages S.looks shared.old pass.old frame reply shared.new pass.new
         × Appends (W.contents (sink_writer writer.old)) (W.contents (sink_writer writer.new)) (reply_frame reply)) }
-    ensures broken { IfErr result (λ fault. BreaksIn S.does S.shows S.looks shared.old pass.old fault frame
+    ensures broken { IfErr result (λ fault. BreaksIn S.does S.shows S.pages S.looks shared.old pass.old fault frame
         (W.contents (sink_writer writer.old)) (W.contents (sink_writer writer.new)) shared.new pass.new) }
     ensures write { IfErr result (λ fault. fault ≡ WriteFault → write_failed writer.new ≡ true) }
 {
@@ -152,9 +152,9 @@ pub fn session<R: Read, W: Write, S: Shared>(
     pass: &mut Pass,
 ) -> Result<Summary, SessionFault>
     requires { frames_left reader.old ≤ MOST_FRAMES }
-    ensures served { IfOk result (λ summary. IsServed S.does S.shows S.looks shared.old pass.old (frames_rest R.remaining reader.old)
+    ensures served { IfOk result (λ summary. IsServed S.does S.shows S.pages S.looks shared.old pass.old (frames_rest R.remaining reader.old)
         (W.contents (sink_writer writer.old)) summary (W.contents (sink_writer writer.new)) shared.new pass.new) }
-    ensures broken { IfErr result (λ fault. IsBroken S.does S.shows S.looks shared.old pass.old (frames_rest R.remaining reader.old)
+    ensures broken { IfErr result (λ fault. IsBroken S.does S.shows S.pages S.looks shared.old pass.old (frames_rest R.remaining reader.old)
         (W.contents (sink_writer writer.old)) fault (frames_unread R.remaining reader.new)
         (W.contents (sink_writer writer.new)) shared.new pass.new) }
     ensures read { IfErr result (λ fault. fault ≡ ReadFault → read_failed reader.new ≡ true) }

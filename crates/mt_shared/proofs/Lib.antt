@@ -9,3 +9,4 @@ pub mod TurnLemmas
 pub mod ChangeLemmas
 pub mod PassLemmas
 pub mod ReadLemmas
+pub mod PageLemmas

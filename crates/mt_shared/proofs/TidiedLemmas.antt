@@ -4,7 +4,8 @@ use Rattle.mt_types.specs.declared.event.Request.{Request}
 use Rattle.mt_types.specs.declared.event.Request.TheVariants.{Remove}
 use Rattle.mt_shared.specs.Passes.{PassView}
 use Rattle.mt_shared.specs.Drives.{EventLaw}
-use Rattle.mt_shared.specs.Tidies.{LookLaw, PurgesAfter, PurgesIfEmptied, RemovesNone}
+use Rattle.mt_shared.specs.Tidies.{LookLaw, PurgesAfter, PurgesIfEmptied}
+use Rattle.mt_walk.specs.Removes.{RemovesNone}
 
 -- it was a remove: tidies follow at its key
 pub purges_there : {S : Type 0} (does : EventLaw S) (looks : LookLaw S) (request : Request) (key : List ℕ) (s : S) (p : PassView) (t : S) (q : PassView)

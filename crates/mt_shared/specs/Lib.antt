@@ -10,3 +10,5 @@ pub mod Reads
 pub mod Inside
 pub mod Changes
 pub mod Moments
+pub mod Pages
+pub mod Clients

@@ -1,6 +1,5 @@
 -- The tidies that follow a remove, over any events that are made on what is shared.
-use Rattle.std.specs.Prelude.{ℕ, zero, suc, ◌≡◌, ◌<◌, ◌≤◌, ◌⊎◌, Bool, true, false, List, length, Result, Ok, Err, MatchBool}
-use Rattle.mt_types.specs.declared.limits.TheConstants.{MAX_KEY_BYTES}
+use Rattle.std.specs.Prelude.{ℕ, zero, suc, ◌≡◌, ◌<◌, ◌≤◌, ◌⊎◌, Bool, true, false, List, Result, Ok, Err, MatchBool}
 use Rattle.mt_types.specs.declared.refusal.Refusal.{Refusal}
 use Rattle.mt_types.specs.declared.refusal.Refusal.TheVariants.{NoMemory}
 use Rattle.mt_types.specs.declared.event.Answer.{Answer}
@@ -13,11 +12,12 @@ use Rattle.mt_types.specs.declared.event.Request.{Request}
 use Rattle.mt_types.specs.declared.event.Request.TheVariants.{Remove, Tidy}
 use Rattle.mt_index.specs.Alone.{IsQuiet}
 use Rattle.mt_walk.specs.Emptied.{IsEmptied}
+use Rattle.mt_walk.specs.Removes.{RemovesNone, RemovesWithin}
+use Rattle.mt_walk.specs.declared.place.TheConstants.{MAX_TIDIES}
 use Rattle.mt_shared.specs.Kept.{KeptView, IsKept}
 use Rattle.mt_shared.specs.Passes.{PassView}
 use Rattle.mt_shared.specs.Drives.{EventLaw, IsDrive}
 use Rattle.mt_shared.specs.Changes.{IsDriveKept, has_changed}
-use Rattle.mt_shared.specs.declared.tidying.TheConstants.{MAX_TIDIES}
 
 -- ---- a look
 
@@ -89,16 +89,6 @@ Purges {S} does looks s p key t q = (m : S) × (r : PassView) × TidiesAll does 
 abbrev pub PurgesIfEmptied : {S : Type 0} → EventLaw S → LookLaw S → S → PassView → List ℕ → S → PassView → Type 0
 PurgesIfEmptied does looks s p key t q =
     (empty : Bool) × looks s key empty × MatchBool empty (Purges does looks s p key t q) ((t ≡ s) × (q ≡ p))
-
--- a request that removes no row: it is no remove, or its key is too long
-abbrev pub RemovesNone : Request → Type 0
-RemovesNone (Remove key) = MAX_KEY_BYTES < length key
-RemovesNone request = Unit {0}
-
--- a remove of a key that isn't too long
-abbrev pub RemovesWithin : Request → Type 0
-RemovesWithin (Remove key) = length key ≤ MAX_KEY_BYTES
-RemovesWithin request = ⊥
 
 -- after a remove
 abbrev pub PurgesAfter : {S : Type 0} → EventLaw S → LookLaw S → Request → S → PassView → S → PassView → Type 0

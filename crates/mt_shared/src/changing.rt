@@ -9,11 +9,11 @@ ghost use Rattle.mt_shared.specs.Tidies.{IsDriveTidied};
 use crate::driving::{NoGate, Shared, Started, finish};
 use crate::kept::Kept;
 use crate::pass::Pass;
-use crate::tidying::{place_of, tidy_after};
+use crate::tidying::tidy_after;
 use crate::views::keep_views;
-use mt_types::event::{Answer, Event, Outcome, Reply, Request};
-use mt_types::numbers::ViewNo;
+use mt_types::event::{Answer, Outcome, Reply, Request};
 use mt_types::refusal::Refusal;
+use mt_walk::place::place_of;
 use std::alloc::Global;
 
 /// How a call was started after which views are to be kept up.
@@ -60,7 +60,7 @@ impl Kept {
     {
         let _kept = self.columns();
         for _ in 0..turns {
-            match self.event(alloc, pass, &Event::Apply(ViewNo(0))) {
+            match self.turn(alloc, pass) {
                 Outcome::Applied(_) => {}
                 _ => return,
             }
@@ -128,7 +128,7 @@ fn drive_and_turn<S: Shared>(
 /// then freed that no open call can still visit. So memory comes back as rows are removed. What the tidies come to
 /// changes nothing of the reply.
 ///
-/// Over a `ThroughDoor` the lock is held once for the call and the turns, if the call ends in its first run. After a
+/// Over a `Door` the lock is held once for the call and the turns, if the call ends in its first run. After a
 /// remove it is held once more, together with other reads, for a look at the border.
 ///
 /// # Errors

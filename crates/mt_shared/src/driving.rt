@@ -2,12 +2,14 @@
 
 ghost use Rattle.std.specs.Prelude.{ℕ, ◌≡◌, ◌≤◌, Bool, List, Option, Result, IfOk, IfErr, IfSome};
 ghost use Rattle.mt_types.specs.declared.numbers.PassNo.{PassNo};
+ghost use Rattle.mt_types.specs.declared.numbers.ViewNo.{ViewNo};
 ghost use Rattle.mt_types.specs.declared.refusal.Refusal.{Refusal};
+ghost use Rattle.mt_types.specs.declared.view.Page.{Page};
 ghost use Rattle.mt_types.specs.declared.event.Answer.{Answer};
 ghost use Rattle.mt_types.specs.declared.event.Request.{Request};
 ghost use Rattle.mt_types.specs.declared.event.Event.{Event};
 ghost use Rattle.mt_types.specs.declared.event.Outcome.{Outcome};
-ghost use Rattle.mt_types.specs.Limited.{AnswerIsLimited, OutcomeIsLimited};
+ghost use Rattle.mt_types.specs.Limited.{AnswerIsLimited, OutcomeIsLimited, PageIsLimited};
 ghost use Rattle.mt_shared.specs.Passes.{PassView, IsTold};
 ghost use Rattle.mt_shared.specs.Changes.{ChangeIsLimited, IsChanged};
 ghost use Rattle.mt_shared.specs.Reads.{IsReadAnswer};
@@ -15,10 +17,12 @@ ghost use Rattle.mt_shared.specs.Drives.{Finishes, HasGone, IsReplyTo, IsDriven,
 
 use crate::changing::Changed;
 use crate::pass::Pass;
+use bytes::Bytes;
 use mt_types::event::{Answer, Event, Outcome, Reply, Request};
 use mt_types::key::Key;
-use mt_types::numbers::{CallNo, PassNo};
+use mt_types::numbers::{CallNo, PassNo, ViewNo};
 use mt_types::refusal::Refusal;
+use mt_types::view::Page;
 use std::alloc::Global;
 use std::thread;
 
@@ -95,6 +99,23 @@ pub trait Shared {
         ensures answer { IfSome result (λ read. IfOk read (λ now. IsReadAnswer now.1)) }
         ensures limited { IfSome result (λ read. IfOk read (λ now. AnswerIsLimited now.1)) };
 
+    /// What a page at once of a pass gives, of what is shared: by the view, the floor, the first key and the limit.
+    ghost pages: { Self → PassNo → ViewNo → ℕ → List ℕ → ℕ → Option (Result Page Refusal) → Type 0 };
+
+    /// Reads a page of a view at once, if it may, as `Kept::page` does. Makes no event.
+    fn page(
+        &self,
+        alloc: Global,
+        pass: PassNo,
+        view: ViewNo,
+        floor: u64,
+        start: &Bytes,
+        limit: u16,
+    ) -> Option<Result<Page, Refusal>>
+        ensures pages { pages self.now pass view floor start.now limit result }
+        ensures floor { IfSome result (λ read. IfOk read (λ page. floor ≤ page.at)) }
+        ensures limited { IfSome result (λ read. IfOk read PageIsLimited) };
+
     /// What a look says of a key's border, of what is shared.
     ghost looks: { Self → List ℕ → Bool → Type 0 };
 
@@ -122,9 +143,8 @@ impl Gate for NoGate {
 /// because another call has locked, changed or removed it. The thread then lets others run (`thread::yield_now`) before
 /// the next run.
 ///
-/// Over a `Door` a run is one step, and each event holds the lock once. Over a `ThroughDoor` the lock is held once for
-/// the begin and the first run together, and once for each further run. Between two holdings events of other threads can
-/// come.
+/// Over a `Door` the lock is held once for the begin and the first run together, and once for each further run. Between
+/// two holdings events of other threads can come.
 ///
 /// Costs what the events cost. Their number isn't bounded while other calls keep changing what this one visits.
 ///

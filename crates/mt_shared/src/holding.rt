@@ -2,24 +2,27 @@
 
 ghost use Rattle.mt_shared.specs.Kept.{DoesSomewhere};
 ghost use Rattle.mt_shared.specs.Reads.{ReadsSomewhere};
+ghost use Rattle.mt_shared.specs.Pages.{PagesSomewhere};
 ghost use Rattle.mt_shared.specs.Tidies.{LooksSomewhere};
 
 use crate::changing::Changed;
+use crate::door::Door;
 use crate::driving::{Hold, Shared, Started};
-use crate::index::Index;
 use crate::kept::Kept;
+use crate::map::SharedMap;
 use crate::pass::Pass;
-use crate::through::ThroughDoor;
 use crate::turn::Taken;
+use bytes::Bytes;
 use mt_types::event::{Answer, Event, Outcome, Request};
 use mt_types::key::Key;
-use mt_types::numbers::{CallNo, PassNo};
+use mt_types::numbers::{CallNo, PassNo, ViewNo};
 use mt_types::refusal::Refusal;
+use mt_types::view::Page;
 use std::alloc::Global;
 use std::marker::Model;
 use std::sync::{RwLockReadGuard, RwLockWriteGuard, Wait};
 
-/// The access of one thread to an index, for lists of calls. It is a `ThroughDoor` that may keep the lock: after
+/// The access of one thread to an index, for lists of calls. It is a `Door` that may keep the lock: after
 /// `hold(Hold::Reads)` gets and ranges at once are read in one holding, and after `hold(Hold::Changes)` changes, and the
 /// turns of views and the tidies after them, are made in one. Any other call releases the lock first, and so does a change
 /// or a tidy that has to wait for another call.
@@ -28,7 +31,7 @@ use std::sync::{RwLockReadGuard, RwLockWriteGuard, Wait};
 /// `hold(Hold::Nothing)`. Before that its thread must not wait for another thread, or use another door of the index.
 #[derive(Drop)]
 pub struct HoldingDoor<'a, W> {
-    door: ThroughDoor<'a, W>,
+    door: Door<'a, W>,
     held: Held<'a>,
 }
 
@@ -43,19 +46,19 @@ enum Held<'a> {
 
 // (how the lock is kept is no part of what contracts see)
 impl<'a, W> Model for HoldingDoor<'a, W> {
-    ghost use Rattle.mt_shared.specs.declared.through.ThroughDoor.{ThroughDoor};
+    ghost use Rattle.mt_shared.specs.declared.door.Door.{Door};
 
-    ghost Value = { ThroughDoor W };
+    ghost Value = { Door W };
 
     ghost view = { λ h. h.door };
 }
 
 impl<'a, W> HoldingDoor<'a, W> {
     /// Returns a door to `index` that keeps no lock yet. It makes at most `most` events of a call one after the other, as
-    /// `ThroughDoor::new` says. `wait` is the permission to wait for the lock.
-    pub fn new(index: &'a Index, wait: &'a W, most: u32) -> HoldingDoor<'a, W> {
+    /// `Door::new` says. `wait` is the permission to wait for the lock.
+    pub fn new(index: &'a SharedMap, wait: &'a W, most: u32) -> HoldingDoor<'a, W> {
         HoldingDoor {
-            door: ThroughDoor::new(index, wait, most),
+            door: Door::new(index, wait, most),
             held: Held::Nothing,
         }
     }
@@ -71,8 +74,8 @@ impl<'a, W: Wait> Shared for HoldingDoor<'a, W> {
             _ => {}
         }
         self.held = Held::Nothing;
-        let index = self.door.door.index;
-        let wait = self.door.door.wait;
+        let index = self.door.index;
+        let wait = self.door.wait;
         self.held = match hold {
             Hold::Nothing => Held::Nothing,
             Hold::Reads => Held::Reads(index.kept.read(wait)),
@@ -87,7 +90,7 @@ impl<'a, W: Wait> Shared for HoldingDoor<'a, W> {
     ghost does = { λ _ p event outcome _ q. DoesSomewhere p event outcome q };
 
     /// Makes one `Kept::event`, if the event frees nodes or advances the epoch and the lock is kept for changes; otherwise
-    /// releases it, and does what `ThroughDoor::event` does.
+    /// releases it, and does what `Door::event` does.
     fn event(&mut self, alloc: Global, pass: &mut Pass, event: &Event) -> Outcome {
         if let (Held::Changes(kept, _), Event::Advance | Event::Collect) = (&mut self.held, event) {
             return kept.event(alloc, pass, event);
@@ -97,7 +100,7 @@ impl<'a, W: Wait> Shared for HoldingDoor<'a, W> {
     }
 
     /// Makes one `Kept::begin`, if the request is a tidy and the lock is kept for changes; otherwise releases it, and does
-    /// what `ThroughDoor::begin` does.
+    /// what `Door::begin` does.
     fn begin(&mut self, alloc: Global, pass: &mut Pass, request: Request) -> Started {
         if let (Held::Changes(kept, _), Request::Tidy { .. }) = (&mut self.held, &request) {
             let started = kept.begin(alloc, pass, request, self.door.most);
@@ -111,7 +114,7 @@ impl<'a, W: Wait> Shared for HoldingDoor<'a, W> {
     }
 
     /// Makes one `Kept::change`, if the lock is kept for changes; otherwise releases it, and does what
-    /// `ThroughDoor::change` does.
+    /// `Door::change` does.
     fn change(&mut self, alloc: Global, pass: &mut Pass, request: Request, turns: u64) -> Changed {
         if let Held::Changes(kept, _) = &mut self.held {
             let changed = kept.change(alloc, pass, request, self.door.most, turns);
@@ -124,7 +127,7 @@ impl<'a, W: Wait> Shared for HoldingDoor<'a, W> {
         self.door.change(alloc, pass, request, turns)
     }
 
-    /// Releases the lock, and does what `ThroughDoor::go` does.
+    /// Releases the lock, and does what `Door::go` does.
     fn go(&mut self, alloc: Global, pass: &mut Pass, call: CallNo) -> Outcome {
         self.held = Held::Nothing;
         self.door.go(alloc, pass, call)
@@ -133,7 +136,7 @@ impl<'a, W: Wait> Shared for HoldingDoor<'a, W> {
     // somewhere in the order in which the lock is held it was read of what lay there
     ghost shows = { λ _ pass request result. ReadsSomewhere pass request result };
 
-    /// Makes one `Kept::read`, if the lock is kept; otherwise does what `ThroughDoor::read` does.
+    /// Makes one `Kept::read`, if the lock is kept; otherwise does what `Door::read` does.
     fn read(
         &self,
         alloc: Global,
@@ -147,10 +150,30 @@ impl<'a, W: Wait> Shared for HoldingDoor<'a, W> {
         }
     }
 
+    // somewhere in the order in which the lock is held it was read of what lay there
+    ghost pages = { λ _ pass view floor start limit result. PagesSomewhere pass view floor start limit result };
+
+    /// Makes one `Kept::page`, if the lock is kept; otherwise does what `Door::page` does.
+    fn page(
+        &self,
+        alloc: Global,
+        pass: PassNo,
+        view: ViewNo,
+        floor: u64,
+        start: &Bytes,
+        limit: u16,
+    ) -> Option<Result<Page, Refusal>> {
+        match &self.held {
+            Held::Nothing => self.door.page(alloc, pass, view, floor, start, limit),
+            Held::Reads(kept) => kept.page(alloc, pass, view, floor, start, limit),
+            Held::Changes(kept, _) => kept.page(alloc, pass, view, floor, start, limit),
+        }
+    }
+
     // somewhere in the order in which the lock is held it was looked at what lay there
     ghost looks = { λ _ key empty. LooksSomewhere key empty };
 
-    /// Makes one `Kept::is_emptied`, if the lock is kept; otherwise does what `ThroughDoor::is_emptied` does.
+    /// Makes one `Kept::is_emptied`, if the lock is kept; otherwise does what `Door::is_emptied` does.
     fn is_emptied(&self, key: &Key) -> bool {
         match &self.held {
             Held::Nothing => self.door.is_emptied(key),

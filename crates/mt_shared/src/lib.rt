@@ -4,21 +4,22 @@
 
 pub mod asking;
 pub mod book;
-pub mod caller;
-pub mod calls;
 pub mod changing;
+pub mod client;
+pub mod door;
 pub mod driving;
 pub mod holding;
-pub mod index;
 pub mod kept;
 pub mod lone;
+pub mod map;
 pub mod moment;
+pub mod pages;
 pub mod pass;
 pub mod reads;
 pub mod runs;
 pub mod settling;
-pub mod through;
 mod tidying;
 pub mod trace;
 mod turn;
+pub mod turns;
 pub mod views;

@@ -1,7 +1,7 @@
 //! A machine of one caller, without a lock.
 
-ghost use Rattle.std.specs.Prelude.{false, IfOk, IfSome};
-ghost use Rattle.mt_types.specs.Limited.{AnswerIsLimited, OutcomeIsLimited};
+ghost use Rattle.std.specs.Prelude.{◌≤◌, false, IfOk, IfSome};
+ghost use Rattle.mt_types.specs.Limited.{AnswerIsLimited, OutcomeIsLimited, PageIsLimited};
 ghost use Rattle.mt_types.specs.Limits.{open_fault};
 ghost use Rattle.mt_shared.specs.Passes.{IsNewPass};
 ghost use Rattle.mt_shared.specs.Traces.{IsNewTrace};
@@ -10,6 +10,7 @@ ghost use Rattle.mt_shared.specs.Feeds.{Feeds, Copies};
 ghost use Rattle.mt_shared.specs.Changes.{ChangeIsLimited, IsChanged};
 ghost use Rattle.mt_shared.specs.Drives.{HasGone, IsStarted, StartIsLimited};
 ghost use Rattle.mt_shared.specs.Reads.{IsReadAnswer, ReadsNow};
+ghost use Rattle.mt_shared.specs.Pages.{PagesNow};
 ghost use Rattle.mt_shared.specs.Tidies.{Looks};
 ghost use Rattle.mt_shared.specs.Passes.{IsTold};
 
@@ -17,12 +18,14 @@ use crate::changing::Changed;
 use crate::driving::{Hold, Shared, Started};
 use crate::kept::Kept;
 use crate::pass::Pass;
+use bytes::Bytes;
 use mt_index::options::Options;
 use mt_types::event::{Answer, Event, Outcome, Request};
 use mt_types::key::Key;
 use mt_types::numbers::{CallNo, PassNo, ViewNo};
 use mt_types::refusal::Refusal;
 use mt_types::row::Delta;
+use mt_types::view::Page;
 use mt_view::state::ViewState;
 use std::alloc::Global;
 use std::marker::Model;
@@ -151,6 +154,26 @@ impl Shared for Lone {
         ensures kept { IsKept self.now }
     {
         self.kept.read(alloc, pass, request)
+    }
+
+    ghost pages = { PagesNow };
+
+    /// Does what `Kept::page` does.
+    fn page(
+        &self,
+        alloc: Global,
+        pass: PassNo,
+        view: ViewNo,
+        floor: u64,
+        start: &Bytes,
+        limit: u16,
+    ) -> Option<Result<Page, Refusal>>
+        ensures pages { PagesNow self.now pass view floor start.now limit result }
+        ensures floor { IfSome result (λ read. IfOk read (λ page. floor ≤ page.at)) }
+        ensures limited { IfSome result (λ read. IfOk read PageIsLimited) }
+        ensures kept { IsKept self.now }
+    {
+        self.kept.page(alloc, pass, view, floor, start, limit)
     }
 
     ghost looks = { Looks };

@@ -21,8 +21,8 @@ pub struct Moment<'a> {
 
 impl<'a> Moment<'a> {
     /// Returns the machine, whose rows can be borrowed: by `Machine::row`, and by a walk (`mt_map::walk::Rows::of`).
-    /// Returns `None` if a put, remove or tidy is open. A call of another thread's `Door` may be, between two of its
-    /// events; one of a `ThroughDoor` only if it waits for such a call, or has used up the events of its run.
+    /// Returns `None` if a put, remove or tidy is open. A call of another thread's
+    /// `Door` may be if it waits for another call, or has used up the events of its run.
     pub fn machine(&self) -> Option<&Machine>
         ensures machine { IfSome result (λ machine. machine.now ≡ machine_of self.now) }
         ensures quiet { IsSome result ↔ IsQuiet (machine_of self.now) }

@@ -1,27 +1,20 @@
 //! The tidies that follow a remove: they take out what it has left empty, and what they take out is freed.
 
-ghost use Rattle.std.specs.Prelude.{◌≡◌, ◌<◌, ◌≤◌, IfErr, IfOk, IfSome, None, Ok, length};
-ghost use Rattle.mt_types.specs.declared.limits.TheConstants.{MAX_KEY_BYTES};
-ghost use Rattle.mt_types.specs.declared.event.Request.TheVariants.{Remove};
+ghost use Rattle.std.specs.Prelude.{◌≡◌};
 ghost use Rattle.mt_index.specs.Alone.{IsQuiet};
 ghost use Rattle.mt_shared.specs.Kept.{IsKept};
-ghost use Rattle.mt_shared.specs.Tidies.{Frees, Looks, PurgesIfEmptied, RemovesNone, RemovesWithin, TidiesAll, TidiesOnce, has_taken_out, takes_out};
+ghost use Rattle.mt_shared.specs.Tidies.{Frees, Looks, PurgesIfEmptied, TidiesAll, TidiesOnce, has_taken_out, takes_out};
 
 use crate::driving::{NoGate, Shared, drive};
 use crate::kept::Kept;
 use crate::pass::Pass;
-use bytes::Bytes;
 use mt_types::copying::TryCopy;
 use mt_types::event::{Answer, Event, Reply, Request, TidyRule};
 use mt_types::key::Key;
-use mt_types::limits::MAX_KEY_BYTES;
-use mt_types::refusal::{NoMemory, Refusal};
+use mt_types::refusal::Refusal;
 use mt_walk::is_emptied;
+use mt_walk::place::MAX_TIDIES;
 use std::alloc::Global;
-
-/// The most tidies that follow one remove. A remove can call for one in each layer of its key, and for two at each
-/// interior node above its border.
-pub const MAX_TIDIES: u64 = 256;
 
 impl Kept {
     /// Returns whether tidies are to follow a remove of `key`: if they follow removes here, and the border of the key is
@@ -60,38 +53,6 @@ fn has_taken_out(ended: &Result<Reply, Refusal>) -> bool
     match ended {
         Ok(reply) => takes_out(&reply.answer),
         Err(_) => false,
-    }
-}
-
-// Returns a copy of a key, or `None` if it is too long. Copies no bytes.
-fn place_of_key(key: &Bytes) -> Result<Option<Key>, NoMemory>
-    ensures some { IfOk result (λ found. IfSome found (λ place. place ≡ key.now)) }
-    ensures none { result ≡ Ok None → MAX_KEY_BYTES < length key.now }
-    ensures err { IfErr result (λ _. length key.now ≤ MAX_KEY_BYTES) }
-{
-    if key.len() > MAX_KEY_BYTES {
-        return Ok(None);
-    }
-    match Key::new(key.clone()?) {
-        Ok(place) => Ok(Some(place)),
-        Err(_) => unreachable!(),
-    }
-}
-
-/// Returns a copy of the key at which tidies may follow a request, or `None` if it is no remove, or its key is too long.
-/// Copies no bytes.
-///
-/// # Errors
-///
-/// `NoMemory` if memory for it is refused.
-pub(crate) fn place_of(request: &Request) -> Result<Option<Key>, NoMemory>
-    ensures some { IfOk result (λ found. IfSome found (λ key. request.now ≡ Remove key)) }
-    ensures none { result ≡ Ok None → RemovesNone request.now }
-    ensures err { IfErr result (λ _. RemovesWithin request.now) }
-{
-    match request {
-        Request::Remove { key } => place_of_key(key),
-        _ => Ok(None),
     }
 }
 

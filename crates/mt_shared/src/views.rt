@@ -1,10 +1,10 @@
 //! What a pass does with views: it reads a page of one, drops one, or advances them all.
 
 ghost use Rattle.std.specs.Prelude.{◌≡◌, ◌+◌, ◌≤◌, IfOk, IfErr};
-ghost use Rattle.mt_types.specs.declared.event.Event.TheVariants.{ViewRead, ViewDrop};
+ghost use Rattle.mt_types.specs.declared.event.Event.TheVariants.{ViewDrop};
 ghost use Rattle.mt_types.specs.Limited.{PageIsLimited};
 ghost use Rattle.mt_shared.specs.Passes.{IsTold};
-ghost use Rattle.mt_index.specs.Viewing.{page_outcome};
+ghost use Rattle.mt_shared.specs.Pages.{PageIsRead};
 ghost use Rattle.mt_shared.specs.Turns.{drop_outcome, furthest, KeepsUp, IsStopped};
 
 use crate::driving::Shared;
@@ -17,7 +17,7 @@ use mt_types::view::Page;
 use std::alloc::Global;
 
 /// Reads a page of a view: its count, its sums, and its first rows whose keys are at or after `start`, at most `limit`.
-/// Makes one event. The page is at `floor` commits or more. A caller that wants a page no older than what its pass has
+/// The page is read at once, together with other reads; it makes one event if a trace is kept. The page is at `floor` commits or more. A caller that wants a page no older than what its pass has
 /// seen passes `pass.seen()`. What a page shows isn't counted as seen.
 ///
 /// Costs O(log n + k) for a page of k rows, which share the bytes of the view's.
@@ -36,12 +36,15 @@ pub fn view_read<S: Shared>(
     start: Bytes,
     limit: u16,
 ) -> Result<Page, Refusal>
-    ensures event { S.does shared.old pass.old (ViewRead view floor start limit) (page_outcome result) shared.new
-        pass.new }
-    ensures told { IsTold pass.old (ViewRead view floor start limit) (page_outcome result) pass.new }
+    ensures read { PageIsRead S.does S.pages shared.old pass.old view floor start limit result shared.new pass.new }
+    ensures number { pass.new.number ≡ pass.old.number }
+    ensures seen { pass.old.seen ≤ pass.new.seen }
     ensures floor { IfOk result (λ page. floor ≤ page.at) }
     ensures limited { IfOk result PageIsLimited }
 {
+    if let Some(read) = shared.page(alloc, pass.number(), view, floor, &start, limit) {
+        return read;
+    }
     let read = Event::ViewRead {
         view,
         floor,

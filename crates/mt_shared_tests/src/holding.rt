@@ -1,13 +1,13 @@
 //! A door that keeps the lock between calls: every call still ends, and no commit comes in between.
 
-use crate::callers::{key, number, sets, view_of};
+use crate::clients::{key, number, sets, view_of};
 use bytes::Bytes;
 use mt_index::options::Options;
 use mt_shared::asking::ask;
 use mt_shared::changing::drive_and_keep;
 use mt_shared::driving::{Hold, Shared};
 use mt_shared::holding::HoldingDoor;
-use mt_shared::index::Index;
+use mt_shared::map::SharedMap;
 use mt_shared::pass::Pass;
 use mt_shared::views::{keep_views, view_read};
 use mt_types::event::Request;
@@ -60,7 +60,7 @@ fn mix<S: Shared>(alloc: Global, door: &mut S, pass: &mut Pass) -> Result<[u64; 
 #[test]
 fn a_kept_lock_serves_every_call(rt: HostRuntime) -> Result<(), Fail> {
     let alloc = rt.alloc();
-    let (index, mut passes) = Index::start(alloc, Options::default(), 1)?;
+    let (index, mut passes) = SharedMap::start(alloc, Options::default(), 1)?;
     let mut pass = passes.pop().ok_or("pass")?;
     let mut door = HoldingDoor::new(&index, &rt, 64);
     assert_eq!(rt; mix(alloc, &mut door, &mut pass), Ok([1, 1, 2, 2, 3, 1]));
@@ -92,7 +92,7 @@ fn put_list<S: Shared>(alloc: Global, door: &mut S, pass: &mut Pass) -> Result<b
 }
 
 // Makes lists of puts. Returns the pass, and whether no other commit came between those of a list.
-fn work<W: Wait>(rt: &W, alloc: Global, index: &Index, mut pass: Pass) -> (Pass, bool) {
+fn work<W: Wait>(rt: &W, alloc: Global, index: &SharedMap, mut pass: Pass) -> (Pass, bool) {
     let mut door = HoldingDoor::new(index, rt, 64);
     let mut whole = true;
     for _ in 0..LISTS {
@@ -105,7 +105,7 @@ fn work<W: Wait>(rt: &W, alloc: Global, index: &Index, mut pass: Pass) -> (Pass,
 fn work_together<R: Wait + Threads + Sync>(
     rt: &R,
     alloc: Global,
-    index: &Index,
+    index: &SharedMap,
     passes: Vec<Pass>,
 ) -> Result<Vec<(Pass, bool)>, Fail> {
     Ok(thread::map_vec(rt, passes, &|pass| { work(rt, alloc, index, pass) })?)
@@ -114,7 +114,7 @@ fn work_together<R: Wait + Threads + Sync>(
 #[test]
 fn no_commit_comes_between_those_of_a_list(rt: HostRuntime) -> Result<(), Fail> {
     let alloc = rt.alloc();
-    let (index, passes) = Index::start(alloc, Options::default(), 3)?;
+    let (index, passes) = SharedMap::start(alloc, Options::default(), 3)?;
     let mut back = Vec::new(alloc);
     for (pass, whole) in work_together(&rt, alloc, &index, passes)? {
         assert!(rt; whole);

@@ -3,7 +3,9 @@
 #![tactic(auto)]
 
 #[cfg(test)]
-mod callers;
+mod clients;
+#[cfg(test)]
+mod doors;
 #[cfg(test)]
 mod holding;
 #[cfg(test)]
@@ -12,5 +14,3 @@ mod machines;
 mod moments;
 #[cfg(test)]
 mod passes;
-#[cfg(test)]
-mod through;

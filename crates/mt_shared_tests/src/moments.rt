@@ -3,11 +3,11 @@
 use bytes::Bytes;
 use mt_index::options::Options;
 use mt_map::walk::Rows;
-use mt_shared::caller::Caller;
+use mt_shared::client::Client;
+use mt_shared::door::Door;
 use mt_shared::driving::{Shared, Started};
-use mt_shared::index::{Door, Index};
+use mt_shared::map::SharedMap;
 use mt_shared::moment::Moment;
-use mt_shared::through::ThroughDoor;
 use mt_types::event::Request;
 use mt_types::items::Items;
 use mt_types::key::Key;
@@ -52,12 +52,12 @@ fn row<'m>(moment: &'m Moment<'_>, key: &Key) -> Option<(u64, &'m [u8])> {
 #[test]
 fn a_moment_of_rows(rt: HostRuntime) -> Result<(), Fail> {
     let alloc = rt.alloc();
-    let (index, mut passes) = Index::start(alloc, Options::default(), 1)?;
+    let (index, mut passes) = SharedMap::start(alloc, Options::default(), 1)?;
     let pass = passes.pop().ok_or("pass")?;
-    let mut caller = Caller::new(alloc, ThroughDoor::new(&index, &rt, 64), pass);
-    let _ = caller.put(Bytes::from_static(b"apple"), sets(alloc, b"red")?)?;
-    let _ = caller.put(Bytes::from_static(b"pear"), sets(alloc, b"green")?)?;
-    let moment = caller.shared.moment();
+    let mut client = Client::new(alloc, Door::new(&index, &rt, 64), pass);
+    let _ = client.put(Bytes::from_static(b"apple"), sets(alloc, b"red")?)?;
+    let _ = client.put(Bytes::from_static(b"pear"), sets(alloc, b"green")?)?;
+    let moment = client.shared.moment();
     assert_eq!(rt; rows(alloc, &moment, b""), Ok(Some((2, 2))));
     assert_eq!(rt; rows(alloc, &moment, b"b"), Ok(Some((1, 2))));
     assert_eq!(rt; rows(alloc, &moment, b"q"), Ok(Some((0, 0))));
@@ -67,8 +67,8 @@ fn a_moment_of_rows(rt: HostRuntime) -> Result<(), Fail> {
     );
     assert_eq!(rt; row(&moment, &Key::new(Bytes::from_static(b"plum"))?), None);
     drop(moment);
-    let _ = caller.put(Bytes::from_static(b"apple"), sets(alloc, b"yellow")?)?;
-    let moment = caller.shared.moment();
+    let _ = client.put(Bytes::from_static(b"apple"), sets(alloc, b"yellow")?)?;
+    let moment = client.shared.moment();
     assert_eq!(rt;
         row(&moment, &Key::new(Bytes::from_static(b"apple"))?),
         Some((3, b"yellow".as_slice()))
@@ -79,16 +79,16 @@ fn a_moment_of_rows(rt: HostRuntime) -> Result<(), Fail> {
 #[test]
 fn no_rows_while_a_put_is_open(rt: HostRuntime) -> Result<(), Fail> {
     let alloc = rt.alloc();
-    let (index, mut passes) = Index::start(alloc, Options::default(), 1)?;
+    let (index, mut passes) = SharedMap::start(alloc, Options::default(), 1)?;
     let mut pass = passes.pop().ok_or("pass")?;
-    let mut door = Door::new(&index, &rt);
+    let mut door = Door::new(&index, &rt, 1);
     assert_eq!(rt; rows(alloc, &door.moment(), b""), Ok(Some((0, 0))));
     let (key, sets) = (Bytes::from_static(b"apple"), sets(alloc, b"red")?);
     let Started::Begun(call) = door.begin(alloc, &mut pass, Request::Put { key, sets }) else {
         return Err("begun".into());
     };
     assert_eq!(rt; rows(alloc, &door.moment(), b""), Ok(None));
-    let mut through = ThroughDoor::new(&index, &rt, 64);
+    let mut through = Door::new(&index, &rt, 64);
     let _ = through.go(alloc, &mut pass, call);
     assert_eq!(rt; rows(alloc, &door.moment(), b""), Ok(Some((1, 1))));
     Ok(())

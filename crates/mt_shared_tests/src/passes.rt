@@ -2,10 +2,11 @@
 
 use bytes::Bytes;
 use mt_index::options::Options;
-use mt_shared::calls::{get, put, put_if, view_add};
+use mt_shared::asking::ask;
+use mt_shared::door::Door;
 use mt_shared::driving::Shared;
-use mt_shared::index::{Door, Index};
 use mt_shared::lone::Lone;
+use mt_shared::map::SharedMap;
 use mt_shared::pass::Pass;
 use mt_shared::views::{keep_views, view_read};
 use mt_types::event::{Answer, Event, Outcome, Reply, Request};
@@ -34,33 +35,33 @@ fn sets(alloc: Global, value: &'static [u8]) -> Result<Sets, Refusal> {
 }
 
 fn put_key<S: Shared>(alloc: Global, shared: &mut S, pass: &mut Pass) -> Result<Reply, Refusal> {
-    let sets = sets(alloc, b"v")?;
-    put(alloc, shared, pass, Bytes::from_static(KEY), sets)
+    let (key, sets) = (Bytes::from_static(KEY), sets(alloc, b"v")?);
+    ask(alloc, shared, pass, Request::Put { key, sets })
 }
 
 fn get_key<S: Shared>(alloc: Global, shared: &mut S, pass: &mut Pass) -> Result<Reply, Refusal> {
-    get(
-        alloc,
-        shared,
-        pass,
-        Bytes::from_static(KEY),
-        Items::new(alloc),
-    )
+    let (key, columns) = (Bytes::from_static(KEY), Items::new(alloc));
+    ask(alloc, shared, pass, Request::Get { key, columns })
 }
 
 #[test]
 fn passes_are_1_to_255(rt: HostRuntime) -> Result<(), Fail> {
     let alloc = rt.alloc();
-    assert!(rt; matches!(Index::start(alloc, OPTIONS, 0), Err(Refusal::BadLimit)));
-    assert!(rt; matches!(Index::start(alloc, OPTIONS, 256), Err(Refusal::BadLimit)));
+    assert!(rt; matches!(SharedMap::start(alloc, OPTIONS, 0), Err(Refusal::BadLimit)));
+    assert!(rt;
+        matches!(
+            SharedMap::start(alloc, OPTIONS, 256),
+            Err(Refusal::BadLimit)
+        )
+    );
     Ok(())
 }
 
 #[test]
 fn passes(rt: HostRuntime) -> Result<(), Fail> {
     let alloc = rt.alloc();
-    let (index, mut passes) = Index::start(alloc, OPTIONS, 2)?;
-    let mut door = Door::new(&index, &rt);
+    let (index, mut passes) = SharedMap::start(alloc, OPTIONS, 2)?;
+    let mut door = Door::new(&index, &rt, 1);
     let _ = put_key(alloc, &mut door, &mut passes[0])?;
     let got = get_key(alloc, &mut door, &mut passes[1])?;
     assert!(rt; matches!(&got.answer, Answer::Found(row) if row.version == 1));
@@ -73,8 +74,8 @@ fn passes(rt: HostRuntime) -> Result<(), Fail> {
 #[test]
 fn other_passes(rt: HostRuntime) -> Result<(), Fail> {
     let alloc = rt.alloc();
-    let (index, mut passes) = Index::start(alloc, OPTIONS, 2)?;
-    let mut door = Door::new(&index, &rt);
+    let (index, mut passes) = SharedMap::start(alloc, OPTIONS, 2)?;
+    let mut door = Door::new(&index, &rt, 1);
     let begin = Event::Begin(
         PassNo(2),
         Request::Remove {
@@ -96,10 +97,10 @@ fn other_passes(rt: HostRuntime) -> Result<(), Fail> {
 #[test]
 fn passes_of_another_index(rt: HostRuntime) -> Result<(), Fail> {
     let alloc = rt.alloc();
-    let (other, mut strangers) = Index::start(alloc, OPTIONS, 2)?;
-    let _ = put_key(alloc, &mut Door::new(&other, &rt), &mut strangers[0])?;
-    let (index, _passes) = Index::start(alloc, OPTIONS, 1)?;
-    let mut door = Door::new(&index, &rt);
+    let (other, mut strangers) = SharedMap::start(alloc, OPTIONS, 2)?;
+    let _ = put_key(alloc, &mut Door::new(&other, &rt, 1), &mut strangers[0])?;
+    let (index, _passes) = SharedMap::start(alloc, OPTIONS, 1)?;
+    let mut door = Door::new(&index, &rt, 1);
     let second = get_key(alloc, &mut door, &mut strangers[1]);
     assert!(rt; matches!(second, Err(Refusal::WrongPass)));
     let first = get_key(alloc, &mut door, &mut strangers[0]);
@@ -110,8 +111,8 @@ fn passes_of_another_index(rt: HostRuntime) -> Result<(), Fail> {
 #[test]
 fn reads_at_once(rt: HostRuntime) -> Result<(), Fail> {
     let alloc = rt.alloc();
-    let (index, mut passes) = Index::start(alloc, OPTIONS, 1)?;
-    let mut door = Door::new(&index, &rt);
+    let (index, mut passes) = SharedMap::start(alloc, OPTIONS, 1)?;
+    let mut door = Door::new(&index, &rt, 1);
     let pass = &mut passes[0];
     let _ = put_key(alloc, &mut door, pass)?;
     let events = pass.events();
@@ -133,8 +134,8 @@ fn reads_at_once(rt: HostRuntime) -> Result<(), Fail> {
 #[test]
 fn recorded_reads(rt: HostRuntime) -> Result<(), Fail> {
     let alloc = rt.alloc();
-    let (index, mut passes) = Index::record(alloc, OPTIONS, 1)?;
-    let mut door = Door::new(&index, &rt);
+    let (index, mut passes) = SharedMap::record(alloc, OPTIONS, 1)?;
+    let mut door = Door::new(&index, &rt, 1);
     let got = get_key(alloc, &mut door, &mut passes[0])?;
     assert_eq!(rt; got.call.0, 1);
     let events = passes[0].events();
@@ -160,8 +161,8 @@ fn put_key_if<S: Shared>(
     pass: &mut Pass,
     version: u64,
 ) -> Result<Answer, Refusal> {
-    let sets = sets(alloc, b"w")?;
-    let reply = put_if(alloc, shared, pass, Bytes::from_static(KEY), sets, version)?;
+    let (key, sets) = (Bytes::from_static(KEY), sets(alloc, b"w")?);
+    let reply = ask(alloc, shared, pass, Request::PutIf { key, sets, version })?;
     Ok(reply.answer)
 }
 
@@ -186,14 +187,14 @@ fn conditional_puts(rt: HostRuntime) -> Result<(), Fail> {
 #[test]
 fn kept_view(rt: HostRuntime) -> Result<(), Fail> {
     let alloc = rt.alloc();
-    let (index, mut passes) = Index::start(alloc, OPTIONS, 1)?;
-    let mut door = Door::new(&index, &rt);
+    let (index, mut passes) = SharedMap::start(alloc, OPTIONS, 1)?;
+    let mut door = Door::new(&index, &rt, 1);
     let pass = &mut passes[0];
     let spec = ViewSpec::Prefix {
         key: Bytes::from_static(KEY),
         test: RowTest::Any,
     };
-    let built = view_add(alloc, &mut door, pass, spec)?;
+    let built = ask(alloc, &mut door, pass, Request::Build { spec })?;
     assert!(rt; matches!(&built.answer, Answer::Built(view) if view.0 == 1));
     let _ = put_key(alloc, &mut door, pass)?;
     let early = view_read(alloc, &mut door, pass, ViewNo(1), 1, Bytes::new(), 10);

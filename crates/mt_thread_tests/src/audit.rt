@@ -3,7 +3,7 @@
 use mt_check::check::{are_asked, check};
 use mt_check::receipt::Receipt;
 use mt_index::options::Options;
-use mt_shared::index::Door;
+use mt_shared::door::Door;
 use mt_shared::trace::Entry;
 use mt_types::copying::TryCopy;
 use mt_types::event::{Answer, Event, Outcome, Reply, Request};

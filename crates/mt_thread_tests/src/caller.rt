@@ -1,36 +1,14 @@
-//! A caller that makes calls by their names, keeps their receipts, and counts its reads.
+//! A caller that keeps the receipts of its calls, and counts its reads.
 
 use crate::audit::call_receipt;
 use mt_check::receipt::Receipt;
-use mt_shared::calls::{get, getrange, put, put_if, remove, tidy, view_add};
+use mt_shared::asking::ask;
 use mt_shared::driving::Shared;
 use mt_shared::pass::Pass;
 use mt_types::copying::TryCopy;
 use mt_types::event::{Reply, Request};
 use mt_types::refusal::Refusal;
 use std::alloc::Global;
-
-// Makes a call by its name.
-fn by_name<S: Shared>(
-    alloc: Global,
-    shared: &mut S,
-    pass: &mut Pass,
-    request: Request,
-) -> Result<Reply, Refusal> {
-    match request {
-        Request::Get { key, columns } => get(alloc, shared, pass, key, columns),
-        Request::Put { key, sets } => put(alloc, shared, pass, key, sets),
-        Request::PutIf { key, sets, version } => put_if(alloc, shared, pass, key, sets, version),
-        Request::Remove { key } => remove(alloc, shared, pass, key),
-        Request::Range {
-            start,
-            limit,
-            columns,
-        } => getrange(alloc, shared, pass, start, limit, columns),
-        Request::Tidy { key } => tidy(alloc, shared, pass, key),
-        Request::Build { spec } => view_add(alloc, shared, pass, spec),
-    }
-}
 
 /// A pass with the receipts of its calls, in the order of the calls; how many gets and ranges it has made, and how many
 /// events these were.
@@ -61,7 +39,7 @@ impl Caller {
         request: Request,
     ) -> Result<Reply, Refusal> {
         let asked = request.copy(alloc)?;
-        let reply = by_name(alloc, shared, &mut self.pass, request)?;
+        let reply = ask(alloc, shared, &mut self.pass, request)?;
         if let Some(receipt) = call_receipt(alloc, &asked, &reply)? {
             self.receipts.push(receipt)?;
         }

@@ -3,13 +3,13 @@
 use crate::audit::{OPTIONS, first_fault, log_of, receipts_of};
 use crate::keys::{KEYS, nth_key, nth_sets};
 use bytes::Bytes;
-use mt_shared::calls::{get, getrange, put, remove, tidy, view_add};
+use mt_shared::asking::ask;
+use mt_shared::door::Door;
 use mt_shared::driving::Shared;
-use mt_shared::index::{Door, Index};
+use mt_shared::map::SharedMap;
 use mt_shared::pass::Pass;
-use mt_shared::through::ThroughDoor;
 use mt_shared::views::{keep_views, view_read};
-use mt_types::event::{Event, Reply};
+use mt_types::event::{Event, Reply, Request};
 use mt_types::items::Items;
 use mt_types::numbers::ViewNo;
 use mt_types::refusal::Refusal;
@@ -31,9 +31,10 @@ fn write<S: Shared>(
 ) -> Result<Reply, Refusal> {
     let key = nth_key(alloc, n)?;
     if n / KEYS % 2 == 0 {
-        put(alloc, shared, pass, key, nth_sets(alloc, n)?)
+        let sets = nth_sets(alloc, n)?;
+        ask(alloc, shared, pass, Request::Put { key, sets })
     } else {
-        remove(alloc, shared, pass, key)
+        ask(alloc, shared, pass, Request::Remove { key })
     }
 }
 
@@ -46,22 +47,17 @@ fn make_calls<S: Shared>(
 ) -> Result<(), Refusal> {
     let _ = write(alloc, shared, pass, n)?;
     let _ = write(alloc, shared, pass, n.wrapping_add(3))?;
-    let _ = tidy(alloc, shared, pass, nth_key(alloc, n)?)?;
-    let _ = get(
-        alloc,
-        shared,
-        pass,
-        nth_key(alloc, n.wrapping_add(7))?,
-        Items::new(alloc),
-    )?;
-    let _ = getrange(
-        alloc,
-        shared,
-        pass,
-        nth_key(alloc, n)?,
-        5,
-        Items::new(alloc),
-    )?;
+    let key = nth_key(alloc, n)?;
+    let _ = ask(alloc, shared, pass, Request::Tidy { key })?;
+    let key = nth_key(alloc, n.wrapping_add(7))?;
+    let columns = Items::new(alloc);
+    let _ = ask(alloc, shared, pass, Request::Get { key, columns })?;
+    let range = Request::Range {
+        start: nth_key(alloc, n)?,
+        limit: 5,
+        columns: Items::new(alloc),
+    };
+    let _ = ask(alloc, shared, pass, range)?;
     Ok(())
 }
 
@@ -89,18 +85,14 @@ fn make_rounds<S: Shared>(alloc: Global, shared: &mut S, pass: &mut Pass) -> Res
 fn work<R: Wait>(
     rt: &R,
     alloc: Global,
-    index: &Index,
+    index: &SharedMap,
     mut pass: Pass,
 ) -> (Pass, Result<(), Refusal>) {
     let number = pass.number().0 as u32;
     let done = if number % 2 == 0 {
-        make_rounds(
-            alloc,
-            &mut ThroughDoor::new(index, rt, 4 * number),
-            &mut pass,
-        )
+        make_rounds(alloc, &mut Door::new(index, rt, 4 * number), &mut pass)
     } else {
-        make_rounds(alloc, &mut Door::new(index, rt), &mut pass)
+        make_rounds(alloc, &mut Door::new(index, rt, 1), &mut pass)
     };
     (pass, done)
 }
@@ -116,20 +108,17 @@ fn view_of_all() -> ViewSpec {
 #[test]
 fn four_threads(rt: HostRuntime) -> Result<(), Fail> {
     let alloc = rt.alloc();
-    let (index, mut passes) = Index::record(alloc, OPTIONS, 4)?;
-    let _ = view_add(
-        alloc,
-        &mut Door::new(&index, &rt),
-        &mut passes[0],
-        view_of_all(),
-    )?;
+    let (index, mut passes) = SharedMap::record(alloc, OPTIONS, 4)?;
+    let spec = view_of_all();
+    let mut door = Door::new(&index, &rt, 1);
+    let _ = ask(alloc, &mut door, &mut passes[0], Request::Build { spec })?;
     let worked = thread::map_vec(&rt, passes, &|pass| work(&rt, alloc, &index, pass))?;
     let mut passes = Vec::new(alloc);
     for (pass, done) in worked {
         assert!(rt; done.is_ok());
         passes.push(pass)?;
     }
-    let mut door = Door::new(&index, &rt);
+    let mut door = Door::new(&index, &rt, 1);
     let mut pass = passes.pop().ok_or("pass")?;
     let _ = keep_views(alloc, &mut door, &mut pass, u64::MAX)?;
     let seen = pass.seen();

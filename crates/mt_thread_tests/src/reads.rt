@@ -5,10 +5,10 @@ use crate::caller::Caller;
 use crate::keys::{nth_key, nth_sets};
 use bytes::Bytes;
 use mt_check::receipt::Receipt;
+use mt_shared::door::Door;
 use mt_shared::driving::Shared;
-use mt_shared::index::{Door, Index};
+use mt_shared::map::SharedMap;
 use mt_shared::pass::Pass;
-use mt_shared::through::ThroughDoor;
 use mt_types::copying::TryCopy;
 use mt_types::event::{Answer, Reply, Request};
 use mt_types::items::Items;
@@ -132,11 +132,11 @@ fn make_rounds<S: Shared>(
 fn work<R: Wait>(
     rt: &R,
     alloc: Global,
-    index: &Index,
+    index: &SharedMap,
     pass: Pass,
     plan: Plan,
 ) -> (Caller, Result<(), Refusal>) {
-    let mut door = ThroughDoor::new(index, rt, plan.most);
+    let mut door = Door::new(index, rt, plan.most);
     let mut caller = Caller::new(alloc, pass);
     let done = make_rounds(&mut caller, alloc, &mut door, plan.rounds);
     (caller, done)
@@ -190,7 +190,7 @@ impl Done {
 fn run<R: Wait + Threads + Sync>(
     rt: &R,
     alloc: Global,
-    index: &Index,
+    index: &SharedMap,
     passes: Vec<Pass>,
     plan: Plan,
 ) -> Result<Done, Fail> {
@@ -219,9 +219,9 @@ struct Judged {
 // Has all threads make their rounds on a new index, and judges what they did. Fails if the index has made a different
 // number of commits than its log has.
 fn judge<R: Wait + Threads + Sync>(rt: &R, alloc: Global, plan: Plan) -> Result<Judged, Fail> {
-    let (index, passes) = Index::start(alloc, OPTIONS, THREADS)?;
+    let (index, passes) = SharedMap::start(alloc, OPTIONS, THREADS)?;
     let done = run(rt, alloc, &index, passes, plan)?;
-    let log = log_of(alloc, &Door::new(&index, rt))?;
+    let log = log_of(alloc, &Door::new(&index, rt, 1))?;
     let fault = first_fault(alloc, &log, &done.receipts);
     let (reads, read_events) = (done.reads, done.read_events);
     if index.close(done.passes)?.commits != log.len() as u64 {
@@ -321,7 +321,7 @@ fn wrong_reads_are_named(rt: HostRuntime) -> Result<(), Fail> {
         most: WHOLE,
     };
     let alloc = rt.alloc();
-    let (index, passes) = Index::start(alloc, OPTIONS, THREADS)?;
+    let (index, passes) = SharedMap::start(alloc, OPTIONS, THREADS)?;
     let Done {
         passes: _,
         mut receipts,
@@ -329,7 +329,7 @@ fn wrong_reads_are_named(rt: HostRuntime) -> Result<(), Fail> {
         read_events,
     } = run(&rt, alloc, &index, passes, plan)?;
     assert_eq!(rt; read_events, 0);
-    let log = log_of(alloc, &Door::new(&index, &rt))?;
+    let log = log_of(alloc, &Door::new(&index, &rt, 1))?;
     let mut spoilt = 0_u64;
     // from the last to the first, so that the first wrong answer is always the newest
     for at in (0..receipts.len()).rev() {

@@ -3,8 +3,9 @@
 use crate::audit::{OPTIONS, call_receipt, first_fault, log_of, receipts_of};
 use bytes::Bytes;
 use mt_check::receipt::Receipt;
+use mt_shared::door::Door;
 use mt_shared::driving::{Gate, NoGate, drive};
-use mt_shared::index::{Door, Index};
+use mt_shared::map::SharedMap;
 use mt_shared::pass::Pass;
 use mt_types::copying::TryCopy;
 use mt_types::event::{Answer, Outcome, Request};
@@ -76,20 +77,20 @@ struct Called {
 fn call<R: Wait, G: Gate>(
     rt: &R,
     alloc: Global,
-    index: &Index,
+    index: &SharedMap,
     pass: &mut Pass,
     gate: &mut G,
     request: Request,
 ) -> Result<Option<Receipt>, Refusal> {
     let asked = request.copy(alloc)?;
-    let reply = drive(alloc, &mut Door::new(index, rt), pass, gate, request)?;
+    let reply = drive(alloc, &mut Door::new(index, rt, 1), pass, gate, request)?;
     call_receipt(alloc, &asked, &reply)
 }
 
 fn get_slowly<R: Wait + Clock>(
     rt: &R,
     alloc: Global,
-    index: &Index,
+    index: &SharedMap,
     flag: &AtomicBool,
     mut pass: Pass,
 ) -> Called {
@@ -110,7 +111,7 @@ fn get_slowly<R: Wait + Clock>(
 fn put_and_tell<R: Wait>(
     rt: &R,
     alloc: Global,
-    index: &Index,
+    index: &SharedMap,
     flag: &AtomicBool,
     mut pass: Pass,
 ) -> Called {
@@ -137,7 +138,7 @@ struct Done {
 fn meet<R: Wait + Threads + Clock + Sync>(
     rt: &R,
     alloc: Global,
-    index: &Index,
+    index: &SharedMap,
     one: Pass,
     two: Pass,
 ) -> (Called, Called) {
@@ -162,7 +163,7 @@ fn all_receipts(alloc: Global, called: Vec<Option<Receipt>>) -> Result<Vec<Recei
 fn get_last<R: Wait>(
     rt: &R,
     alloc: Global,
-    index: &Index,
+    index: &SharedMap,
     getter: Called,
     putter: Called,
 ) -> Result<(Vec<Option<Receipt>>, Pass, Pass), Fail> {
@@ -188,7 +189,7 @@ fn get_last<R: Wait>(
 fn run<R: Wait + Threads + Clock + Sync>(
     rt: &R,
     alloc: Global,
-    index: &Index,
+    index: &SharedMap,
     mut passes: Vec<Pass>,
 ) -> Result<Done, Fail> {
     let two = passes.pop().ok_or("two")?;
@@ -259,9 +260,9 @@ fn judge(alloc: Global, log: &[Delta], mut receipts: Vec<Receipt>) -> Result<Jud
 #[test]
 fn two_threads(rt: HostRuntime) -> Result<(), Fail> {
     let alloc = rt.alloc();
-    let (index, passes) = Index::start(alloc, OPTIONS, 2)?;
+    let (index, passes) = SharedMap::start(alloc, OPTIONS, 2)?;
     let Done { passes, receipts } = run(&rt, alloc, &index, passes)?;
-    let log = log_of(alloc, &Door::new(&index, &rt))?;
+    let log = log_of(alloc, &Door::new(&index, &rt, 1))?;
     let judged = judge(alloc, &log, receipts)?;
     let wanted = Judged {
         first: (0, 0),
@@ -279,9 +280,9 @@ fn two_threads(rt: HostRuntime) -> Result<(), Fail> {
 #[test]
 fn two_threads_recorded(rt: HostRuntime) -> Result<(), Fail> {
     let alloc = rt.alloc();
-    let (index, passes) = Index::record(alloc, OPTIONS, 2)?;
+    let (index, passes) = SharedMap::record(alloc, OPTIONS, 2)?;
     let Done { passes, receipts } = run(&rt, alloc, &index, passes)?;
-    let log = log_of(alloc, &Door::new(&index, &rt))?;
+    let log = log_of(alloc, &Door::new(&index, &rt, 1))?;
     let events = sums(&passes).0;
     let trace = index.close_record(passes)?;
     assert_eq!(rt; trace.len() as u64, events);

@@ -2,6 +2,7 @@
 pub mod Descent
 pub mod Emptied
 pub mod Gathered
+pub mod Removes
 pub mod Standing
 pub mod Start
 pub mod Steps

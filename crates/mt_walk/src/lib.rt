@@ -4,6 +4,7 @@
 mod course;
 mod descent;
 mod emptied;
+pub mod place;
 mod range;
 mod spelling;
 mod start;

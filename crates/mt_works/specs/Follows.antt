@@ -5,7 +5,7 @@ use Rattle.mt_steps.specs.declared.progress.Progress.{Progress}
 use Rattle.mt_steps.specs.Getting.{GetFollows}
 use Rattle.mt_steps.specs.Ranging.{RangeReads}
 use Rattle.mt_commit.specs.Log.{LogView}
-use Rattle.mt_write.specs.Follows.{WriteFollows, HeadFollows, PostsFollow}
+use Rattle.mt_write.specs.Follows.{WriteFollows, HeadFollows, PostsFollow, DropsFollow}
 use Rattle.mt_remove.specs.Tidy.{TidyReads}
 use Rattle.mt_remove.specs.Follows.{TidyFollows}
 use Rattle.mt_works.specs.Building.{BuildFollows}
@@ -34,8 +34,9 @@ WorkReads a after (Range range) = after ≡ a
 WorkReads a after (Tidy tidy) = TidyReads a after tidy
 WorkReads a after (Build building) = after ≡ a
 
--- for a put or remove, which head it then has, and with which posting it continues; and the tree is an arena of nodes
+-- for a put or remove, which head it then has, with which posting it continues, and whether it drops the row that it has
+-- hidden; and the tree is an arena of nodes
 abbrev pub WorkPosts : ArenaView → ArenaView → Work → Progress → Work → Type 0
 WorkPosts a after (Write write) p (Write new) = HeadFollows write p new × PostsFollow a after write p new
-    × IsArena a × IsArena after
+    × IsArena a × IsArena after × DropsFollow a after write
 WorkPosts a after _ p new = Unit {0}

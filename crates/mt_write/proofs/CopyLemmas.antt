@@ -232,10 +232,10 @@ module _ (a : ArenaView) (write : Write) (half : NodeNo) (cut place : ℕ) (outl
 
   pub copies_value : (copies : List Entry) → CopiesValue a write.way.node.0 outline (cut + length entries) entries copies → TreeStep a a write (Copies half cut place outline entries) Moved (record write { stage = copied_stage half cut place outline copies })
   copies_value copies c = λ C log.
-      leads C a a log log write (Copies half cut place outline entries) Moved (copied_stage half cut place outline copies) write.way refl (copies_one C a log write.key write.edit write.way half cut place outline entries copies c) tt (tt, copied_fails half cut place outline copies) (inl (copies, c, refl), refl) refl tt
+      leads C a a log log write (Copies half cut place outline entries) Moved (copied_stage half cut place outline copies) write.way refl (copies_one C a log write.key write.edit write.way half cut place outline entries copies c) tt (tt, copied_fails half cut place outline copies) (inl (copies, c, refl), refl) refl tt tt
 
   pub gives_up : TreeStep a a write (Copies half cut place outline entries) Moved (record write { stage = GivesBack half })
-  gives_up = λ C log. leads C a a log log write (Copies half cut place outline entries) Moved (GivesBack half) write.way refl (copies_none C a log write.key write.edit write.way half cut place outline entries) tt (tt, tt) (inr refl, refl) refl tt
+  gives_up = λ C log. leads C a a log log write (Copies half cut place outline entries) Moved (GivesBack half) write.way refl (copies_none C a log write.key write.edit write.way half cut place outline entries) tt (tt, tt) (inr refl, refl) refl tt tt
 
 -- ---- the half is given back
 unknown_free : (a : ArenaView) (chart : Chart) (number : ℕ) → chart number ≡ None → IsLockedInterior a chart number → ⊥
@@ -309,4 +309,4 @@ module _ (a : ArenaView) (write : Write) (half : NodeNo) (may : MayBeAt a write 
 
   pub gives_back : (between after : ArenaView) → between ≡ without_node a half.0 → KeepsUnknown a between half.0 → after ≡ with_border_changed between write.way.node.0 with_unlocked → KeepsTree between after → TreeStep a after write (GivesBack half) (Refused NoMemory) write
   gives_back between after is back unlocked keeps = λ C log.
-      closes C a after log log write (GivesBack half) (Refused NoMemory) (returns_law C log between after is back unlocked keeps) tt refl refl refl tt
+      closes C a after log log write (GivesBack half) (Refused NoMemory) (returns_law C log between after is back unlocked keeps) tt refl refl refl tt tt

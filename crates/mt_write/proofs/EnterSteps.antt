@@ -265,7 +265,7 @@ module _ (a : ArenaView) (write : Write) where
       let (sound, unlocked, alive) = lockable in
       subst (λ (x : ArenaView). WriteStep C a x log log write Seeks Moved (record write { stage = Enters Locked })) (sym value)
       (leads C a (with_border_changed a write.way.node.0 with_locked) log log write Seeks Moved (Enters Locked) write.way refl
-      (locks C a write.key write.edit write.way log b named sound unlocked alive (subst (λ (x : ArenaView). KeepsTree a x) value keeps)) tt (tt, tt) (inl (refl, refl)) (inl (refl, refl)) tt)
+      (locks C a write.key write.edit write.way log b named sound unlocked alive (subst (λ (x : ArenaView). KeepsTree a x) value keeps)) tt (tt, tt) (inl (refl, refl)) (inl (refl, refl)) tt tt)
 
   module _ (entering : Entering) where
     -- it is lent the field that it wants
@@ -276,7 +276,7 @@ module _ (a : ArenaView) (write : Write) where
         let (k, way_on, true_of) = truth in
         let field = lends_field a write.way.node.0 (wants entering) part lent k.b k.named in
         read_true C begun now a w world write.key write.edit write.way k way_on field.sound lent.arena next (entered_is (rest_of write.key write.way) k.b field.sound k.written entering true_of part field.is)))
-        tt (tt, never_fails entering next) (inl (part, lent, refl), refl) refl tt
+        tt (tt, never_fails entering next) (inl (part, lent, refl), refl) refl tt tt
       where
         next : Entered
         next = entered (rest_of write.key write.way) entering part
@@ -288,7 +288,7 @@ module _ (a : ArenaView) (write : Write) where
         (sym (stage_is ∙ ap entered_stage (does ∙ ap (λ (r : List ℕ). entered r entering part) rest_is))) (reads_field part lent)
 
     pub fails_reading : TakesMemory entering → TreeStep a a write (Enters entering) Moved (record write { stage = Failed NoMemory None })
-    fails_reading takes = λ C log. leads C a a log log write (Enters entering) Moved (Failed NoMemory None) write.way refl (fails C a write.key write.edit write.way log entering) tt (tt, (refl, takes)) (inr refl, refl) refl tt
+    fails_reading takes = λ C log. leads C a a log log write (Enters entering) Moved (Failed NoMemory None) write.way refl (fails C a write.key write.edit write.way log entering) tt (tt, (refl, takes)) (inr refl, refl) refl tt tt
 
   -- it unlocks its border, and continues to the right
   pub goes_right : (after : ArenaView) (next : NodeNo) → after ≡ with_border_changed a write.way.node.0 with_unlocked → KeepsTree a after → TreeStep a after write (Rightward next) Moved (record write { way = way_right write.way next; stage = Seeks })
@@ -297,4 +297,4 @@ module _ (a : ArenaView) (write : Write) where
         steps = λ now begun moves past w world before truth.
             let (goes, quiet) = ends C a log write.key write.edit write.way (λ other. StageIsTrue C write.key write.edit (way_right write.way next) Seeks begun after other) now w after is keeps world truth.0 truth.1 in
             quiet_step write.key write.edit goes quiet.content refl refl (inl refl);
-      }) tt (tt, tt) (refl, refl) refl tt
+      }) tt (tt, tt) (refl, refl) refl tt tt

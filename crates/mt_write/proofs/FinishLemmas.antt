@@ -18,7 +18,7 @@ use Rattle.mt_write.specs.declared.writing.Stage.{Stage}
 use Rattle.mt_write.specs.declared.writing.Stage.TheVariants.{Seeks, Searched, Reserved, KeyWritten, Filled, Stored, Hidden, Forgets}
 use Rattle.mt_write.specs.Held.{written_answer}
 use Rattle.mt_write.specs.Writing.{FirstHeld, HasHidden, MayStage, StageIsTrue}
-use Rattle.mt_write.specs.Follows.{FindsNone, TreeStep, WriteStep}
+use Rattle.mt_write.specs.Follows.{FindsNone, IsSpentAt, TreeStep, WriteStep}
 use Rattle.mt_write.specs.Runs.{Advances, CommitsAt, CommitsStage, HasForgotten, HasRun, InsertsAt, IsTrimmed, MayRun, RunStep, Running, commits_in, stage_after, state, steps_after}
 use Rattle.mt_write.proofs.PostLemmas.{is_locked_border, is_written_border}
 use Rattle.mt_border.specs.declared.unwritten.Unwritten.TheVariants.{Nothing}
@@ -328,9 +328,9 @@ module _ (C : ℕ) (log : LogView) (write : Write) (committed : AtCommit) (is_tr
     from_hidden a after n running = subst (λ (st : Stage). Running C (state a log (record write { stage = st })) n 0 (state after log stored)) (sym hidden_stage) running
 
     -- its border can't be marked
-    pub forgets_not : (a same : ArenaView) → same ≡ a → IsArena a → IsArena same → MayRun C (state a log after_commit) → HasForgotten C a same log write committed 1
-    forgets_not a same is arena arena_same may =
-        let step = leaves_hidden a same write committed.commit is in
+    pub forgets_not : (a same : ArenaView) → same ≡ a → IsSpentAt a write.way.node.0 → IsArena a → IsArena same → MayRun C (state a log after_commit) → HasForgotten C a same log write committed 1
+    forgets_not a same is spent arena arena_same may =
+        let step = leaves_hidden a same write committed.commit is spent in
         let hidden = at_hidden a may in
         record {
           running = from_hidden a same 1 (runs_then a same (Hidden committed.commit) (Stored committed.commit None) hidden step arena arena_same);

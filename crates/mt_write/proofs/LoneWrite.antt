@@ -335,7 +335,7 @@ module _ (post_stands : ArenaView → World → Posting → Type 0) (posting_lef
     moved (Stored commit (Some split)) new truth then stands spots goes (is, some) = ended a after next key way goal (Stored commit (Some split)) new (EndStored commit) is refl
         (λ posting other at. subst (λ (s : Stage). PostingGoesOn post_stands posting_left most a after next (Stored commit (Some split)) s) at goes)
     moved (Hidden commit) new truth then stands spots goes (inl is, to) = stays_at a after next key way goal (Hidden commit) new (Forgets commit) (is, to) (tt, omega arith)
-    moved (Hidden commit) new truth then stands spots goes (inr is, to) = stays_at a after next key way goal (Hidden commit) new (Stored commit None) (is, to) (tt, omega arith)
+    moved (Hidden commit) new truth then stands spots goes (inr (is, spent), to) = stays_at a after next key way goal (Hidden commit) new (Stored commit None) (is, to) (tt, omega arith)
     moved (Forgets commit) new truth then stands spots goes follows = stays_at a after next key way goal (Forgets commit) new (Stored commit None) follows (tt, omega arith)
     moved (Failed refusal None) new truth then stands spots goes (is, split) = absurd (split refl)
     moved (Failed refusal (Some split)) new truth then stands spots goes (is, some) = ended a after next key way goal (Failed refusal (Some split)) new (EndFailed refusal) is refl

@@ -49,7 +49,7 @@ use Rattle.mt_write.specs.Held.{edit_request, write_held, stage_held, ending_sta
 use Rattle.mt_write.specs.Writing.{StageIsTrue, WriteIsTrue, MayStage}
 use Rattle.mt_write.specs.Ready.{Prepares, PreparesRemove, put_delta, remove_delta}
 use Rattle.mt_write.specs.Causes.{StageWaits, StageFails, FailsBy, RemoveFailsBy, edit_fault, version_fault, put_fault, remove_fault}
-use Rattle.mt_write.specs.Follows.{WriteStep, TreeStep, MayBeAt, FindsNone, Follows, HeadGoes, PostsGo, IsMadeReady}
+use Rattle.mt_write.specs.Follows.{WriteStep, TreeStep, MayBeAt, FindsNone, Follows, HeadGoes, PostsGo, DropsRow, IsMadeReady}
 use Rattle.mt_write.proofs.WriteLemmas.{seek_waits, may_at}
 use Rattle.mt_write.proofs.ReadyLemmas.{readies}
 use Rattle.mt_write.proofs.ForgetLemmas.{may_forget}
@@ -65,7 +65,7 @@ use Rattle.mt_write.proofs.PostLemmas.{headed, headed_end, restarts, moves_on, h
 -- ---- at the stage of a write, what was proved of a stage that was taken out of it
 pub at_step : (C : ℕ) (a after : ArenaView) (log left : LogView) (write : Write) (idle stage : Stage) (p : Progress) (then : Write) → write.stage ≡ stage → WriteStep C a after log left (record write { stage = idle }) stage p then → WriteStep C a after log left write write.stage p then
 at_step C a after log left write idle stage p then is s = subst (λ (t : Stage). WriteStep C a after log left write t p then) (sym is)
-    (record { request = s.request; law = s.law; waits = s.waits; fails = s.fails; follows = s.follows; head = s.head; posts = s.posts })
+    (record { request = s.request; law = s.law; waits = s.waits; fails = s.fails; follows = s.follows; head = s.head; posts = s.posts; drops = s.drops })
 
 pub may_be : (C : ℕ) (a : ArenaView) (log : LogView) (write : Write) (idle stage : Stage) → write.stage ≡ stage → MayStep a log (write_held write) (WriteIsTrue C write) → MayStage C a log (record write { stage = idle }) stage
 may_be C a log write idle stage is may = may_at C a log write.key write.edit write.way write.head stage write.stage is may
@@ -82,9 +82,9 @@ module _ (C : ℕ) (a after : ArenaView) (log left : LogView) (write : Write) (s
   -- a step that leads to a stage, in the layer of its head
   pub leads : (new : Stage) (way : Way) → prefix_of write.key write.way ≡ prefix_of write.key way
       → StepLaw C a after log left (edit_request write.key write.edit) (stage_held write.way.node.0 stage) p (stage_held way.node.0 new) (λ begun moves past x w. StageIsTrue C write.key write.edit write.way stage begun x w) (λ begun moves past x w. StageIsTrue C write.key write.edit way new begun x w)
-      → StageWaits a write.way.node.0 stage p → StageFails a log write.key write.edit write.way stage p new → Follows a write.key write.way stage p way new → HeadGoes write.head write.way stage p way write.head → PostsGo a after write.head stage p new
+      → StageWaits a write.way.node.0 stage p → StageFails a log write.key write.edit write.way stage p new → Follows a write.key write.way stage p way new → HeadGoes write.head write.way stage p way write.head → PostsGo a after write.head stage p new → DropsRow a after write.way.node.0 stage
       → WriteStep C a after log left write stage p (record write { way = way; stage = new })
-  leads new way same law waits fails follows head posts = record {
+  leads new way same law waits fails follows head posts drops = record {
     request = refl;
     law = headed C a after log left (edit_request write.key write.edit) write.key write.edit write.way way write.head stage new (stage_held write.way.node.0 stage) (stage_held way.node.0 new) p same law;
     waits = waits;
@@ -92,13 +92,14 @@ module _ (C : ℕ) (a after : ArenaView) (log left : LogView) (write : Write) (s
     follows = follows;
     head = head;
     posts = posts;
+    drops = drops;
   }
 
   -- a step with which it ends, and leaves its record as it is
   pub closes : StepLaw C a after log left (edit_request write.key write.edit) (stage_held write.way.node.0 stage) p (write_held write) (λ begun moves past x w. StageIsTrue C write.key write.edit write.way stage begun x w) (WriteIsTrue C write)
-      → StageWaits a write.way.node.0 stage p → StageFails a log write.key write.edit write.way stage p write.stage → Follows a write.key write.way stage p write.way write.stage → HeadGoes write.head write.way stage p write.way write.head → PostsGo a after write.head stage p write.stage
+      → StageWaits a write.way.node.0 stage p → StageFails a log write.key write.edit write.way stage p write.stage → Follows a write.key write.way stage p write.way write.stage → HeadGoes write.head write.way stage p write.way write.head → PostsGo a after write.head stage p write.stage → DropsRow a after write.way.node.0 stage
       → WriteStep C a after log left write stage p write
-  closes law waits fails follows head posts = record {
+  closes law waits fails follows head posts drops = record {
     request = refl;
     law = headed_end C a after log left (edit_request write.key write.edit) write.key write.edit write.way write.head stage (stage_held write.way.node.0 stage) (write_held write) p (WriteIsTrue C write) law;
     waits = waits;
@@ -106,6 +107,7 @@ module _ (C : ℕ) (a after : ArenaView) (log left : LogView) (write : Write) (s
     follows = follows;
     head = head;
     posts = posts;
+    drops = drops;
   }
 
 -- ---- what the calls of a stage ask for
@@ -202,6 +204,7 @@ module _ (a : ArenaView) (write : Write) (went : Went) (visits : Visits a write.
     follows = (refl, inl (marked, refl));
     head = tt;
     posts = tt;
+    drops = tt;
   })
 
   pub seeks_on : (next : Way) (head : NodeNo) → went ≡ To next → border_at a.nodes write.way.node.0 ≡ None → ((next.layer ≡ write.way.layer) × (head ≡ write.head)) ⊎ ((next.layer ≢ write.way.layer) × (head ≡ next.node)) → TreeStep a a write Seeks Moved (record write { way = next; head = head })
@@ -213,6 +216,7 @@ module _ (a : ArenaView) (write : Write) (went : Went) (visits : Visits a write.
     follows = inr (refl, subst (λ (w : Went). Visits a write.key write.way w) is visits, no_border);
     head = either;
     posts = tt;
+    drops = tt;
   })
 
   pub seeks_still : (b : BorderView) → border_at a.nodes write.way.node.0 ≡ Some b → b.version.deleted ≡ false → b.version.locked ≡ true → TreeStep a a write Seeks Waits write
@@ -223,7 +227,7 @@ module _ (a : ArenaView) (write : Write) (went : Went) (visits : Visits a write.
       absurd (cc) in
       let locked : IsLockedAlready a write.way.node.0 = subst (λ (o : Option BorderView). IsSomeAnd o (λ b. b.version.locked ≡ true)) (sym named) is in
       subst (λ (s : Stage). WriteStep C a a log log write Seeks Waits (record { key = write.key; edit = write.edit; way = write.way; head = write.head; stage = s })) (sym idle)
-      (leads C a a log log write Seeks Waits Seeks write.way refl (seek_waits C a write.key write.edit write.way log) (inr locked) (tt, tt) (refl, inr (unmarked, locked, refl)) tt tt)
+      (leads C a a log log write Seeks Waits Seeks write.way refl (seek_waits C a write.key write.edit write.way log) (inr locked) (tt, tt) (refl, inr (unmarked, locked, refl)) tt tt tt)
 
 -- where a visit leads that doesn't end at its border
 pub seeks_led : (a : ArenaView) (write : Write) (went : Went) (p : Progress) (then : Write) → Visits a write.key write.way went → write.stage ≡ Seeks → went ≢ Here → (went ≢ Again → border_at a.nodes write.way.node.0 ≡ None) → (went ≡ Again → IsMarkedAt a write.way.node.0)
@@ -281,26 +285,26 @@ module _ (C : ℕ) (a after : ArenaView) (log left : LogView) (write : Write) wh
       leads C a after log left write (Searched there) Moved stage write.way refl
       (readies C a log write.key sets only write.way there stage write.edit after left is (λ b named. sym (some_at _ (border_at a.nodes write.way.node.0) b agrees named).1) ready) tt
       (tt, faults_at sets only None stage agrees fault is)
-      (put_ready C a after log left write.key sets write.way stage ready, refl) refl tt
+      (put_ready C a after log left write.key sets write.way stage ready, refl) refl tt tt
 
   pub shows_row : (place : ℕ) (stored : List ℕ) (logged : List (List ℕ)) (split : Option Halves) (number : ℕ) → number ≡ newest log + 1 → after ≡ with_border_changed a write.way.node.0 (λ b. with_shown b place (newest log + 1)) → ShowsNext a after write.way.node.0 (newest log + 1)
       → left ≡ with_delta log (put_delta (newest log + 1) stored None logged) → 1 ≤ log.reserved → WriteStep C a after log left write (Filled place stored logged split) (Committed number) (record write { stage = Stored number split })
   shows_row place stored logged split number next shown keeps appended room =
       leads C a after log left write (Filled place stored logged split) (Committed number) (Stored number split) write.way refl
-      (shows C a log write.key write.edit write.way split place stored logged number after left next shown keeps appended room) tt (tt, tt) (tt, (refl, refl)) refl tt
+      (shows C a log write.key write.edit write.way split place stored logged number after left next shown keeps appended room) tt (tt, tt) (tt, (refl, refl)) refl tt tt
 
   pub writes_row : (place : ℕ) (stored : List ℕ) (columns logged : List (List ℕ)) (number : ℕ) → number ≡ newest log + 1 → after ≡ with_border_changed a write.way.node.0 (λ b. with_value b place (record { version = newest log + 1; columns = columns }))
       → SetsRowAt a after write.way.node.0 place (record { version = newest log + 1; columns = columns }) → IsSomeAnd (border_at a.nodes write.way.node.0) (λ b. left ≡ with_delta log (put_delta (newest log + 1) stored (row_at place b.live) logged)) → 1 ≤ log.reserved
       → WriteStep C a after log left write (Made place stored columns logged) (Committed number) (record write { stage = Stored number None })
   writes_row place stored columns logged number next written sets appended room =
       leads C a after log left write (Made place stored columns logged) (Committed number) (Stored number None) write.way refl
-      (writes C a log write.key write.edit write.way place stored columns logged number after left next written sets appended room) tt (tt, tt) (tt, (refl, refl)) refl tt
+      (writes C a log write.key write.edit write.way place stored columns logged number after left next written sets appended room) tt (tt, tt) (tt, (refl, refl)) refl tt tt
 
   pub hides_row : (place : ℕ) (stored : List ℕ) (before : Row) (number : ℕ) → number ≡ newest log + 1 → after ≡ with_border_changed a write.way.node.0 (λ b. with_hidden b place) → HidesRowAt a after write.way.node.0 place → left ≡ with_delta log (remove_delta (newest log + 1) stored before) → 1 ≤ log.reserved
       → WriteStep C a after log left write (Taken place stored before) (Committed number) (record write { stage = Hidden number })
   hides_row place stored before number next hidden keeps appended room =
       leads C a after log left write (Taken place stored before) (Committed number) (Hidden number) write.way refl
-      (hides C a log write.key write.edit write.way place stored before number after left next hidden keeps appended room) tt (tt, tt) (tt, (refl, refl)) refl tt
+      (hides C a log write.key write.edit write.way place stored before number after left next hidden keeps appended room) tt (tt, tt) (tt, (refl, refl)) refl tt tt
 
 -- ---- a commit of what is ready, at a stage that is known to be so
 module _ (C : ℕ) (a after : ArenaView) (log left : LogView) (write : Write) (stage : Stage) where
@@ -328,14 +332,14 @@ module _ (C : ℕ) (a : ArenaView) (log left : LogView) (write : Write) (there :
         subst (λ (e : Edit). IsSomeAnd (border_at a.nodes write.way.node.0) (λ b. FailsBy (edit_fault a log e b (found_for (rest_of write.key write.way) b.live)) None stage)) (sym is)
             (subst (λ (s : Option Stage). IsSomeAnd (border_at a.nodes write.way.node.0) (λ b. RemoveFailsBy (remove_fault log (found_for (rest_of write.key write.way) b.live)) s)) made_is fault),
       )
-      (remove_ready a log left write.key write.way stage prepared, refl) refl tt
+      (remove_ready a log left write.key write.way stage prepared, refl) refl tt tt
 
   pub finds_none : (after : ArenaView) → made ≡ None → after ≡ with_border_changed a write.way.node.0 with_unlocked → KeepsTree a after → WriteStep C a after log left write (Searched there) (Answered AbsentAnswer) write
   finds_none after none value keeps =
       let (lacking, same) = subst (λ (s : Option Stage). PreparesRemove write.key write.way a log s left) none ready in
       closes C a after log left write (Searched there) (Answered AbsentAnswer) (lacks C a log write.key write.edit write.way there (write_held write) (WriteIsTrue C write) after is value keeps lacking left same) tt
       (subst (λ (e : Edit). IsSomeAnd (border_at a.nodes write.way.node.0) (λ b. edit_fault a log e b (found_for (rest_of write.key write.way) b.live) ≡ None)) (sym is)
-      (subst (λ (s : Option Stage). IsSomeAnd (border_at a.nodes write.way.node.0) (λ b. RemoveFailsBy (remove_fault log (found_for (rest_of write.key write.way) b.live)) s)) none fault)) tt refl tt
+      (subst (λ (s : Option Stage). IsSomeAnd (border_at a.nodes write.way.node.0) (λ b. RemoveFailsBy (remove_fault log (found_for (rest_of write.key write.way) b.live)) s)) none fault)) tt refl tt tt
 
 pub removes_some : (C : ℕ) (a : ArenaView) (log left : LogView) (write : Write) (there : There) → write.edit ≡ RemoveEdit → (made : Option Stage) → PreparesRemove write.key write.way a log made left
     → IsSomeAnd (border_at a.nodes write.way.node.0) (λ b. RemoveFailsBy (remove_fault log (found_for (rest_of write.key write.way) b.live)) made) → IfSome made (λ stage. WriteStep C a a log left write (Searched there) Moved (record write { stage = stage }))
@@ -354,4 +358,4 @@ module _ (C : ℕ) (a : ArenaView) (log : LogView) (write : Write) (there : Ther
       let fails = subst (λ (o : Option BorderView). IsSomeAnd o (λ b. FailsBy (option_or (Some refusal) (put_fault a log b (found_for (rest_of write.key write.way) b.live))) None (Failed refusal None))) (sym named) refl in
       leads C a a log log write (Searched there) Moved (Failed refusal None) write.way refl (differs C a log write.key write.edit write.way there sets only refusal is bytes fault) tt
       (tt, faults_at C a a log log write sets only (Some refusal) (Failed refusal None) fault fails is)
-      (refl, refl) refl tt
+      (refl, refl) refl tt tt

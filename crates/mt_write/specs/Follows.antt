@@ -1,5 +1,5 @@
 -- Which stage of a put or remove follows which: said of the nodes before the step, and of the call before and after it.
-use Rattle.std.specs.Prelude.{ℕ, ◌≡◌, ◌≢◌, ◌⊎◌, ◌+◌, List, [], Option, Some, None, IsSomeAnd, false}
+use Rattle.std.specs.Prelude.{ℕ, ◌≡◌, ◌≢◌, ◌⊎◌, ◌+◌, List, [], Option, Some, None, IsSomeAnd, IsTrue, false}
 use Rattle.mt_border.specs.Cut.{IsBestCut, slices}
 use Rattle.mt_types.specs.declared.refusal.Refusal.{Refusal}
 use Rattle.mt_write.specs.Splitting.{CopiesOn}
@@ -7,7 +7,7 @@ use Rattle.mt_arena.specs.Node.{border_at}
 use Rattle.mt_arena.specs.Arena.{ArenaView, with_border_changed}
 use Rattle.mt_arena.specs.declared.part.Part.{Part}
 use Rattle.mt_border.specs.Order.{IsBorder}
-use Rattle.mt_border.specs.Border.{with_unlocked}
+use Rattle.mt_border.specs.Border.{insert_is_spent, with_forgotten, with_unlocked}
 use Rattle.mt_tree.specs.Keeping.{KeepsTree}
 use Rattle.mt_types.specs.declared.event.Answer.TheVariants.{Absent}
 use Rattle.mt_types.specs.declared.numbers.NodeNo.{NodeNo}
@@ -82,6 +82,10 @@ abbrev pub PostsOn : ArenaView → Posting → Ending → Stage → Type 0
 PostsOn a posting ending (Posts then other) = (other ≡ ending) × PostFollows a posting PostMoved then
 PostsOn a posting ending new = new ≡ ending_stage ending None
 
+-- the border can't be marked for a row that is to be dropped: the counter of its insertions is at its greatest value
+abbrev pub IsSpentAt : ArenaView → ℕ → Type 0
+IsSpentAt a number = IsSomeAnd (border_at a.nodes number) (λ b. IsTrue (insert_is_spent b))
+
 -- if it moves: on its way it locks a border, and continues from a head or an interior node to the next one; each other
 -- stage leads to the next one
 abbrev pub StageFollows : ArenaView → List ℕ → Way → Stage → Way → Stage → Type 0
@@ -109,7 +113,8 @@ StageFollows a key way (KeyWritten insertion row) next new = StaysAt way next ne
 StageFollows a key way (Posts posting ending) next new = PostsOn a posting ending new × (next ≡ way)
 StageFollows a key way (Stored commit split) next new = IsPosting (EndStored commit) new × (split ≢ None)
 StageFollows a key way (Failed refusal split) next new = IsPosting (EndFailed refusal) new × (split ≢ None)
-StageFollows a key way (Hidden commit) next new = ((new ≡ Forgets commit) ⊎ (new ≡ Stored commit None)) × (next ≡ way)
+StageFollows a key way (Hidden commit) next new = ((new ≡ Forgets commit)
+    ⊎ ((new ≡ Stored commit None) × IsSpentAt a way.node.0)) × (next ≡ way)
 StageFollows a key way (Forgets commit) next new = StaysAt way next new (Stored commit None)
 StageFollows a key way _ next new = ⊥
 
@@ -181,6 +186,15 @@ HeadGoes head way _ p next then = then ≡ head
 abbrev pub HeadFollows : WriteView → Progress → WriteView → Type 0
 HeadFollows write p new = HeadGoes write.head write.way write.stage p new.way new.head
 
+-- ---- the row that it has hidden
+-- with the step that follows its mark it is dropped: what a remove leaves in its slot takes no memory
+abbrev pub DropsRow : ArenaView → ArenaView → ℕ → Stage → Type 0
+DropsRow a after node (Forgets commit) = after ≡ with_border_changed a node with_forgotten
+DropsRow a after node _ = Unit {0}
+
+abbrev pub DropsFollow : ArenaView → ArenaView → WriteView → Type 0
+DropsFollow a after write = DropsRow a after write.way.node.0 write.stage
+
 -- ---- its posting
 -- a new posting of a half in the layer of a head: no split waits, and it is at the head
 pub record IsNewPosting (head half : NodeNo) (posting : Posting) : Type 0 where
@@ -227,6 +241,7 @@ pub record WriteStep (C : ℕ) (a after : ArenaView) (log left : LogView) (write
   pub follows : Follows a write.key write.way stage p then.way then.stage
   pub head : HeadGoes write.head write.way stage p then.way then.head
   pub posts : PostsGo a after write.head stage p then.stage
+  pub drops : DropsRow a after write.way.node.0 stage
 
 -- a step that leaves the log as it is and makes no columns does so much whatever log and number of columns there are
 abbrev pub TreeStep : ArenaView → ArenaView → WriteView → Stage → Progress → WriteView → Type 0

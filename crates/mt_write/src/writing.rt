@@ -9,7 +9,7 @@ ghost use Rattle.mt_write.specs.Held.{write_request, write_held};
 ghost use Rattle.mt_write.specs.Writing.{WriteIsTrue};
 ghost use Rattle.mt_write.specs.Causes.{WriteWaits, WriteFails};
 ghost use Rattle.mt_write.specs.Runs.{commits_in};
-ghost use Rattle.mt_write.specs.Follows.{WriteStep, TreeStep, MayBeAt, MayLock, WriteFollows, HeadFollows, PostsFollow};
+ghost use Rattle.mt_write.specs.Follows.{WriteStep, TreeStep, MayBeAt, MayLock, WriteFollows, HeadFollows, PostsFollow, DropsFollow};
 
 use mt_arena::Node;
 use mt_border::{Entry, RightLink, SlotKey};
@@ -348,6 +348,7 @@ impl Write {
         ensures gets_on { WriteFollows tree.old self.old result self.new }
         ensures head { HeadFollows self.old result self.new }
         ensures posts { PostsFollow tree.old tree.new self.old result self.new }
+        ensures drops { DropsFollow tree.old tree.new self.old }
     {
         self.go(alloc, columns, tree, log)
     }

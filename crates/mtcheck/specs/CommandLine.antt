@@ -5,7 +5,7 @@ use Rattle.clap.specs.Words.{App, HasMatchesOf, new_app, with_rule}
 use Rattle.clap.specs.declared.parser.matches.ArgMatches.{ArgMatches}
 use Rattle.mt_command_line.specs.Opening.{columns_rule, IsColumns}
 use Rattle.mt_command_line.specs.declared.ending.Ending.{Ending}
-use Rattle.mt_drive.specs.declared.fault.ScriptFault.{ScriptFault}
+use Rattle.mt_script.specs.declared.fault.ScriptFault.{ScriptFault}
 use Rattle.mt_audit.specs.Audit.{Audited, Unfinished}
 
 -- the options of mtcheck

@@ -4,15 +4,15 @@
 ghost use Rattle.std.specs.Prelude.{◌≡◌, map, string_bytes, IfOk};
 ghost use Rattle.clap.specs.Words.{app_of};
 ghost use Rattle.mt_streams.specs.Sinks.{sink_writer};
-ghost use Rattle.mt_drive.specs.Source.{source_rest, source_unread};
+ghost use Rattle.mt_script.specs.Source.{source_rest, source_unread};
 ghost use Rattle.mtcheck.specs.CommandLine.{mtcheck_app, IsSaid, status_of, Answered};
 
 use clap::{Command, Error};
 use mt_audit::audit::audit;
 use mt_command_line::ending::{Ending, exit_code, status_of_run, words};
 use mt_command_line::opening::{columns_option, small_columns};
-use mt_drive::fault::ScriptFault;
-use mt_drive::source::Source;
+use mt_script::fault::ScriptFault;
+use mt_script::source::Source;
 use mt_streams::sink::Sink;
 use std::alloc::{AllocError, Global};
 use std::io;

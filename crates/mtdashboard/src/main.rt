@@ -13,7 +13,8 @@ use anyhow::{Result, bail};
 use bytes::Bytes;
 use mt_publish::follow::follow;
 use mt_publish::publisher::{Publisher, Told, ViewReader};
-use mt_shared::index::{Door, Index};
+use mt_shared::door::Door;
+use mt_shared::map::SharedMap;
 use mt_types::key::Key;
 use mt_types::refusal::Refusal;
 use std::alloc::Global;
@@ -34,13 +35,13 @@ type Watched = Result<(ViewReader, u64), Refusal>;
 fn publish<R: Wait, W: Wait + Drop>(
     rt: &R,
     alloc: Global,
-    index: &Index,
+    index: &SharedMap,
     mut publisher: Publisher<W>,
     written: &AtomicBool,
 ) -> Published<W>
     ensures { IfOk result (λ r. told_source r.1 ≡ source_of publisher) }
 {
-    let door = Door::new(index, rt);
+    let door = Door::new(index, rt, 1);
     for _ in rt.forever() {
         let last = written.load(Ordering::SeqCst);
         let new = follow(alloc, &door, &mut publisher, 1000)?;
@@ -61,7 +62,7 @@ fn write_and_publish<R: Threads + Wait + Sync, W: Wait + Drop + Send>(
 ) -> Published<W>
     ensures { IfOk result (λ r. told_source r.1 ≡ source_of publisher) }
 {
-    let (index, mut passes) = Index::start(alloc, OPTIONS, 1)?;
+    let (index, mut passes) = SharedMap::start(alloc, OPTIONS, 1)?;
     let Some(pass) = passes.pop() else {
         return Err(Refusal::WrongPass);
     };

@@ -2,8 +2,9 @@
 
 use bytes::Bytes;
 use mt_index::options::Options;
-use mt_shared::calls::put;
-use mt_shared::index::{Door, Index};
+use mt_shared::client::Client;
+use mt_shared::door::Door;
+use mt_shared::map::SharedMap;
 use mt_shared::pass::Pass;
 use mt_types::items::Items;
 use mt_types::refusal::Refusal;
@@ -22,6 +23,9 @@ pub(crate) const OPTIONS: Options = Options {
 
 // How many orders are written, each second one on the day that is shown.
 const ORDERS: u64 = 1000;
+
+// How many events of a put are made at most while the map's lock is held once.
+const MOST_EVENTS: u32 = 128;
 
 const DAY: &[u8] = b"order/2026-11-25/";
 
@@ -42,16 +46,16 @@ pub(crate) fn sum_of(page: &Page) -> u128 {
 pub(crate) fn write<R: Wait>(
     rt: &R,
     alloc: Global,
-    index: &Index,
-    mut pass: Pass,
+    index: &SharedMap,
+    pass: Pass,
 ) -> Result<(), Refusal> {
-    let mut door = Door::new(index, rt);
+    let mut client = Client::new(alloc, Door::new(index, rt, MOST_EVENTS), pass);
     for n in 0..ORDERS {
         let day = 24 + n % 2;
         let key = Bytes::from_string(format!(in alloc; "order/2026-11-{day}/{n:04}")?)?;
         let amount = Bytes::copy_from_slice(alloc, &n.to_be_bytes())?;
         let sets = Items::from_vec(Vec::from_array(alloc, [(0, amount)])?);
-        let _ = put(alloc, &mut door, &mut pass, key, sets)?;
+        let _ = client.put(key, sets)?;
     }
     Ok(())
 }

@@ -7,9 +7,9 @@ use Rattle.mt_command_line.specs.Opening.{with_index_rules, IsColumns, IsFeed, I
 use Rattle.mt_command_line.specs.declared.ending.Ending.{Ending}
 use Rattle.mt_index.specs.declared.options.Options.{Options}
 use Rattle.mt_types.specs.Limits.{open_fault}
-use Rattle.mt_drive.specs.declared.fault.ScriptFault.{ScriptFault}
-use Rattle.mt_drive.specs.declared.fault.ScriptFault.TheVariants.{Read, Write, NoMemory, Start}
-use Rattle.mt_drive.specs.Script.{Played, Broke}
+use Rattle.mt_script.specs.declared.fault.ScriptFault.{ScriptFault}
+use Rattle.mt_script.specs.declared.fault.ScriptFault.TheVariants.{Read, Write, NoMemory, Start}
+use Rattle.mt_script.specs.Script.{Played, Broke}
 
 -- the options of mtdrive
 abbrev pub mtdrive_app : App

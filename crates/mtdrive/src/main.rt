@@ -4,16 +4,16 @@
 ghost use Rattle.std.specs.Prelude.{◌≡◌, map, string_bytes, IfOk};
 ghost use Rattle.clap.specs.Words.{app_of};
 ghost use Rattle.mt_streams.specs.Sinks.{sink_writer};
-ghost use Rattle.mt_drive.specs.Source.{source_rest, source_unread};
+ghost use Rattle.mt_script.specs.Source.{source_rest, source_unread};
 ghost use Rattle.mtdrive.specs.CommandLine.{mtdrive_app, AreFound, AreSaid, status_of, Answered};
 
 use clap::{ArgMatches, Command, Error};
 use mt_command_line::ending::{Ending, exit_code, status_of_run, words};
 use mt_command_line::opening::{columns, feed, index_options, keep};
-use mt_drive::fault::ScriptFault;
-use mt_drive::script::script;
-use mt_drive::source::Source;
 use mt_index::options::Options;
+use mt_script::fault::ScriptFault;
+use mt_script::script::script;
+use mt_script::source::Source;
 use mt_streams::sink::Sink;
 use std::alloc::{AllocError, Global};
 use std::io;

@@ -6,7 +6,7 @@ use Rattle.mt_types.specs.declared.refusal.Refusal.{Refusal}
 use Rattle.mt_types.specs.declared.row.Change.TheVariants.{Put as PutChange, Drop as DropChange}
 use Rattle.mt_types.specs.declared.event.Request.{Request}
 use Rattle.mt_types.specs.declared.event.Request.TheVariants.{Get, Put, PutIf, Remove, Range, Tidy, Build}
-use Rattle.mt_drive.specs.Reading.{request_of}
+use Rattle.mt_script.specs.Reading.{request_of}
 use Rattle.mtrows.specs.declared.Line.{Line}
 use Rattle.mtrows.specs.declared.Line.TheVariants.{Says, Refused, Bad}
 

@@ -7,10 +7,10 @@ ghost use Rattle.std.specs.Prelude.{◌≡◌, IfOk};
 ghost use Rattle.mtrows.specs.Lines.{change_said, line_said};
 
 use anyhow::{Context, Result, bail};
-use mt_drive::fault::LineError;
-use mt_drive::reading::read_request;
-use mt_drive::showing::push_answer;
 use mt_rows::rows::after;
+use mt_script::fault::LineError;
+use mt_script::reading::read_request;
+use mt_script::showing::push_answer;
 use mt_types::event::{Answer, Request};
 use mt_types::key::Key;
 use mt_types::limits::{MAX_COLUMNS, request_fault};

@@ -5,7 +5,7 @@ use mt_serve::frames::Frames;
 use mt_serve::session::session;
 use mt_shared::driving::Shared;
 use mt_shared::holding::HoldingDoor;
-use mt_shared::index::Index;
+use mt_shared::map::SharedMap;
 use mt_shared::pass::Pass;
 use mt_shared::settling::Totals;
 use mt_streams::sink::Sink;
@@ -49,7 +49,7 @@ impl<T: Drop> From<AllocFailed<T>> for ServeError {
 fn serve<R: Wait + Eprint>(
     rt: &R,
     alloc: Global,
-    index: &Index,
+    index: &SharedMap,
     stream: &TcpStream,
     pass: &mut Pass,
 ) -> io::Result<()> {
@@ -70,7 +70,7 @@ fn serve<R: Wait + Eprint>(
 fn serve_next<R: Wait + Eprint>(
     rt: &R,
     alloc: Global,
-    index: &Index,
+    index: &SharedMap,
     listener: &TcpListener,
     pass: &mut Pass,
 ) -> io::Result<()> {
@@ -85,7 +85,7 @@ fn serve_next<R: Wait + Eprint>(
 fn work<R: Wait + Eprint>(
     rt: &R,
     alloc: Global,
-    index: &Index,
+    index: &SharedMap,
     listener: &TcpListener,
     settings: Settings,
     mut pass: Pass,
@@ -113,7 +113,7 @@ pub fn serve_all<R>(rt: &R, alloc: Global, settings: Settings) -> Result<Totals,
 where
     R: Net<Listener = TcpListener, Stream = TcpStream> + Threads + Wait + Sync + Eprint,
 {
-    let (index, passes) = Index::start(alloc, settings.options, settings.workers)?;
+    let (index, passes) = SharedMap::start(alloc, settings.options, settings.workers)?;
     let listener = TcpListener::bind(rt, ("127.0.0.1", settings.port.min(65535) as u16))?;
     eprintln!(rt; "listening {}", listener.local_addr()?.port())?;
     let worked = thread::map_vec(

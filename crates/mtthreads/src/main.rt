@@ -1,16 +1,15 @@
-//! An example: two threads share one index. Each puts ten keys of its own and gets them back; then one of their passes
+//! An example: two threads share one map. Each puts ten keys of its own and gets them back; then one of their passes
 //! ranges over all keys. The calls of the threads come in between each other, differently in each run; what is printed
 //! is the same.
 #![tactic(auto)]
 
-use anyhow::{Context, Result, bail};
+use anyhow::{Context, Result};
 use bytes::Bytes;
 use mt_index::options::Options;
-use mt_shared::caller::Caller;
-use mt_shared::index::Index;
+use mt_shared::client::Client;
+use mt_shared::door::Door;
+use mt_shared::map::SharedMap;
 use mt_shared::pass::Pass;
-use mt_shared::through::ThroughDoor;
-use mt_types::event::Answer;
 use mt_types::items::Items;
 use mt_types::refusal::Refusal;
 use std::alloc::Global;
@@ -21,11 +20,11 @@ use std::thread::Threads;
 // How many keys each thread puts.
 const KEYS: u64 = 10;
 
-// How many events of a call are made at most while the index's lock is held once.
+// How many events of a call are made at most while the map's lock is held once.
 const MOST_EVENTS: u32 = 128;
 
-// A caller of the index: a pass, with a door of its own.
-type Guest<'a, R> = Caller<ThroughDoor<'a, R>>;
+// A client of the map: a pass, with a door of its own.
+type Guest<'a, R> = Client<Door<'a, R>>;
 
 // The nth key of a pass, as `2/7`.
 fn nth_key(alloc: Global, pass: &Pass, n: u64) -> Result<Bytes, Refusal> {
@@ -33,24 +32,23 @@ fn nth_key(alloc: Global, pass: &Pass, n: u64) -> Result<Bytes, Refusal> {
     Ok(Bytes::from_string(text)?)
 }
 
-// Puts the keys of a caller, each with its own bytes in column 0 of its row.
-fn put_all<R: Wait>(alloc: Global, caller: &mut Guest<'_, R>) -> Result<(), Refusal> {
+// Puts the keys of a client, each with its own bytes in column 0 of its row.
+fn put_all<R: Wait>(alloc: Global, client: &mut Guest<'_, R>) -> Result<(), Refusal> {
     for n in 0..KEYS {
-        let sets = Vec::from_array(alloc, [(0, nth_key(alloc, &caller.pass, n)?)])?;
-        let key = nth_key(alloc, &caller.pass, n)?;
-        let _ = caller.put(key, Items::from_vec(sets))?;
+        let sets = Vec::from_array(alloc, [(0, nth_key(alloc, &client.pass, n)?)])?;
+        let key = nth_key(alloc, &client.pass, n)?;
+        let _ = client.put(key, Items::from_vec(sets))?;
     }
     Ok(())
 }
 
-// Gets the keys of a caller: the versions of the rows that are there.
-fn get_all<R: Wait>(alloc: Global, caller: &mut Guest<'_, R>) -> Result<Vec<u64>, Refusal> {
+// Gets the keys of a client: the versions of the rows that are there.
+fn get_all<R: Wait>(alloc: Global, client: &mut Guest<'_, R>) -> Result<Vec<u64>, Refusal> {
     let mut versions = Vec::new(alloc);
     for n in 0..KEYS {
-        let key = nth_key(alloc, &caller.pass, n)?;
+        let key = nth_key(alloc, &client.pass, n)?;
         // if no column is named, all are asked for
-        let reply = caller.get(key, Items::new(alloc))?;
-        if let Answer::Found(row) = &reply.answer {
+        if let Some(row) = client.get(key, Items::new(alloc))?.value {
             versions.push(row.version)?;
         }
     }
@@ -61,18 +59,18 @@ fn get_all<R: Wait>(alloc: Global, caller: &mut Guest<'_, R>) -> Result<Vec<u64>
 fn work<R: Wait>(
     rt: &R,
     alloc: Global,
-    index: &Index,
+    index: &SharedMap,
     pass: Pass,
 ) -> Result<(Pass, Vec<u64>), Refusal> {
-    let mut caller = Caller::new(alloc, ThroughDoor::new(index, rt, MOST_EVENTS), pass);
-    put_all(alloc, &mut caller)?;
-    let versions = get_all(alloc, &mut caller)?;
-    Ok((caller.pass, versions))
+    let mut client = Client::new(alloc, Door::new(index, rt, MOST_EVENTS), pass);
+    put_all(alloc, &mut client)?;
+    let versions = get_all(alloc, &mut client)?;
+    Ok((client.pass, versions))
 }
 
 fn run<R: Threads + Wait + Sync + Print + AllocGlobal>(rt: &R) -> Result<()> {
     let alloc = rt.alloc();
-    let (index, passes) = Index::start(alloc, Options::default(), 2)?;
+    let (index, passes) = SharedMap::start(alloc, Options::default(), 2)?;
     // a thread for each pass; they have ended when this returns
     let worked = thread::map_vec(rt, passes, &|pass| work(rt, alloc, &index, pass))?;
     let mut passes = Vec::new(alloc);
@@ -86,14 +84,11 @@ fn run<R: Threads + Wait + Sync + Print + AllocGlobal>(rt: &R) -> Result<()> {
         passes.push(pass)?;
     }
     let one = passes.pop().context("there is no pass")?;
-    let mut caller = Caller::new(alloc, ThroughDoor::new(&index, rt, MOST_EVENTS), one);
+    let mut client = Client::new(alloc, Door::new(&index, rt, MOST_EVENTS), one);
     // 100 rows at most, from the first key on
-    let reply = caller.range(Bytes::new(), 100, Items::new(alloc))?;
-    let Answer::Rows(rows) = &reply.answer else {
-        bail!("a range answers with rows")
-    };
+    let rows = client.range(Bytes::new(), 100, Items::new(alloc))?.value;
     println!(rt; "range: {} rows", rows.as_slice().len())?;
-    passes.push(caller.pass)?;
+    passes.push(client.pass)?;
     let totals = index.close(passes)?;
     println!(rt; "close: {} commits", totals.commits)?;
     Ok(())

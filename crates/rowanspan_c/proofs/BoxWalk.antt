@@ -1,4 +1,4 @@
--- The box of an index: how a call takes it apart and how one makes it, at `Machine` and `Global`.
+-- The box of an index: how a call takes it apart and how one makes it, at `Map` and `Global`.
 --     index_glue, heap_glue     the drops that the calls pass, and index_drops, heap_drops: that each does what a drop is to do
 --     Apart, Again              the contracts of the two calls
 --     asks_apart, asks_again    what they ask, from what the box owns, and from what lies at its block
@@ -52,14 +52,14 @@ use Rattle.std_heap.specs.contracts.GlobalAllocator.TheImpl.{ghosts, dict}
 use Rattle.std_heap.specs.contracts.Global.{the_row as Heap}
 use Rattle.std_heap.proofs.Global.TheLaws as heap_laws
 use Rattle.std_heap.specs.declared.Global.{Global}
-use Rattle.mt_index.specs.contracts.machine.Machine.{the_row as Index}
-use Rattle.mt_index.proofs.machine.Machine.TheLaws as index_laws
+use Rattle.mt_map.specs.contracts.map.Map.{the_row as Index}
+use Rattle.mt_map.proofs.map.Map.TheLaws as index_laws
 use Rattle.rowanspan_c.proofs.Destruct++none.drop.Symbol as no_drop
 use Rattle.rowanspan_c.proofs.Destruct++none.drop.Code as no_drop_code
-use Rattle.mt_index.proofs.machine.Machine.drop.Symbol as index_drop
-use Rattle.mt_index.proofs.machine.Machine.drop.Met as index_met
-use Rattle.mt_index.proofs.machine.Machine.drop.Kinds as kinds
-use Rattle.mt_index.proofs.machine.Machine.drop.Reads as reads
+use Rattle.mt_map.proofs.map.Map.drop.Symbol as index_drop
+use Rattle.mt_map.proofs.map.Map.drop.Met as index_met
+use Rattle.mt_map.proofs.map.Map.drop.Kinds as kinds
+use Rattle.mt_map.proofs.map.Map.drop.Reads as reads
 
 -- the two types as a call names them: by how they lie alone
 abbrev pub IndexArg : RattleType
@@ -75,7 +75,7 @@ abbrev pub heap_arg_laws : Laws HeapArg
 heap_arg_laws = arg_laws (bare (layout Heap)) no Heap heap_laws.the_row_laws refl
 
 abbrev pub index_glue : Dict
-index_glue = impl ("mt_index::machine::Machine::drop" ∷ []) tnil dnil
+index_glue = impl ("mt_map::map::Map::drop" ∷ []) tnil dnil
 
 abbrev pub heap_glue : Dict
 heap_glue = impl ("rowanspan_c::Destruct++none::drop" ∷ []) (tcons (layout HeapArg) tnil) dnil

@@ -1,12 +1,12 @@
 -- What comes of calls on what a handle holds, case by case.
 use Rattle.std.proofs.Common.{◌≡◌, ◌<◌, ◌≤◌, ℕ, suc, List, Bool, true, refl, sym, ap, subst, inl, inr, arith}
-use Rattle.std.specs.Prelude.{Option, Some, None, Result, Ok, Err, MatchOption}
+use Rattle.std.specs.Prelude.{Option, Some, None, Result, Ok, Err, IfOk, IfErr, MatchOption}
 use Rattle.std.specs.Option.{option_or}
 use Rattle.std.proofs.lemmas.Bool.Decides.{leb_tells}
+use Rattle.mt_types.specs.declared.event.Answer.{Answer}
 use Rattle.mt_types.specs.declared.event.Event.{Event}
 use Rattle.mt_types.specs.declared.event.Outcome.{Outcome}
 use Rattle.mt_types.specs.declared.event.Outcome.TheVariants.{View, Refused}
-use Rattle.mt_types.specs.declared.event.Reply.{Reply}
 use Rattle.mt_types.specs.declared.event.Request.{Request}
 use Rattle.mt_types.specs.declared.refusal.Refusal.{Refusal}
 use Rattle.mt_types.specs.declared.refusal.Refusal.TheVariants.{NoMemory, NoSuchView, Behind}
@@ -15,44 +15,50 @@ use Rattle.mt_types.specs.Limits.{open_fault, refused_if}
 use Rattle.mt_types.specs.RefusalNumbers.{refusal_number}
 use Rattle.mt_view.specs.State.{StateView}
 use Rattle.mt_index.specs.declared.options.Options.{Options}
-use Rattle.mt_index.specs.Alone.{IsIdle}
-use Rattle.mt_index.specs.Events.{Happens, IsOpened}
-use Rattle.mt_index.specs.Stands.{MachineView, ReadsPage}
-use Rattle.rowanspan_c.specs.Kept.{is_nil, is_quiet}
+use Rattle.mt_index.specs.Events.{IsOpened}
+use Rattle.mt_index.specs.Stands.{ReadsPage}
+use Rattle.mt_map.specs.Tidies.{ChangeComesTo, MapMakes, MapView}
+use Rattle.mt_map.specs.Views.{IsStopped, KeepsUp}
+use Rattle.rowanspan_c.specs.declared.changing.TheConstants.{MOST_TURNS}
 use Rattle.rowanspan_c.specs.Questions.{IsCausedBy, state_refusal}
-use Rattle.rowanspan_c.specs.Told.{TellsEnd, TellsOutcome}
-use Rattle.rowanspan_c.specs.Calls.{Changes, EndsAlone, Meets, Opens, StandsNext}
+use Rattle.rowanspan_c.specs.Told.{TellsCount, TellsEnd, TellsOutcome}
+use Rattle.rowanspan_c.specs.Calls.{Changes, KeepsViews, Meets, Opens}
 
--- ---- quiet
+-- ---- a change
 
-pub idle-quiet : (s : MachineView) → IsIdle s → is_quiet (Some s) ≡ true
-idle-quiet s idle = ap is_nil idle
-
--- ---- a request
-
-pub changes_closed : (held next : Option MachineView) (request : Request) → held ≡ None → next ≡ None
+pub changes_closed : (held next : Option MapView) (request : Request) → held ≡ None → next ≡ None
     → Changes held request next 100 0
 changes_closed held next request is after =
-    subst (λ (h : Option MachineView). Changes h request next 100 0) (sym is) (after, (refl, refl))
+    subst (λ (h : Option MapView). Changes h request next 100 0) (sym is) (after, (refl, refl))
 
-pub changes_done : (held next : Option MachineView) (s t : MachineView) (request : Request)
-    (ended : Result Reply Refusal) (status told : ℕ) → held ≡ Some s → next ≡ Some t → EndsAlone s request ended t
+pub changes_done : (held next : Option MapView) (s t : MapView) (request : Request)
+    (ended : Result Answer Refusal) (status told : ℕ) → held ≡ Some s → next ≡ Some t → ChangeComesTo s request ended t
     → TellsEnd ended status told → Changes held request next status told
 changes_done held next s t request ended status told is after ends tells =
-    subst (λ (h : Option MachineView). Changes h request next status told) (sym is) (t, after, ended, ends, tells)
+    subst (λ (h : Option MapView). Changes h request next status told) (sym is) (t, after, ended, ends, tells)
 
 -- ---- an event
 
-pub meets_closed : (held next : Option MachineView) (event : Event) → held ≡ None → next ≡ None
+pub meets_closed : (held next : Option MapView) (event : Event) → held ≡ None → next ≡ None
     → Meets held event next 100 0
 meets_closed held next event is after =
-    subst (λ (h : Option MachineView). Meets h event next 100 0) (sym is) (after, (refl, refl))
+    subst (λ (h : Option MapView). Meets h event next 100 0) (sym is) (after, (refl, refl))
 
-pub meets_done : (held next : Option MachineView) (s t : MachineView) (event : Event) (outcome : Outcome)
-    (status told : ℕ) → held ≡ Some s → next ≡ Some t → Happens s event outcome t → StandsNext s event outcome t
+pub meets_done : (held next : Option MapView) (s t : MapView) (event : Event) (outcome : Outcome)
+    (status told : ℕ) → held ≡ Some s → next ≡ Some t → MapMakes s event outcome t
     → TellsOutcome outcome status told → Meets held event next status told
-meets_done held next s t event outcome status told is after happens stands tells =
-    subst (λ (h : Option MachineView). Meets h event next status told) (sym is) (t, after, outcome, happens, stands, tells)
+meets_done held next s t event outcome status told is after makes tells =
+    subst (λ (h : Option MapView). Meets h event next status told) (sym is) (t, after, outcome, makes, tells)
+
+pub keeps_closed : (held next : Option MapView) → held ≡ None → next ≡ None → KeepsViews held next 100 0
+keeps_closed held next is after = subst (λ (h : Option MapView). KeepsViews h next 100 0) (sym is) (after, (refl, refl))
+
+pub keeps_done : (held next : Option MapView) (s t : MapView) (kept : Result ℕ Refusal) (status told : ℕ)
+    → held ≡ Some s → next ≡ Some t → IfOk kept (λ applied. KeepsUp s.machine MOST_TURNS applied t.machine)
+    → IfErr kept (λ refusal. IsStopped s.machine MOST_TURNS refusal t.machine) → t.tidies ≡ s.tidies
+    → TellsCount kept status told → KeepsViews held next status told
+keeps_done held next s t kept status told is after keeps stops tidies tells =
+    subst (λ (h : Option MapView). KeepsViews h next status told) (sym is) (t, after, kept, keeps, stops, tidies, tells)
 
 -- ---- a page
 
@@ -110,18 +116,19 @@ neither first second none still = subst (λ (f : Option Refusal). option_or f se
 
 -- ---- an opening
 
-pub opens_held : (held next : Option MachineView) (s : MachineView) (options : Options) → held ≡ Some s → next ≡ Some s
+pub opens_held : (held next : Option MapView) (s : MapView) (options : Options) → held ≡ Some s → next ≡ Some s
     → Opens held options next 101
 opens_held held next s options is after =
-    subst (λ (h : Option MachineView). Opens h options next 101) (sym is) (after, refl)
+    subst (λ (h : Option MapView). Opens h options next 101) (sym is) (after, refl)
 
-pub opens_done : (held next : Option MachineView) (t : MachineView) (options : Options) → held ≡ None → next ≡ Some t
-    → IsOpened options t → open_fault options.columns options.feed options.keep ≡ None → Opens held options next 0
+pub opens_done : (held next : Option MapView) (t : MapView) (options : Options) → held ≡ None → next ≡ Some t
+    → IsOpened options t.machine × (t.tidies ≡ options.tidies)
+    → open_fault options.columns options.feed options.keep ≡ None → Opens held options next 0
 opens_done held next t options is after opened fits =
-    subst (λ (h : Option MachineView). Opens h options next 0) (sym is) (inl (t, after, opened, refl, fits))
+    subst (λ (h : Option MapView). Opens h options next 0) (sym is) (inl (t, after, opened.0, opened.1, refl, fits))
 
-pub opens_not : (held next : Option MachineView) (options : Options) (refusal : Refusal) (status : ℕ) → held ≡ None
+pub opens_not : (held next : Option MapView) (options : Options) (refusal : Refusal) (status : ℕ) → held ≡ None
     → next ≡ None → IsCausedBy (open_fault options.columns options.feed options.keep) refusal
     → status ≡ refusal_number refusal → Opens held options next status
 opens_not held next options refusal status is after caused told =
-    subst (λ (h : Option MachineView). Opens h options next status) (sym is) (inr (refusal, caused, after, told))
+    subst (λ (h : Option MapView). Opens h options next status) (sym is) (inr (refusal, caused, after, told))

@@ -11,8 +11,8 @@ use denote.Param.Send.{IsSend, AllSend, owning_send, struct_send, sendable}
 use Rattle.std.proofs.Crossing.{frees}
 use Rattle.std_alloc.proofs.SendSync.{quiet, lies}
 use Rattle.std_heap.specs.declared.Global.{Global}
-use Rattle.mt_index.specs.contracts.machine.Machine.{the_row as Index}
-use Rattle.mt_index.proofs.machine.Machine.TheSendSync.{the_send as index_send}
+use Rattle.mt_map.specs.contracts.map.Map.{the_row as Index}
+use Rattle.mt_map.proofs.map.Map.TheSendSync.{the_send as index_send}
 use Rattle.rowanspan_c.specs.Kept.{kept}
 use Rattle.rowanspan_c.specs.contracts.handle.Handle.{the_row, the_type}
 

@@ -13,7 +13,7 @@ use denote.Struct.Owning.{shape, to}
 use denote.RawPtr.{Ptr, ptr_val}
 use Rattle.std.specs.contracts.alloc.Global as heap
 use Rattle.std.proofs.alloc.Global.TheLaws as heap_laws
-use Rattle.mt_index.specs.contracts.machine.Machine.{the_row as S}
+use Rattle.mt_map.specs.contracts.map.Map.{the_row as S}
 use Rattle.rowanspan_c.specs.contracts.handle.Handle.{the_row as Hd, the_type}
 use Rattle.rowanspan_c.proofs.handle.Handle.TheLaws.{lowers}
 use Rattle.std.specs.declared.option.Option.{Option}
@@ -21,7 +21,7 @@ use Rattle.std.specs.declared.option.Option.TheVariants.{None, Some}
 use Rattle.std.specs.declared.alloc.Global.{Global}
 use Rattle.std.specs.contracts.impls.GlobalAllocator.TheImpl.{ghosts}
 use Rattle.std_alloc.specs.Box.Ownership.{box_owns}
-use Rattle.rowanspan_c.specs.Kept.{kept, is_held, is_quiet}
+use Rattle.rowanspan_c.specs.Kept.{kept, is_held}
 
 abbrev IsTrue : Bool → Type 0
 IsTrue true = Unit {0}
@@ -34,8 +34,8 @@ module _ (R : RattleType) {M : Type 1} {𝓤 : Ura M} {𝓛 : Logic 𝓤} {K : T
 
 -- the handle of a kept box, or of none
 module _ {M : Type 1} {𝓤 : Ura M} {𝓛 : Logic 𝓤} {K : Type 0} {Γ : List (Item 𝓤)} {G : Goal 𝓤 𝓛.H} where
-  pub handle_in : K → (p : Ptr) (b : Bool) (a : Global) (m : Option S.Denot) (e : b ≡ is_held m) (q : is_quiet m ≡ true)
-      → Step K 𝓛 (‵ (Hd.own_val (record { at = p; is_open = b; alloc = a; held = m; told = e; quiet = q }) (lowers.lowered (record { at = p; is_open = b; alloc = a; held = m; told = e; quiet = q }) ∷ [])) ∷ Γ) G (‵ (kept S a p m) ∷ ‵ ((heap.the_row).own_val a (heap_laws.lowers.lowered a ∷ [])) ∷ Γ) G
-  handle_in t p b a m e q = step (λ s. let v : Val = lowers.lowered (record { at = p; is_open = b; alloc = a; held = m; told = e; quiet = q }) in
+  pub handle_in : K → (p : Ptr) (b : Bool) (a : Global) (m : Option S.Denot) (e : b ≡ is_held m)
+      → Step K 𝓛 (‵ (Hd.own_val (record { at = p; is_open = b; alloc = a; held = m; told = e }) (lowers.lowered (record { at = p; is_open = b; alloc = a; held = m; told = e }) ∷ [])) ∷ Γ) G (‵ (kept S a p m) ∷ ‵ ((heap.the_row).own_val a (heap_laws.lowers.lowered a ∷ [])) ∷ Γ) G
+  handle_in t p b a m e = step (λ s. let v : Val = lowers.lowered (record { at = p; is_open = b; alloc = a; held = m; told = e }) in
       nothing t $ move t (2 ∷ 0 ∷ []) $ fjoin t $ feq_i t (List Val) (bool_vals b) (bool_vals b) refl $ fjoin t $ feq_i t (List Val) (ptr_val p ∷ []) (ptr_val p ∷ []) refl $ fjoin t $ feq_i t (List Val) (v ∷ []) (v ∷ []) refl $ fjoin t $
-      fpack t (Valss (RawPtr ∷ bool ∷ heap.the_row ∷ [])) (within (shape the_type) (to the_type (record { at = p; is_open = b; alloc = a; held = m; told = e; quiet = q })) (v ∷ [])) (ptr_val p ∷ [], (bool_vals b, (heap_laws.lowers.lowered a ∷ [], tt))) $ fjoin t $ s)
+      fpack t (Valss (RawPtr ∷ bool ∷ heap.the_row ∷ [])) (within (shape the_type) (to the_type (record { at = p; is_open = b; alloc = a; held = m; told = e })) (v ∷ [])) (ptr_val p ∷ [], (bool_vals b, (heap_laws.lowers.lowered a ∷ [], tt))) $ fjoin t $ s)

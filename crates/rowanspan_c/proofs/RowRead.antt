@@ -1,11 +1,11 @@
 -- A row that is read into a buffer, case by case.
 use Rattle.std.proofs.Common.{◌≡◌, ◌*◌, ◌≤◌, ℕ, List, [], ◌∷◌, length, refl, sym, ap, arith, length-append}
 use Rattle.std.specs.List.{AllByRecursion, flat_map}
-use Rattle.std.specs.Prelude.{Result, Ok, Err, Option, Some, None}
-use Rattle.std.specs.Option.{option_map}
+use Rattle.std.specs.Prelude.{Result, Ok, Err, Option, Some, None, MatchOption}
+use Rattle.std.specs.Option.{option_map, option_or}
 use Rattle.std.specs.FinMap.{get}
 use Rattle.mt_types.specs.Rows.{shown}
-use Rattle.mt_types.specs.Limits.{request_fault}
+use Rattle.mt_types.specs.Limits.{columns_fault, key_fault, request_fault}
 use Rattle.mt_types.specs.Limited.{ColumnIsLimited, RowIsLimited}
 use Rattle.mt_types.specs.declared.event.Answer.TheVariants.{Found}
 use Rattle.mt_types.specs.declared.event.Request.TheVariants.{Get}
@@ -31,6 +31,15 @@ pub row_most : (row : Row) → RowIsLimited row → length (flat_map bytes_spell
 row_most row limited =
     let few = limited.0 in
     let most = columns_most row.columns limited.1 in omega (arith, few, most)
+
+-- what holds of a get whose key isn't too long holds of one that breaks no limit
+pub never_long : (s : MachineView) (key asked : List ℕ) (P : Type 0) (Q : Refusal → Type 0) → request_fault s.columns (Get key asked) ≡ None
+    → MatchOption (key_fault key) P Q → P
+never_long s key asked P Q fits matched = go (key_fault key) fits matched
+  where
+    go : (fault : Option Refusal) → option_or fault (columns_fault s.columns asked) ≡ None → MatchOption fault P Q → P
+    go None none found = found
+    go (Some due) none found = absurd (let clash : ◌≡◌ {A = Option Refusal} (Some due) None = none in cc)
 
 module _ (s : MachineView) (key asked old new : List ℕ) (status told : ℕ) where
   abbrev pub IsAnswered : Type 0

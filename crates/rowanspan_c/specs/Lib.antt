@@ -1,5 +1,5 @@
 pub mod Kept
-pub mod Asked
+pub mod Tests
 pub mod Spelling
 pub mod Questions
 pub mod Told

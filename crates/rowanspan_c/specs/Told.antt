@@ -5,7 +5,6 @@ use Rattle.mt_types.specs.declared.refusal.Refusal.{Refusal}
 use Rattle.mt_types.specs.TidyNumbers.{tidy_number}
 use Rattle.mt_types.specs.declared.event.Answer.{Answer}
 use Rattle.mt_types.specs.declared.event.Answer.TheVariants.{Absent, Stored, Removed, Tidied, Built}
-use Rattle.mt_types.specs.declared.event.Reply.{Reply}
 use Rattle.mt_types.specs.declared.event.Outcome.{Outcome}
 use Rattle.mt_types.specs.declared.event.Outcome.TheVariants.{Applied, Current, Epoch, Freed, Refused}
 use Rattle.rowanspan_c.specs.declared.status.TheConstants.{DONE, ABSENT, NO_ROOM, CURRENT}
@@ -28,9 +27,14 @@ TellsAnswer (Built view) status told = Tells DONE view.0 status told
 TellsAnswer _ status told = Tells DONE 0 status told
 
 -- the end of a call
-abbrev pub TellsEnd : Result Reply Refusal → ℕ → ℕ → Type 0
-TellsEnd (Ok reply) status told = TellsAnswer reply.answer status told
+abbrev pub TellsEnd : Result Answer Refusal → ℕ → ℕ → Type 0
+TellsEnd (Ok answer) status told = TellsAnswer answer status told
 TellsEnd (Err refusal) status told = TellsRefusal refusal status told
+
+-- a number, or why there is none
+abbrev pub TellsCount : Result ℕ Refusal → ℕ → ℕ → Type 0
+TellsCount (Ok count) status told = Tells DONE count status told
+TellsCount (Err refusal) status told = TellsRefusal refusal status told
 
 -- what came of an event
 abbrev pub TellsOutcome : Outcome → ℕ → ℕ → Type 0

@@ -2,45 +2,31 @@
 //!
 //! The header, `include/rowanspan.h`, says what each does, what it costs and when it is refused.
 
-ghost use Rattle.std.specs.Prelude.{◌≡◌, ◌<◌, ◌≤◌, MatchResult, OnOk, Some as SomeOf, None as NoneOf, true};
+ghost use Rattle.std.specs.Prelude.{◌≡◌, ◌<◌, ◌≤◌, Some as SomeOf, None as NoneOf, true};
 ghost use Rattle.mt_types.specs.declared.event.Request.TheVariants.{Put, PutIf, Remove, Tidy, Build};
 ghost use Rattle.mt_types.specs.declared.event.Event.TheVariants.{Apply, ViewDrop, Advance, Collect};
 ghost use Rattle.mt_types.specs.declared.view.ViewSpec.TheVariants.{Range as RangeOf, Prefix as PrefixOf};
-ghost use Rattle.mt_types.specs.Limits.{open_fault};
 ghost use Rattle.mt_commit.specs.Log.{newest};
 ghost use Rattle.mt_arena.specs.Node.{occupied};
-ghost use Rattle.mt_index.specs.Alone.{IsIdle};
-ghost use Rattle.mt_index.specs.Events.{IsOpened};
-ghost use Rattle.rowanspan_c.specs.Questions.{IsCausedBy, ReadsRow, ReadsRows, ReadsPage, ReadsDeltas};
+ghost use Rattle.mt_map.specs.Borrowed.{sets_of};
+ghost use Rattle.rowanspan_c.specs.Questions.{ReadsRow, ReadsRows, ReadsPage, ReadsDeltas};
 ghost use Rattle.rowanspan_c.specs.Told.{Tells};
-ghost use Rattle.rowanspan_c.specs.Asked.{greatest_kind, sets_of, test_of};
-ghost use Rattle.rowanspan_c.specs.Calls.{Opens, Changes, Reads, Meets, Counts, close_status};
+ghost use Rattle.rowanspan_c.specs.Tests.{greatest_kind, row_test_of};
+ghost use Rattle.rowanspan_c.specs.Calls.{Opens, Changes, Reads, Meets, KeepsViews, Counts, close_status};
 
-use crate::asking::{Asked, ColumnSet, ViewTest};
-use crate::changing::{answer, change, meet};
-use crate::handle::Handle;
+use crate::changing::{answer, change, keep_views, meet};
+use crate::handle::{Handle, opened};
 use crate::reading::{Question, get};
 use crate::status::{CLOSED, DONE, HELD, NO_SUCH_TEST};
-use mt_index::machine::Machine;
+use crate::testing::{GREATEST_KIND, ViewTest, test_of};
 use mt_index::options::Options;
+use mt_map::asked::Asked;
+use mt_map::borrowed::{Set, Spec};
 use mt_types::event::Event;
 use mt_types::numbers::ViewNo;
-use mt_types::refusal::Refusal;
 use std::alloc::Global;
 
-// The greatest kind of a test of rows.
-const GREATEST_KIND: u8 = 2;
-
 // ---- the handle
-
-fn opened(alloc: Global, options: Options) -> Result<Box<Machine>, Refusal>
-    ensures opened { MatchResult result (λ index. IsOpened options index.value × IsIdle index.value)
-        (λ refusal. IsCausedBy (open_fault options.columns options.feed options.keep) refusal) }
-    ensures fits { OnOk result (open_fault options.columns options.feed options.keep ≡ NoneOf) }
-{
-    let index = Machine::open(alloc, options)?;
-    Ok(Box::new(alloc, index)?)
-}
 
 /// Opens an index.
 #[unsafe(no_mangle)]
@@ -92,7 +78,7 @@ pub extern "C" fn rowanspan_raw_put<'a>(
     handle: &mut Handle,
     alloc: Global,
     key: &[u8],
-    sets: &[ColumnSet<'a>],
+    sets: &[Set<'a>],
     told: &mut u64,
 ) -> u16
     ensures { Changes handle.old.held (Put key.now (sets_of sets.now)) handle.new.held result told.new }
@@ -106,7 +92,7 @@ pub extern "C" fn rowanspan_raw_put_if<'a>(
     handle: &mut Handle,
     alloc: Global,
     key: &[u8],
-    sets: &[ColumnSet<'a>],
+    sets: &[Set<'a>],
     version: u64,
     told: &mut u64,
 ) -> u16
@@ -151,7 +137,7 @@ pub extern "C" fn rowanspan_raw_get(
     into: &mut [u8],
     told: &mut u64,
 ) -> u16
-    ensures row { Reads handle.old.held (λ index. ReadsRow index key.now columns.now) into.old into.new result told.new }
+    ensures row { Reads handle.old.held (λ index. ReadsRow index.machine key.now columns.now) into.old into.new result told.new }
     ensures kept { handle.new.held ≡ handle.old.held }
 {
     let Some(index) = handle.take(alloc) else {
@@ -174,7 +160,7 @@ pub extern "C" fn rowanspan_raw_range(
     into: &mut [u8],
     told: &mut u64,
 ) -> u16
-    ensures rows { Reads handle.old.held (λ index. ReadsRows index start.now limit columns.now) into.old into.new
+    ensures rows { Reads handle.old.held (λ index. ReadsRows index.machine start.now limit columns.now) into.old into.new
         result told.new }
     ensures kept { handle.new.held ≡ handle.old.held }
 {
@@ -203,7 +189,7 @@ pub extern "C" fn rowanspan_raw_build_prefix<'a>(
     told: &mut u64,
 ) -> u16
     ensures built { test.now.kind ≤ greatest_kind
-        → Changes handle.old.held (Build (PrefixOf prefix.now (test_of test.now))) handle.new.held result told.new }
+        → Changes handle.old.held (Build (PrefixOf prefix.now (row_test_of test.now))) handle.new.held result told.new }
     ensures no_test { greatest_kind < test.now.kind
         → (handle.new.held ≡ handle.old.held) × Tells NO_SUCH_TEST 0 result told.new }
 {
@@ -211,7 +197,9 @@ pub extern "C" fn rowanspan_raw_build_prefix<'a>(
         *told = 0;
         return NO_SUCH_TEST;
     }
-    change(handle, alloc, &Asked::BuildPrefix { prefix, test }, told)
+    let test = test_of(test);
+    let spec = Spec::Prefix { key: prefix, test };
+    change(handle, alloc, &Asked::Build { spec: &spec }, told)
 }
 
 /// Builds a view of the keys at or after `lo`.
@@ -224,7 +212,7 @@ pub extern "C" fn rowanspan_raw_build_from<'a>(
     told: &mut u64,
 ) -> u16
     ensures built { test.now.kind ≤ greatest_kind
-        → Changes handle.old.held (Build (RangeOf lo.now NoneOf (test_of test.now))) handle.new.held result told.new }
+        → Changes handle.old.held (Build (RangeOf lo.now NoneOf (row_test_of test.now))) handle.new.held result told.new }
     ensures no_test { greatest_kind < test.now.kind
         → (handle.new.held ≡ handle.old.held) × Tells NO_SUCH_TEST 0 result told.new }
 {
@@ -232,7 +220,9 @@ pub extern "C" fn rowanspan_raw_build_from<'a>(
         *told = 0;
         return NO_SUCH_TEST;
     }
-    change(handle, alloc, &Asked::BuildFrom { lo, test }, told)
+    let test = test_of(test);
+    let spec = Spec::From { lo, test };
+    change(handle, alloc, &Asked::Build { spec: &spec }, told)
 }
 
 /// Builds a view of the keys at or after `lo` and before `hi`.
@@ -246,7 +236,7 @@ pub extern "C" fn rowanspan_raw_build_between<'a>(
     told: &mut u64,
 ) -> u16
     ensures built { test.now.kind ≤ greatest_kind
-        → Changes handle.old.held (Build (RangeOf lo.now (SomeOf hi.now) (test_of test.now))) handle.new.held result
+        → Changes handle.old.held (Build (RangeOf lo.now (SomeOf hi.now) (row_test_of test.now))) handle.new.held result
         told.new }
     ensures no_test { greatest_kind < test.now.kind
         → (handle.new.held ≡ handle.old.held) × Tells NO_SUCH_TEST 0 result told.new }
@@ -255,7 +245,9 @@ pub extern "C" fn rowanspan_raw_build_between<'a>(
         *told = 0;
         return NO_SUCH_TEST;
     }
-    change(handle, alloc, &Asked::BuildBetween { lo, hi, test }, told)
+    let test = test_of(test);
+    let spec = Spec::Between { lo, hi, test };
+    change(handle, alloc, &Asked::Build { spec: &spec }, told)
 }
 
 /// Advances a view by one commit. If `view` is 0, advances the view at the fewest commits.
@@ -271,6 +263,18 @@ pub extern "C" fn rowanspan_apply(
     meet(handle, alloc, &Event::Apply(ViewNo(view)), told)
 }
 
+/// Advances all views to the newest commit.
+#[unsafe(no_mangle)]
+pub extern "C" fn rowanspan_raw_keep_views(
+    handle: &mut Handle,
+    alloc: Global,
+    told: &mut u64,
+) -> u16
+    ensures { KeepsViews handle.old.held handle.new.held result told.new }
+{
+    keep_views(handle, alloc, told)
+}
+
 /// Reads a page of a view.
 #[unsafe(no_mangle)]
 pub extern "C" fn rowanspan_raw_view(
@@ -283,7 +287,7 @@ pub extern "C" fn rowanspan_raw_view(
     into: &mut [u8],
     told: &mut u64,
 ) -> u16
-    ensures page { Reads handle.old.held (λ index. ReadsPage index view floor start.now limit) into.old into.new result
+    ensures page { Reads handle.old.held (λ index. ReadsPage index.machine view floor start.now limit) into.old into.new result
         told.new }
     ensures kept { handle.new.held ≡ handle.old.held }
 {
@@ -326,7 +330,7 @@ pub extern "C" fn rowanspan_raw_feed(
     into: &mut [u8],
     told: &mut u64,
 ) -> u16
-    ensures deltas { Reads handle.old.held (λ index. ReadsDeltas index from limit) into.old into.new result told.new }
+    ensures deltas { Reads handle.old.held (λ index. ReadsDeltas index.machine from limit) into.old into.new result told.new }
     ensures kept { handle.new.held ≡ handle.old.held }
 {
     answer(handle, alloc, &Question::Deltas { from, limit }, into, told)
@@ -351,7 +355,7 @@ pub extern "C" fn rowanspan_collect(handle: &mut Handle, alloc: Global, told: &m
 /// Reports how many commits were made.
 #[unsafe(no_mangle)]
 pub extern "C" fn rowanspan_commits(handle: &mut Handle, alloc: Global, told: &mut u64) -> u16
-    ensures number { Counts handle.old.held (λ index. newest index.log) result told.new }
+    ensures number { Counts handle.old.held (λ index. newest index.machine.log) result told.new }
     ensures kept { handle.new.held ≡ handle.old.held }
 {
     let Some(index) = handle.take(alloc) else {
@@ -366,7 +370,7 @@ pub extern "C" fn rowanspan_commits(handle: &mut Handle, alloc: Global, told: &m
 /// Reports how many node numbers are occupied.
 #[unsafe(no_mangle)]
 pub extern "C" fn rowanspan_nodes(handle: &mut Handle, alloc: Global, told: &mut u64) -> u16
-    ensures number { Counts handle.old.held (λ index. occupied index.tree.nodes) result told.new }
+    ensures number { Counts handle.old.held (λ index. occupied index.machine.tree.nodes) result told.new }
     ensures kept { handle.new.held ≡ handle.old.held }
 {
     let Some(index) = handle.take(alloc) else {
@@ -381,7 +385,7 @@ pub extern "C" fn rowanspan_nodes(handle: &mut Handle, alloc: Global, told: &mut
 /// Reports how many columns a row has.
 #[unsafe(no_mangle)]
 pub extern "C" fn rowanspan_columns(handle: &mut Handle, alloc: Global, told: &mut u64) -> u16
-    ensures number { Counts handle.old.held (λ index. index.columns) result told.new }
+    ensures number { Counts handle.old.held (λ index. index.machine.columns) result told.new }
     ensures kept { handle.new.held ≡ handle.old.held }
 {
     let Some(index) = handle.take(alloc) else {

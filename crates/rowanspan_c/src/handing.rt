@@ -3,11 +3,11 @@
 ghost use Rattle.mt_types.specs.Limited.{RowIsLimited};
 ghost use Rattle.mt_types.specs.Rows.{shown};
 ghost use Rattle.rowanspan_c.specs.Spelling.{row_spelling};
-ghost use Rattle.rowanspan_c.specs.Told.{Tells, TellsRefusal, TellsAnswer, TellsEnd, TellsOutcome, HandsOut, TellsRead};
+ghost use Rattle.rowanspan_c.specs.Told.{Tells, TellsRefusal, TellsAnswer, TellsCount, TellsEnd, TellsOutcome, HandsOut, TellsRead};
 
 use crate::placing;
 use crate::status::{ABSENT, CURRENT, DONE, NO_ROOM};
-use mt_types::event::{Answer, Outcome, Reply};
+use mt_types::event::{Answer, Outcome};
 use mt_types::items::Items;
 use mt_types::refusal::Refusal;
 use mt_types::row::Row;
@@ -56,11 +56,24 @@ fn tell_answer(answer: &Answer, told: &mut u64) -> u16
 }
 
 /// Reports how a call ended.
-pub(crate) fn tell_end(ended: Result<Reply, Refusal>, told: &mut u64) -> u16
+pub(crate) fn tell_end(ended: Result<Answer, Refusal>, told: &mut u64) -> u16
     ensures { TellsEnd ended result told.new }
 {
     match ended {
-        Ok(reply) => tell_answer(&reply.answer, told),
+        Ok(answer) => tell_answer(&answer, told),
+        Err(refusal) => tell_refusal(refusal, told),
+    }
+}
+
+/// Reports how many times something was done, or why not.
+pub(crate) fn tell_count(count: Result<u64, Refusal>, told: &mut u64) -> u16
+    ensures { TellsCount count result told.new }
+{
+    match count {
+        Ok(count) => {
+            *told = count;
+            DONE
+        }
         Err(refusal) => tell_refusal(refusal, told),
     }
 }

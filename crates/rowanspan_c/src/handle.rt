@@ -1,28 +1,31 @@
 //! What C holds of an index: a word that points to it, and whether there is one.
 
-ghost use Rattle.std.specs.Prelude.{◌≡◌, true, IfSome, MatchOption};
+ghost use Rattle.std.specs.Prelude.{◌≡◌, true, MatchOption, MatchResult, OnOk};
 ghost use Rattle.std.specs.declared.option.Option.{Option};
 ghost use Rattle.std.specs.declared.option.Option.TheVariants.{None, Some};
 ghost use Rattle.std.specs.Coded.{coded_option};
-ghost use Rattle.rowanspan_c.specs.Kept.{kept, is_held, is_quiet};
-ghost use Rattle.mt_index.specs.Alone.{IsIdle};
-ghost use Rattle.mt_index.specs.Stands.{MachineView};
-ghost use Rattle.mt_index.specs.contracts.machine.Machine.{the_row};
+ghost use Rattle.rowanspan_c.specs.Kept.{kept, is_held};
+ghost use Rattle.rowanspan_c.specs.Questions.{IsCausedBy};
+ghost use Rattle.mt_types.specs.Limits.{open_fault};
+ghost use Rattle.mt_index.specs.Events.{IsOpened};
+ghost use Rattle.mt_map.specs.Tidies.{MapView};
+ghost use Rattle.mt_map.specs.contracts.map.Map.{the_row};
 
-use mt_index::machine::Machine;
+use mt_index::options::Options;
+use mt_map::map::Map;
+use mt_types::refusal::Refusal;
 use std::alloc::Global;
 use std::marker::{Model, Send};
 
-/// An index that C keeps, or none. No call is open on it.
+/// An index that C keeps, or none.
 #[repr(C)]
 #[derive(Drop)]
 pub struct Handle {
     at: *mut u8,
     is_open: bool,
     alloc: Global,
-    pub ghost held: { Option MachineView } by { coded_option the_row.coded },
+    pub ghost held: { Option MapView } by { coded_option the_row.coded },
     ghost told: { is_open ≡ is_held held },
-    ghost quiet: { is_quiet held ≡ true },
 }
 
 impl Model for Handle {
@@ -39,6 +42,17 @@ fn may_move(handle: &Handle) {
     is_send(handle)
 }
 
+// Returns an open map, in a box.
+pub(crate) fn opened(alloc: Global, options: Options) -> Result<Box<Map>, Refusal>
+    ensures opened { MatchResult result
+        (λ index. IsOpened options index.value.machine × (index.value.tidies ≡ options.tidies))
+        (λ refusal. IsCausedBy (open_fault options.columns options.feed options.keep) refusal) }
+    ensures fits { OnOk result (open_fault options.columns options.feed options.keep ≡ None) }
+{
+    let index = Map::open(alloc, options)?;
+    Ok(Box::new(alloc, index)?)
+}
+
 impl Handle {
     // Returns a handle that holds no index.
     fn none(alloc: Global) -> Handle
@@ -52,8 +66,7 @@ impl Handle {
     }
 
     // Returns a handle that holds the index of the box.
-    fn holding(index: Box<Machine>) -> Handle
-        requires { is_quiet (Some index.value) ≡ true }
+    fn holding(index: Box<Map>) -> Handle
         ensures { result.held ≡ Some index.value }
     {
         let (at, alloc) = Box::into_raw_with_allocator(index);
@@ -73,7 +86,7 @@ impl Handle {
     }
 
     // Returns the box of a handle that holds an index.
-    fn into_box(self) -> Box<Machine>
+    fn into_box(self) -> Box<Map>
         requires { self.is_open ≡ true }
         ensures { self.held ≡ Some result.value }
     {
@@ -82,13 +95,12 @@ impl Handle {
             is_open: _,
             alloc,
         } = self;
-        unsafe { Box::from_raw(alloc, at as *mut Machine) }
+        unsafe { Box::from_raw(alloc, at as *mut Map) }
     }
 
     /// Puts an index into the handle.
-    pub(crate) fn fill(&mut self, index: Box<Machine>)
-        requires empty { self.old.held ≡ None }
-        requires idle { IsIdle index.value }
+    pub(crate) fn fill(&mut self, index: Box<Map>)
+        requires { self.old.held ≡ None }
         ensures { self.new.held ≡ Some index.value }
     {
         let full = Handle::holding(index);
@@ -96,9 +108,8 @@ impl Handle {
     }
 
     /// Takes the index out of the handle, if it holds one. Afterwards it holds none.
-    pub(crate) fn take(&mut self, alloc: Global) -> Option<Box<Machine>>
+    pub(crate) fn take(&mut self, alloc: Global) -> Option<Box<Map>>
         ensures had { MatchOption result (self.old.held ≡ None) (λ index. self.old.held ≡ Some index.value) }
-        ensures idle { IfSome result (λ index. IsIdle index.value) }
         ensures emptied { self.new.held ≡ None }
     {
         let none = Handle::none(alloc);

@@ -3,14 +3,13 @@
 //! `include/rowanspan.h` says what each call does, what it costs and what it returns.
 #![tactic(auto)]
 
-mod asking;
 mod changing;
 mod exports;
 mod handing;
 mod handle;
-mod limiting;
 mod placing;
 mod ranging;
 mod reading;
 mod spelling;
 pub mod status;
+mod testing;

@@ -1,19 +1,17 @@
-//! The rows of a range, each spelled from the row that the index lends. Nothing is allocated for a row.
+//! The rows of a range, each spelled from the row, which is borrowed from the index. Nothing is allocated for a row.
 
-ghost use Rattle.std.specs.Prelude.{◌≡◌, ◌≤◌, ◌++◌, ℕ, List, OnOk, IfOk, length, drop};
+ghost use Rattle.std.specs.Prelude.{◌≡◌, ◌≤◌, ◌++◌, ℕ, List, OnOk, IfOk, length, drop, false};
 ghost use Rattle.std.specs.List.{flat_map};
 ghost use Rattle.mt_types.specs.Rows.{shown};
 ghost use Rattle.mt_types.specs.declared.row.Row.{Row as RowValue};
-ghost use Rattle.mt_index.specs.Alone.{IsIdle};
 ghost use Rattle.rowanspan_c.specs.Questions.{ArePlainRows};
 ghost use Rattle.rowanspan_c.specs.Spelling.{number_spelling, bytes_spelling, row_spelling, pair_spelling, pairs_spelling};
 
 use crate::placing::NUMBER_BYTES;
 use crate::spelling::{bytes, columns, number};
-use mt_index::machine::Machine;
+use mt_map::map::Map;
 use mt_map::walk::Rows;
 use mt_types::items::Items;
-use mt_types::key::Key;
 use mt_types::refusal::NoMemory;
 use mt_types::row::Row;
 use std::alloc::{AllocError, Global};
@@ -31,21 +29,30 @@ fn pair(out: &mut Vec<u8>, key: &[u8], row: &Row, asked: &[u8]) -> Result<(), Al
     columns(out, &row.columns, asked)
 }
 
+// A walk from a key on that is not too long.
+fn walk_from<'m>(index: &'m Map, start: &[u8]) -> Result<Rows<'m>, NoMemory>
+    ensures machine { IfOk result (λ walk. walk.machine ≡ index.now.machine) }
+    ensures start { IfOk result (λ walk. walk.at ≡ record { key = start.now; given = false }) }
+{
+    match index.walk(start) {
+        Ok(walk) => Ok(walk),
+        Err(_) => Err(NoMemory),
+    }
+}
+
 // Writes the first rows whose keys are at or after `start`, at most `limit`, and returns how many there are.
 fn pairs(
-    alloc: Global,
-    index: &Machine,
-    start: &Key,
+    index: &Map,
+    start: &[u8],
     limit: u16,
     asked: &[u8],
     out: &mut Vec<u8>,
 ) -> Result<u16, NoMemory>
-    requires { IsIdle index.now }
     ensures { IfOk result (λ many. (pairs : List (List ℕ × RowValue))
-        × ArePlainRows index.now start.now limit asked.now pairs × (length pairs ≡ many)
+        × ArePlainRows index.now.machine start.now limit asked.now pairs × (length pairs ≡ many)
         × (out.new.items ≡ out.old.items ++ flat_map pair_spelling pairs)) }
 {
-    let mut walk = Rows::of(alloc, index, start)?;
+    let mut walk = walk_from(index, start)?;
     for many in 0..limit {
         let Some(row) = walk.next()? else {
             return Ok(many);
@@ -72,23 +79,22 @@ fn put_number(out: &mut Vec<u8>, number: u64)
 ///
 /// # Errors
 ///
-/// `NoMemory` if an allocation is refused.
+/// `NoMemory` if an allocation is refused, or if the key is too long, for which its caller tests.
 pub(crate) fn range_bytes(
     alloc: Global,
-    index: &Machine,
-    start: &Key,
+    index: &Map,
+    start: &[u8],
     limit: u16,
     asked: &[u8],
     room: usize,
 ) -> Result<Items<u8>, NoMemory>
-    requires { IsIdle index.now }
     ensures { IfOk result (λ bytes. (pairs : List (List ℕ × RowValue))
-        × ArePlainRows index.now start.now limit asked.now pairs × (bytes ≡ pairs_spelling pairs)) }
+        × ArePlainRows index.now.machine start.now limit asked.now pairs × (bytes ≡ pairs_spelling pairs)) }
 {
     let mut out = Vec::with_capacity(alloc, room.min(MOST_ROOM))?;
     // How many rows there are is known at their end.
     number(&mut out, 0)?;
-    let many = pairs(alloc, index, start, limit, asked, &mut out)?;
+    let many = pairs(index, start, limit, asked, &mut out)?;
     put_number(&mut out, u64::from(many));
     Ok(Items::from_vec(out))
 }

@@ -4,7 +4,7 @@
 //! the sum of those numbers, up to date after each put.
 
 use crate::Outcome;
-use rowanspan::{Index, Keys, Options, RowTest};
+use rowanspan::{Index, Keys, Options, RowTest, View};
 use std::collections::BTreeMap;
 use std::sync::{Mutex, MutexGuard, PoisonError};
 
@@ -50,7 +50,7 @@ pub fn locked<T>(lock: &Mutex<T>) -> MutexGuard<'_, T> {
 /// The index.
 pub struct Indexed {
     pub index: Mutex<Index>,
-    views: Vec<u64>,
+    views: Vec<View>,
 }
 
 impl Store for Indexed {

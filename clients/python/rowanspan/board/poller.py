@@ -7,7 +7,7 @@ import threading
 import time
 from concurrent.futures import Future
 from concurrent.futures import TimeoutError as FutureTimeout
-from typing import Any, Callable, List, Optional, Sequence, Tuple
+from typing import Any, Callable, List, Optional, Sequence, Tuple, TypeVar
 
 from ..client import Client
 from ..core import BadReply, ConnectionLost, NoSuchView, Page, Range, Refused, RowanspanError, ViewNo, ViewSpec
@@ -21,8 +21,8 @@ PATIENCE = 60.0
 MAX_JOBS = 16
 SILENT = " (a server whose workers are all busy with other clients doesn't answer: --workers)"
 
-Work = Callable[[Client], Any]
-Job = Tuple[Work, "Future[Any]"]
+Value = TypeVar("Value")
+Job = Tuple[Callable[[Client], Any], "Future[Any]"]
 
 
 class Busy(Exception):
@@ -62,17 +62,17 @@ class Poller(threading.Thread):
 
     # -- what other threads call
 
-    def ask(self, work: Work) -> Any:
+    def ask(self, work: Callable[[Client], Value]) -> Value:
         """Has the poller do something with its connection, and returns what it returns. Raises what it raises, and
         `Busy`."""
-        job: Job = (work, Future())
+        result: Future[Value] = Future()
         try:
-            self._jobs.put_nowait(job)
-            return job[1].result(PATIENCE)
+            self._jobs.put_nowait((work, result))
+            return result.result(PATIENCE)
         except queue.Full:
             raise Busy("too many forms wait for the server: send it again later") from None
         except FutureTimeout:
-            job[1].cancel()
+            result.cancel()
             raise Busy("the server didn't answer in time") from None
 
     def build(self, spec: ViewSpec, name: str = "") -> Card:

@@ -1,19 +1,16 @@
 //! A cache with prefix invalidation: pages under their paths. What is below a path is dropped by one walk over the rows
 //! there. A view counts the bytes of what is cached.
 
-use rowanspan::{Error, Index, Keys, Options, RowTest};
+use rowanspan::{Error, Index, Keys, Options, RowTest, View};
 
 struct Cache {
     index: Index,
-    sizes: u64,
+    sizes: View,
 }
 
 impl Cache {
     fn new() -> Result<Cache, Error> {
-        let mut index = Index::open(Options {
-            columns: 2,
-            ..Options::default()
-        })?;
+        let mut index = Index::open(Options::default().columns(2))?;
         let sizes = index.build(Keys::Prefix(b""), RowTest::Any)?;
         Ok(Cache { index, sizes })
     }

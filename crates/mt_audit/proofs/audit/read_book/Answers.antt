@@ -1,6 +1,6 @@
 use Rattle.std.proofs.Common.{◌<◌, Bool, subst, arith}
 use Rattle.std.proofs.lemmas.Result.{err_from_is_err_and}
-use Rattle.mt_drive.specs.Source.{source_rest, source_unread, lines_left}
+use Rattle.mt_script.specs.Source.{source_rest, source_unread, lines_left}
 use Rattle.mt_audit.specs.Book.{Adds}
 use Rattle.mt_audit.proofs.EndLemmas.{reading_none, reading_more, reading_end, reading_cut, reading_bad}
 use Rattle.mt_audit.proofs.audit.read_book.Goals as goal

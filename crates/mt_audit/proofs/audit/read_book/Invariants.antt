@@ -1,5 +1,5 @@
 use Rattle.std.proofs.Common.{◌≤◌, ◌-◌}
-use Rattle.mt_drive.specs.Source.{source_rest, lines_left}
+use Rattle.mt_script.specs.Source.{source_rest, lines_left}
 use Rattle.mt_audit.proofs.EndLemmas.{IsReading}
 use Rattle.mt_audit.proofs.audit.read_book.Given as goal
 

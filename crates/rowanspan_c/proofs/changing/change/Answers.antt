@@ -1,5 +1,5 @@
 use Rattle.std.proofs.Common.{◌∙◌, ap, sym, Some}
-use Rattle.rowanspan_c.specs.Asked.{request_of}
+use Rattle.mt_map.specs.Borrowed.{request_of}
 use Rattle.rowanspan_c.proofs.CallLemmas.{changes_closed, changes_done}
 use Rattle.rowanspan_c.proofs.changing.change.Goals as goal
 
@@ -8,5 +8,5 @@ returns-in_default c = changes_closed c.args.handle.now.held c.take.new.self.hel
 
 pub returns : goal.returns
 returns c =
-    changes_done c.args.handle.now.held c.fill.new.self.held c.deref_mut.result.now c.end_of-ended.new.index (request_of c.args.asked.now) c.end_of-ended.result c.tell_end.result c.tell_end.new.told
-    (c.in-Some.ensures.had ∙ ap Some (sym c.deref_mut.ensures.value)) c.fill.ensures c.end_of-ended.ensures.ends c.tell_end.ensures
+    changes_done c.args.handle.now.held c.fill.new.self.held c.deref_mut.result.now c.ask-ended.new.self (request_of c.args.asked.now) c.ask-ended.result c.tell_end.result c.tell_end.new.told
+    (c.in-Some.ensures.had ∙ ap Some (sym c.deref_mut.ensures.value)) c.fill.ensures c.ask-ended.ensures c.tell_end.ensures

@@ -7,5 +7,5 @@ returns-in_default c = meets_closed c.args.handle.now.held c.take.new.self.held 
 
 pub returns : goal.returns
 returns c =
-    meets_done c.args.handle.now.held c.fill.new.self.held c.deref_mut.result.now c.outcome_of-outcome.new.index c.args.event.now c.outcome_of-outcome.result c.tell_outcome.result c.tell_outcome.new.told
-    (c.in-Some.ensures.had ∙ ap Some (sym c.deref_mut.ensures.value)) c.fill.ensures c.outcome_of-outcome.ensures.happens c.outcome_of-outcome.ensures.stands c.tell_outcome.ensures
+    meets_done c.args.handle.now.held c.fill.new.self.held c.deref_mut.result.now c.event-outcome.new.self c.args.event.now c.event-outcome.result c.tell_outcome.result c.tell_outcome.new.told
+    (c.in-Some.ensures.had ∙ ap Some (sym c.deref_mut.ensures.value)) c.fill.ensures c.event-outcome.ensures c.tell_outcome.ensures

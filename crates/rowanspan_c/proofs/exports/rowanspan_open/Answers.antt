@@ -6,7 +6,7 @@ pub returns-in-Some : goal.returns-in-Some
 returns-in-Some c = opens_held c.args.handle.now.held c.fill.new.self.held c.in-Some.index.value _ c.in-Some.ensures.had c.fill.ensures
 
 pub returns-in-Ok : goal.returns-in-Ok
-returns-in-Ok c = opens_done c.args.handle.now.held c.fill-in-Ok.new.self.held c.in-Ok.index.value _ c.in_default.ensures.had c.fill-in-Ok.ensures c.in-Ok.ensures.opened.0 c.in-Ok.ensures.fits
+returns-in-Ok c = opens_done c.args.handle.now.held c.fill-in-Ok.new.self.held c.in-Ok.index.value _ c.in_default.ensures.had c.fill-in-Ok.ensures c.in-Ok.ensures.opened c.in-Ok.ensures.fits
 
 pub returns-in-Err : goal.returns-in-Err
 returns-in-Err c =

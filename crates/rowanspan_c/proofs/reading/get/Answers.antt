@@ -7,5 +7,5 @@ use Rattle.rowanspan_c.proofs.reading.get.Goals as goal
 
 pub returns-in-Some : goal.returns-in-Some
 returns-in-Some c =
-    refused c.args.index.now c.args.key.now c.args.columns.now c.args.into.now c.args.into.now c.tell_refusal.result c.tell_refusal.new.told c.in-Some.refusal
+    refused c.args.index.now.machine c.args.key.now c.args.columns.now c.args.into.now c.args.into.now c.tell_refusal.result c.tell_refusal.new.told c.in-Some.refusal
     (subst (λ (count : ℕ). request_fault count (Get c.args.key.now c.args.columns.now) ≡ Some c.in-Some.refusal) c.columns.ensures (sym c.get_fault.ensures ∙ c.in-Some.is)) refl c.tell_refusal.ensures

@@ -16,17 +16,17 @@ loop-init c = record {
 pub loop-preserved : goal.loop-preserved
 loop-preserved c = record {
   start = c.loop.invariant.start;
-  kept = c.event.ensures.kept.1;
-  turned = turned_on Does c.args.self.now c.args.pass.now c.loop.counter c.loop.self c.loop.pass c.in-Applied.field-0 c.event.result c.event.new.self c.event.new.pass c.loop.invariant.turned c.event.ensures.does c.in-Applied.is
-      (does_tell c.loop.self c.loop.pass furthest c.event.result c.event.new.self c.event.new.pass c.loop.invariant.kept c.event.ensures.does);
+  kept = c.turn.ensures.kept.1;
+  turned = turned_on Does c.args.self.now c.args.pass.now c.loop.counter c.loop.self c.loop.pass c.in-Applied.field-0 c.turn.result c.turn.new.self c.turn.new.pass c.loop.invariant.turned c.turn.ensures.does c.in-Applied.is
+      (does_tell c.loop.self c.loop.pass furthest c.turn.result c.turn.new.self c.turn.new.pass c.loop.invariant.kept c.turn.ensures.does);
 }
 
 pub returns-in_default-clause-keeps : goal.returns-in_default-clause-keeps
 returns-in_default-clause-keeps c =
-    turn_stops c.args.self.now c.args.pass.now c.loop.counter c.args.turns c.loop.self c.loop.pass c.event.result c.event.new.self c.event.new.pass c.loop.invariant.kept c.loop.invariant.turned c.event.ensures.does c.in_default.not-Applied c.loop-test.true
+    turn_stops c.args.self.now c.args.pass.now c.loop.counter c.args.turns c.loop.self c.loop.pass c.turn.result c.turn.new.self c.turn.new.pass c.loop.invariant.kept c.loop.invariant.turned c.turn.ensures.does c.in_default.not-Applied c.loop-test.true
 
 pub returns-in_default-clause-kept : goal.returns-in_default-clause-kept
-returns-in_default-clause-kept c = (c.loop.invariant.start, c.event.ensures.kept.1)
+returns-in_default-clause-kept c = (c.loop.invariant.start, c.turn.ensures.kept.1)
 
 pub returns-clause-keeps : goal.returns-clause-keeps
 returns-clause-keeps c =

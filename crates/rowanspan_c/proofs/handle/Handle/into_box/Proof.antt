@@ -30,7 +30,7 @@ use Rattle.std_heap.specs.contracts.GlobalAllocator.TheImpl.{ghosts, dict}
 use Rattle.std_heap.specs.contracts.Global.{the_row as Heap}
 use Rattle.std_heap.proofs.Global.TheLaws as heap_laws
 use Rattle.std_heap.proofs.GlobalAllocator.TheImpl.Met as heap_met
-use Rattle.mt_index.specs.contracts.machine.Machine.{the_row as Index}
+use Rattle.mt_map.specs.contracts.map.Map.{the_row as Index}
 use Rattle.rowanspan_c.proofs.Held.{held_kept}
 use Rattle.rowanspan_c.proofs.BoxWalk.{on_word, IndexBox, IndexArg, HeapArg, index_arg_laws, heap_arg_laws, heap_glue, heap_word, heap_drops, Again, at_again, asks_again, whole_again, boxed_word}
 use Rattle.rowanspan_c.specs.contracts.handle.Handle.{the_row as Hd}

@@ -37,10 +37,10 @@ none_spec 𝓤 𝓛 𝓜 𝓡 wired =
     let a = z.0.3.0 in let vs = z.0.4.0 in let Post : Val → SProp 𝓤 = (walk_of 𝓛 En hs c).post z in let Run : List Val → SProp 𝓤 = λ ws. WpFn 𝓤 H 𝓣.C 𝓣.Λ fn ws Post in
     qed 𝓛 ((‵ ftrue ⊛ ‵ (owns (types_at En.signature.params z.0.0) z.0.3 z.0.4)) ∷ raw ((c z.0.0 z.0.3).requires z.1) ∷ []) ∵ split ! $ move ! (2 ∷ []) $ drop ! $ move ! (1 ∷ []) $ fsplit ! $
     let same = heap_laws.lowers.val_is a vs are.0 in rewrite ! 0 (λ (us : List Val). ‵ (Z.own_val a us)) same refl $ nothing ! $
-    let h : Val = heap_laws.lowers.lowered a in let fits = subst (Typed Z.mir) same ((LZ.lawful 𝓛).typed a vs are.0) in let m : Handle = record { at = null_ptr; is_open = false; alloc = a; held = None; told = refl; quiet = refl } in
+    let h : Val = heap_laws.lowers.lowered a in let fits = subst (Typed Z.mir) same ((LZ.lawful 𝓛).typed a vs are.0) in let m : Handle = record { at = null_ptr; is_open = false; alloc = a; held = None; told = refl } in
     suffices ! (Run (h ∷ [])) (subst (λ (us : List Val). ent 𝓤 (Run (h ∷ [])) (Run us)) (sym (λ i. same i ++ [])) (id⊢ 𝓤 (Run (h ∷ [])))) $
     enter ! 𝓣.C 𝓣.Λ fn (h ∷ []) Post $ alloc_all ! (λ l. pass_all ! refl (fits.0, tt) $
     sets ! (agg ! (and_then ! (lit ! tt) (and_then ! (false_lit !) (and_then ! (get ! refl) (no_more !))))) refl (tt, (record { fits = lit< tt }, (tt, (fits.0.1, tt)))) $
-    handle_in ! null_ptr false a None refl refl $
+    handle_in ! null_ptr false a None refl $
     use0 𝓛 (raw (fact 𝓤 (m.held ≡ None))) (fact_i 𝓤 (m.held ≡ None) (emp 𝓤) refl) $ nothing ! $ nothing ! $ fjoin ! $ nothing ! $
     returns ! (look_at ! 0 refl) $ free_all ! refl $ keep ! (0 ∷ 1 ∷ 3 ∷ 2 ∷ []) $ by ! (leaves 𝓛 En hs c z (lowers.lowered m) m (tt, tt) (tt, tt))))

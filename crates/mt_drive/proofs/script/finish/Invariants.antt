@@ -1,9 +1,0 @@
-use Rattle.mt_drive.specs.Machine.{Leads, IsAsBefore}
-use Rattle.mt_drive.proofs.FinishLemmas.{Passes}
-use Rattle.mt_drive.proofs.script.finish.Given as goal
-
-abbrev pub invariant-loop : goal.invariant-loop
-invariant-loop l = record {
-  passed : Leads l.initial.machine (λ past h. Passes l.counter past l.call h) l.machine;
-  options : IsAsBefore l.initial.machine l.machine;
-}

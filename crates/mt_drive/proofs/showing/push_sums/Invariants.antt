@@ -1,6 +1,0 @@
-use Rattle.std.proofs.Common.{◌≡◌, ◌++◌, take, string_bytes}
-use Rattle.mt_drive.specs.Showing.{sums_text}
-use Rattle.mt_drive.proofs.showing.push_sums.Given as goal
-
-abbrev pub invariant-loop-i : goal.invariant-loop-i
-invariant-loop-i l = string_bytes l.out ≡ string_bytes l.initial.out ++ sums_text (take l.i l.sums)

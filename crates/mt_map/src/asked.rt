@@ -1,0 +1,118 @@
+//! The changes that a caller asks for in borrowed bytes, and the requests that are made from them.
+
+ghost use Rattle.std.specs.Prelude.{◌≡◌, IfOk, Some as SomeOf};
+ghost use Rattle.mt_types.specs.declared.view.ViewSpec.TheVariants.{Range as RangeOf};
+ghost use Rattle.mt_map.specs.Borrowed.{request_of, sets_of, spec_of, test_of};
+
+use crate::borrowed::{Set, Spec, Test};
+use bytes::Bytes;
+use mt_types::event::Request;
+use mt_types::items::Items;
+use mt_types::refusal::NoMemory;
+use mt_types::row::Sets;
+use mt_types::view::{RowTest, ViewSpec};
+use std::alloc::Global;
+
+/// A change that is asked for, for callers that choose it while they run: see [`crate::map::Map::ask`].
+#[derive(Clone, Copy)]
+pub enum Asked<'a> {
+    /// A put.
+    Put {
+        key: &'a [u8],
+        sets: &'a [Set<'a>],
+    },
+    /// A put that is done only if the row has this version, or, for version 0, if there is no row.
+    PutIf {
+        key: &'a [u8],
+        sets: &'a [Set<'a>],
+        version: u64,
+    },
+    /// A remove.
+    Remove {
+        key: &'a [u8],
+    },
+    /// A tidy.
+    Tidy {
+        key: &'a [u8],
+    },
+    /// The build of a view.
+    Build {
+        spec: &'a Spec<'a>,
+    },
+}
+
+fn sets_of(alloc: Global, from: &[Set<'_>]) -> Result<Sets, NoMemory>
+    ensures { IfOk result (λ sets. sets ≡ sets_of from.now) }
+{
+    let mut sets = Vec::with_capacity(alloc, from.len())?;
+    for set in from {
+        sets.push((set.column, Bytes::copy_from_slice(alloc, set.bytes)?))?;
+    }
+    Ok(Items::from_vec(sets))
+}
+
+fn test_of(alloc: Global, test: &Test<'_>) -> Result<RowTest, NoMemory>
+    ensures { IfOk result (λ made. made ≡ test_of test.now) }
+{
+    match test {
+        Test::Any => Ok(RowTest::Any),
+        Test::Equals(column, bytes) => Ok(RowTest::Equals(
+            *column,
+            Bytes::copy_from_slice(alloc, bytes)?,
+        )),
+        Test::AtLeast(column, least) => Ok(RowTest::AtLeast(*column, *least)),
+    }
+}
+
+fn between(alloc: Global, lo: &[u8], hi: &[u8], test: RowTest) -> Result<ViewSpec, NoMemory>
+    ensures { IfOk result (λ spec. spec ≡ RangeOf lo.now (SomeOf hi.now) test) }
+{
+    let lo = Bytes::copy_from_slice(alloc, lo)?;
+    let hi = Some(Bytes::copy_from_slice(alloc, hi)?);
+    Ok(ViewSpec::Range { lo, hi, test })
+}
+
+fn spec_of(alloc: Global, spec: &Spec<'_>) -> Result<ViewSpec, NoMemory>
+    ensures { IfOk result (λ made. made ≡ spec_of spec.now) }
+{
+    match spec {
+        Spec::Prefix { key, test } => Ok(ViewSpec::Prefix {
+            key: Bytes::copy_from_slice(alloc, key)?,
+            test: test_of(alloc, test)?,
+        }),
+        Spec::From { lo, test } => Ok(ViewSpec::Range {
+            lo: Bytes::copy_from_slice(alloc, lo)?,
+            hi: None,
+            test: test_of(alloc, test)?,
+        }),
+        Spec::Between { lo, hi, test } => Ok(between(alloc, lo, hi, test_of(alloc, test)?)?),
+    }
+}
+
+impl<'a> Asked<'a> {
+    /// Returns the request. Copies the bytes.
+    pub(crate) fn request(&self, alloc: Global) -> Result<Request, NoMemory>
+        ensures { IfOk result (λ request. request ≡ request_of self.now) }
+    {
+        match self {
+            Asked::Put { key, sets } => Ok(Request::Put {
+                key: Bytes::copy_from_slice(alloc, key)?,
+                sets: sets_of(alloc, sets)?,
+            }),
+            Asked::PutIf { key, sets, version } => Ok(Request::PutIf {
+                key: Bytes::copy_from_slice(alloc, key)?,
+                sets: sets_of(alloc, sets)?,
+                version: *version,
+            }),
+            Asked::Remove { key } => Ok(Request::Remove {
+                key: Bytes::copy_from_slice(alloc, key)?,
+            }),
+            Asked::Tidy { key } => Ok(Request::Tidy {
+                key: Bytes::copy_from_slice(alloc, key)?,
+            }),
+            Asked::Build { spec } => Ok(Request::Build {
+                spec: spec_of(alloc, spec)?,
+            }),
+        }
+    }
+}

@@ -1,5 +1,0 @@
-use Rattle.mt_shared.proofs.RunLemmas.{gone_somewhere}
-use Rattle.mt_shared.proofs.through.ThroughDoorShared.go.Goals as goal
-
-pub returns-clause-goes : goal.returns-clause-goes
-returns-clause-goes g c = gone_somewhere c.args.self.now _ c.args.pass.now c.args.call c.go.result _ c.go.new.pass _ c.go.ensures.kept.0 c.go.ensures.goes
