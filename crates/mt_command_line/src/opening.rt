@@ -6,7 +6,7 @@ ghost use Rattle.mt_command_line.specs.Opening.{columns_rule, with_index_rules, 
 
 use crate::numbers::{number, number_option, small_number};
 use clap::{Arg, ArgMatches, Command};
-use mt_types::limits::{MAX_COLUMNS, MAX_FEED, MAX_KEEP};
+use mt_types::limits::{MAX_COLUMNS, MAX_LOG_CAPACITY, MAX_LOG_RETENTION};
 use std::alloc::{AllocError, Global};
 
 /// Returns the option `--columns N`.
@@ -26,8 +26,8 @@ pub fn index_options<'a>(command: Command<'a>, alloc: Global) -> Result<Command<
     let keep = "How many of the last commits the log keeps, 0 to 65536 [default: 0]";
     command
         .arg(columns_option(alloc))?
-        .arg(number_option(alloc, "feed", 1, MAX_FEED, feed))?
-        .arg(number_option(alloc, "keep", 0, MAX_KEEP, keep))
+        .arg(number_option(alloc, "feed", 1, MAX_LOG_CAPACITY, feed))?
+        .arg(number_option(alloc, "keep", 0, MAX_LOG_RETENTION, keep))
 }
 
 /// Returns the number of columns that a command line asks for.

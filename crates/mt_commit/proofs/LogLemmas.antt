@@ -108,18 +108,18 @@ least_below best (n ∷ numbers) =
     (omega (arith, k, m), least_below (min best n) numbers)
 
 -- what is left after a trim begins no earlier
-pub trim_rises : (log : LogView) (bound : ℕ) → IsLog log → bound ≡ min (slowest log) (newest log - log.keep) → log.held_after ≤ bound
+pub trim_rises : (log : LogView) (bound : ℕ) → IsLog log → bound ≡ min (slowest log) (newest log - log.retention) → log.held_after ≤ bound
 trim_rises log bound is e =
-    let both : log.held_after ≤ min (slowest log) (newest log - log.keep) = le-min (held_by_slowest log is) is.kept in omega arith
+    let both : log.held_after ≤ min (slowest log) (newest log - log.retention) = le-min (held_by_slowest log is) is.kept in omega arith
 
 -- no delta beyond the newest is dropped
-pub trim_drops : (log : LogView) (bound : ℕ) → bound ≡ min (slowest log) (newest log - log.keep) → bound - log.held_after ≤ length log.deltas
+pub trim_drops : (log : LogView) (bound : ℕ) → bound ≡ min (slowest log) (newest log - log.retention) → bound - log.held_after ≤ length log.deltas
 trim_drops log bound e =
-    let a = min-le_left (slowest log) (newest log - log.keep) in
+    let a = min-le_left (slowest log) (newest log - log.retention) in
     let b = slowest_within log in
     omega (arith, a, b)
 
-pub newest-trimmed : (log : LogView) (bound : ℕ) (deltas : List Delta) → IsLog log → bound ≡ min (slowest log) (newest log - log.keep)
+pub newest-trimmed : (log : LogView) (bound : ℕ) (deltas : List Delta) → IsLog log → bound ≡ min (slowest log) (newest log - log.retention)
     → deltas ≡ drop (bound - log.held_after) log.deltas → bound + length deltas ≡ newest log
 newest-trimmed log bound deltas is e d =
     let rises = trim_rises log bound is e in
@@ -127,14 +127,14 @@ newest-trimmed log bound deltas is e d =
     let long : length deltas ≡ length log.deltas - (bound - log.held_after) = ap length d ∙ length-drop (bound - log.held_after) log.deltas in
     omega arith
 
-pub trimmed_log : (log : LogView) (bound : ℕ) (deltas : List Delta) → IsLog log → bound ≡ min (slowest log) (newest log - log.keep)
+pub trimmed_log : (log : LogView) (bound : ℕ) (deltas : List Delta) → IsLog log → bound ≡ min (slowest log) (newest log - log.retention)
     → deltas ≡ drop (bound - log.held_after) log.deltas → IsLog (record log { held_after = bound; deltas = deltas })
 trimmed_log log bound deltas is e d =
     let rises = trim_rises log bound is e in
     let drops = trim_drops log bound e in
     let stays = newest-trimmed log bound deltas is e d in
-    let by_slowest = min-le_left (slowest log) (newest log - log.keep) in
-    let by_keep = min-le_right (slowest log) (newest log - log.keep) in
+    let by_slowest = min-le_left (slowest log) (newest log - log.retention) in
+    let by_keep = min-le_right (slowest log) (newest log - log.retention) in
     let fits = is.fits in
     record {
       numbered = subst (Numbered bound) (sym d) (Numbered-drop (bound - log.held_after) log.held_after bound log.deltas (omega arith) drops is.numbered);
@@ -146,7 +146,7 @@ trimmed_log log bound deltas is e d =
     }
 
 -- the bound of a trim, of the log as it is
-pub bound_is : (log now : LogView) (number slow bound : ℕ) → log ≡ now → slow ≡ slowest now → number ≡ newest now → bound ≡ min slow (number - log.keep)
-    → bound ≡ min (slowest log) (newest log - log.keep)
+pub bound_is : (log now : LogView) (number slow bound : ℕ) → log ≡ now → slow ≡ slowest now → number ≡ newest now → bound ≡ min slow (number - log.retention)
+    → bound ≡ min (slowest log) (newest log - log.retention)
 bound_is log now number slow bound same s n e =
-    e ∙ ap (λ x. min x (number - log.keep)) (s ∙ sym (ap slowest same)) ∙ ap (λ x. min (slowest log) (x - log.keep)) (n ∙ sym (ap newest same))
+    e ∙ ap (λ x. min x (number - log.retention)) (s ∙ sym (ap slowest same)) ∙ ap (λ x. min (slowest log) (x - log.retention)) (n ∙ sym (ap newest same))

@@ -104,7 +104,7 @@ trimming_fits log rows fits = fits_last ((trimmed log).held_after - log.held_aft
 
 pub trimming_keeps_rows : TrimmingKeepsRows
 trimming_keeps_rows log rows number is h =
-    let bound = min (slowest log) (newest log - log.keep) in
+    let bound = min (slowest log) (newest log - log.retention) in
     let rises = trim_rises log bound is refl in
     let same : (bound - log.held_after) + (number - bound) ≡ number - log.held_after = omega arith in
     ap (λ deltas. rows_before (reverse deltas) rows) (drop-drop (number - bound) (bound - log.held_after) log.deltas ∙ ap (λ n. drop n log.deltas) same)

@@ -12,8 +12,8 @@ pub record LogView : Type 0 where
   pub deltas : List Delta  -- those of the commits after it, the oldest first
   pub reserved : ℕ  -- for how many more deltas there is room
   pub holders : List ℕ  -- from which numbers of commits it is held, each as often as it is, in ascending order
-  pub feed : ℕ  -- how many deltas it may hold for the slowest that reads it
-  pub keep : ℕ  -- how many of the last deltas it keeps for nobody
+  pub capacity : ℕ  -- how many deltas it may hold for the slowest that reads it
+  pub retention : ℕ  -- how many of the last deltas it keeps for nobody
 
 -- the number of the newest commit
 abbrev pub newest : LogView → ℕ
@@ -31,7 +31,7 @@ delta_of log number = slice_get log.deltas (number - log.held_after - 1)
 abbrev pub reserve_fault : LogView → Option Refusal
 reserve_fault log =
     option_or (refused_if (nat_le greatest_number (newest log + log.reserved)) Spent)
-    (refused_if (nat_lt log.feed (newest log - slowest log + log.reserved + 1)) (FeedFull (slowest log)))
+    (refused_if (nat_lt log.capacity (newest log - slowest log + log.reserved + 1)) (FeedFull (slowest log)))
 
 -- the log after the delta of the next commit, in room that was reserved
 abbrev pub with_delta : LogView → Delta → LogView
@@ -40,12 +40,12 @@ with_delta log delta = record log { deltas = log.deltas ++ delta ∷ []; reserve
 -- what is left is what came after the slowest, and the last ones, which are kept in any case
 abbrev pub trimmed : LogView → LogView
 trimmed log =
-    let bound = min (slowest log) (newest log - log.keep) in
+    let bound = min (slowest log) (newest log - log.retention) in
     record log { held_after = bound; deltas = drop (bound - log.held_after) log.deltas }
 
 -- no delta stays in it: nobody holds it, and it keeps none
 abbrev pub IsUnread : LogView → Type 0
-IsUnread log = (log.holders ≡ []) × (log.keep ≡ 0)
+IsUnread log = (log.holders ≡ []) × (log.retention ≡ 0)
 
 -- the deltas are those of the commits after this number, one by one
 abbrev pub Numbered : ℕ → List Delta → Type 0
@@ -57,5 +57,5 @@ pub record IsLog (log : LogView) : Type 0 where
   pub numbered : Numbered log.held_after log.deltas
   pub holders_from : All (λ holder. log.held_after ≤ holder) log.holders
   pub holders_to : All (λ holder. holder ≤ newest log) log.holders
-  pub kept : log.held_after ≤ newest log - log.keep
+  pub kept : log.held_after ≤ newest log - log.retention
   pub fits : newest log + log.reserved < 2 ^ 64

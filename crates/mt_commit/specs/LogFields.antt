@@ -10,8 +10,8 @@ log_of log = record {
   deltas = deque_items log.deltas;
   reserved = log.reserved;
   holders = log.holders;
-  feed = log.feed;
-  keep = log.keep;
+  capacity = log.capacity;
+  retention = log.retention;
 }
 
 -- the queue has the room that was reserved, and the holders are counted

@@ -23,8 +23,8 @@ pub struct Log {
     holder_count: u64,
     held_after: u64,
     reserved: u64,
-    feed: u64,
-    keep: u64,
+    capacity: u64,
+    retention: u64,
 }
 
 impl Model for Log {
@@ -54,16 +54,16 @@ impl Log {
     ghost use Rattle.mt_commit.specs.Log.{LogView, IsLog, newest, slowest, delta_of, reserve_fault, with_delta, trimmed, IsUnread};
     ghost use Rattle.mt_commit.specs.Holders.{with_holder, without_holder};
 
-    /// Returns the log before any commit. It is to hold at most `feed` deltas for its slowest reader, and to keep the
-    /// last `keep` for no reader. Allocates nothing.
-    pub fn open(alloc: Global, feed: u64, keep: u64) -> Log
+    /// Returns the log before any commit. It is to hold at most `capacity` deltas for its slowest reader, and to keep the
+    /// last `retention` for no reader. Allocates nothing.
+    pub fn open(alloc: Global, capacity: u64, retention: u64) -> Log
         ensures empty { result ≡ record {
           held_after = 0;
           deltas = [];
           reserved = 0;
           holders = [];
-          feed = feed;
-          keep = keep;
+          capacity = capacity;
+          retention = retention;
         } }
         ensures sound { IsLog result }
     {
@@ -73,8 +73,8 @@ impl Log {
             holder_count: 0,
             held_after: 0,
             reserved: 0,
-            feed,
-            keep,
+            capacity,
+            retention,
         }
     }
 
@@ -126,7 +126,7 @@ impl Log {
         if u64::MAX - number <= self.reserved {
             return Err(Refusal::Spent);
         }
-        if number - slowest + self.reserved >= self.feed {
+        if number - slowest + self.reserved >= self.capacity {
             return Err(Refusal::FeedFull(slowest));
         }
         self.deltas.reserve((self.reserved + 1) as usize)?;
@@ -158,7 +158,7 @@ impl Log {
     pub fn is_unread(&self) -> bool
         ensures { IsTrue result ↔ IsUnread self.now }
     {
-        self.holder_count == 0 && self.keep == 0
+        self.holder_count == 0 && self.retention == 0
     }
 
     /// Counts the next commit, in room that was reserved, if no delta would stay in the log. That is what an append of
@@ -223,7 +223,7 @@ impl Log {
         ensures sound { IsLog self.new }
     {
         let number = self.number();
-        let bound = self.slowest().min(number.saturating_sub(self.keep));
+        let bound = self.slowest().min(number.saturating_sub(self.retention));
         drop_front(&mut self.deltas, bound - self.held_after);
         self.held_after = bound;
     }

@@ -25,9 +25,9 @@ pub record AloneSoFar (s : MachineView) (request : Request) (call : CallNo) (out
   pub outcomes : List Outcome
   pub happen : StepsHappen begun call outcomes before
   pub last : Steps before call.0 outcome t
-  pub bounds : HasBounds s.log.feed s.log.keep t.log
+  pub bounds : HasBounds s.log.capacity s.log.retention t.log
 
-bounds_on : (s m t : MachineView) → HasBounds s.log.feed s.log.keep m.log → HasBounds m.log.feed m.log.keep t.log → HasBounds s.log.feed s.log.keep t.log
+bounds_on : (s m t : MachineView) → HasBounds s.log.capacity s.log.retention m.log → HasBounds m.log.capacity m.log.retention t.log → HasBounds s.log.capacity s.log.retention t.log
 bounds_on s m t first then = (then.0 ∙ first.0, then.1 ∙ first.1)
 
 has_moved : (o : Outcome) → GoesOnAtOnce o → HasMoved o
@@ -52,8 +52,8 @@ module _ (laws : LoneLaws) (s : MachineView) (request : Request) (call : CallNo)
   go_happen m t [] same = same
   go_happen m t (o ∷ os) (next, step, bounds, rest) = (next, step-happens m next call o step, go_happen next t os rest)
 
-  go_bounds : (m t : MachineView) (outcomes : List Outcome) → StepsGo m call outcomes t → HasBounds m.log.feed m.log.keep t.log
-  go_bounds m t [] same = subst (λ (x : MachineView). HasBounds m.log.feed m.log.keep x.log) (sym same) (refl, refl)
+  go_bounds : (m t : MachineView) (outcomes : List Outcome) → StepsGo m call outcomes t → HasBounds m.log.capacity m.log.retention t.log
+  go_bounds m t [] same = subst (λ (x : MachineView). HasBounds m.log.capacity m.log.retention x.log) (sym same) (refl, refl)
   go_bounds m t (o ∷ os) (next, step, bounds, rest) = bounds_on m next t bounds (go_bounds next t os rest)
 
   pub alone_started : (h : History) (run : Run) (t : MachineView) → IsIdle s → Stands s h → BeginsAndGoes s pass_0 request call run t → AloneSoFar s request call run.last t
@@ -73,7 +73,7 @@ module _ (laws : LoneLaws) (s : MachineView) (request : Request) (call : CallNo)
     now : RunsFrom s m request call
     now = (went_on laws s so.before m request call o moved so.from so.last).0
 
-    pub alone_further : HasBounds m.log.feed m.log.keep t.log → AloneSoFar s request call p t
+    pub alone_further : HasBounds m.log.capacity m.log.retention t.log → AloneSoFar s request call p t
     alone_further bounds = record {
       before = m;
       from = now;

@@ -144,7 +144,7 @@ module _ (s : MachineView) (h : History) (st : Stands s h) where
       let low = least_held (newest s.log) state.at s.log.holders held in
       let is = slowest_is s.log (moment h) st.commits st.held in
       let trim = st.trimmed in
-      let less = min-le_left (held_from (moment h)) (length (moment h).commits - s.log.keep) in
+      let less = min-le_left (held_from (moment h)) (length (moment h).commits - s.log.retention) in
       (omega (arith, low, is, trim, less), held)
 
   pub view_held : (number : ℕ) (state : StateView) → state_at number s.views.views ≡ Some state → Contains s.log.holders state.at

@@ -74,7 +74,7 @@ held_reaches s h st n kept at reads =
     let low = least_held (newest s.log) kept.from s.log.holders held in
     let is = slowest_is s.log (moment h) st.commits st.held in
     let trim = st.trimmed in
-    let less = min-le_left (held_from (moment h)) (length (moment h).commits - s.log.keep) in
+    let less = min-le_left (held_from (moment h)) (length (moment h).commits - s.log.retention) in
     omega (arith, low, is, trim, less)
 
 -- ---- a step of an open call
@@ -328,7 +328,7 @@ may_vacate s h n calls then_tree left pass reads builds from p steps st is =
     let one : builds_of steps.call ≡ 1 = ap (λ (b : Bool). cond b 1 0) (sym steps.made.builds_is ∙ is) in
     omega (arith, all, rest, one)
 
-pub settled_bounds : (reads : Bool) (from : ℕ) (p : Progress) (left : LogView) (feed keep : ℕ) → (left.feed ≡ feed) × (left.keep ≡ keep) → HasBounds feed keep (trimmed (log_after reads from p left))
+pub settled_bounds : (reads : Bool) (from : ℕ) (p : Progress) (left : LogView) (feed keep : ℕ) → (left.capacity ≡ feed) × (left.retention ≡ keep) → HasBounds feed keep (trimmed (log_after reads from p left))
 settled_bounds reads from p left feed keep had = subst (λ (l : LogView). HasBounds feed keep (trimmed l)) (sym (log_after_is reads from p left)) had
 
 -- ---- as the code takes it

@@ -75,10 +75,10 @@ module _ (s : MachineView) (h : History) (x : Happening) (st : Stands s h) (now 
   same_holding : holding (moment h) ≡ holding (moment (x ∷ h))
   same_holding = ap (λ (vs : List StandingView). map (λ (v : StandingView). v.at) vs ++ froms (moment h).calls) (sym views) ∙ ap (λ (cs : List OpenCall). map (λ (v : StandingView). v.at) (moment (x ∷ h)).views ++ froms cs) (sym calls)
 
-  same_bound : min (held_from (moment h)) (length (moment h).commits - s.log.keep) ≡ min (held_from (moment (x ∷ h))) (length (moment (x ∷ h)).commits - s.log.keep)
+  same_bound : min (held_from (moment h)) (length (moment h).commits - s.log.retention) ≡ min (held_from (moment (x ∷ h))) (length (moment (x ∷ h)).commits - s.log.retention)
   same_bound =
-      ap (λ (l : List ℕ). min (least (length (moment h).commits) l) (length (moment h).commits - s.log.keep)) same_holding
-      ∙ ap (λ (cs : List Change). min (least (length cs) (holding (moment (x ∷ h)))) (length cs - s.log.keep)) (sym commits)
+      ap (λ (l : List ℕ). min (least (length (moment h).commits) l) (length (moment h).commits - s.log.retention)) same_holding
+      ∙ ap (λ (cs : List Change). min (least (length cs) (holding (moment (x ∷ h)))) (length cs - s.log.retention)) (sym commits)
 
   pub quiet_stands : IsWorld tree now w → SameContent (arena_seen s.tree) (arena_seen tree) → Paired (CallStands s.columns now tree w (x ∷ h)) 0 s.calls.begun s.calls.calls (moment h).calls → AllOwned tree w s.calls.calls → Stands (seen s.columns now tree s.log s.calls s.views) (x ∷ h)
   quiet_stands world same related owned = record {

@@ -36,8 +36,8 @@ pub log_fits : LogFits
 log_fits s h st =
     let deltas = deltas_of-length s.columns (moment h).commits in
     let as_many : newest (whole s h) ≡ length (moment h).commits = omega (arith, deltas) in
-    let bound : min (slowest (whole s h)) (newest (whole s h) - s.log.keep) - 0 ≡ s.log.held_after =
-    minus_zero (min (slowest (whole s h)) (newest (whole s h) - s.log.keep)) ∙ ap (λ (m : ℕ). min m (newest (whole s h) - s.log.keep)) (slowest_is (whole s h) (moment h) as_many st.held) ∙ ap (λ (m : ℕ). min (held_from (moment h)) (m - s.log.keep)) as_many ∙ sym st.trimmed in
+    let bound : min (slowest (whole s h)) (newest (whole s h) - s.log.retention) - 0 ≡ s.log.held_after =
+    minus_zero (min (slowest (whole s h)) (newest (whole s h) - s.log.retention)) ∙ ap (λ (m : ℕ). min m (newest (whole s h) - s.log.retention)) (slowest_is (whole s h) (moment h) as_many st.held) ∙ ap (λ (m : ℕ). min (held_from (moment h)) (m - s.log.retention)) as_many ∙ sym st.trimmed in
     subst (λ (ds : List Delta). FitsNewestFirst (reverse ds) (rows s.columns (moment h)))
     (ap (λ (m : ℕ). drop m (deltas_of s.columns (moment h).commits)) bound ∙ sym st.logged)
     (trimming_fits (whole s h) (rows s.columns (moment h)) (all_fit s.columns 0 empty (moment h).commits))

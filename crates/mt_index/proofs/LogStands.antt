@@ -76,18 +76,18 @@ slowest_is log m commits held = least_is_by_counts (newest log) log.holders (hol
 pub record TrimmedAt (C : ℕ) (log : LogView) (m : Moment) : Type 0 where
   pub commits : newest log ≡ length m.commits
   pub logged : log.deltas ≡ drop log.held_after (deltas_of C m.commits)
-  pub trimmed : log.held_after ≡ min (held_from m) (length m.commits - log.keep)
+  pub trimmed : log.held_after ≡ min (held_from m) (length m.commits - log.retention)
   pub held : (number : ℕ) → times_held number log.holders ≡ times_held number (holding m)
 
 pub trims : (C : ℕ) (log : LogView) (m : Moment) → IsLog log → LogAt C log m → TrimmedAt C (trimmed log) m
 trims C log m sound at =
-    let bound : ℕ = min (slowest log) (newest log - log.keep) in
+    let bound : ℕ = min (slowest log) (newest log - log.retention) in
     let rises = trim_rises log bound sound refl in
     let same : log.held_after + (bound - log.held_after) ≡ bound = omega (arith, rises) in
     record {
       commits = newest-trimmed log bound (drop (bound - log.held_after) log.deltas) sound refl refl ∙ at.commits;
       logged = ap (λ (ds : List Delta). drop (bound - log.held_after) ds) at.logged ∙ drop-drop (bound - log.held_after) log.held_after (deltas_of C m.commits) ∙ ap (λ (n : ℕ). drop n (deltas_of C m.commits)) same;
-      trimmed = ap (λ (n : ℕ). min n (newest log - log.keep)) (slowest_is log m at.commits at.held) ∙ ap (λ (n : ℕ). min (held_from m) (n - log.keep)) at.commits;
+      trimmed = ap (λ (n : ℕ). min n (newest log - log.retention)) (slowest_is log m at.commits at.held) ∙ ap (λ (n : ℕ). min (held_from m) (n - log.retention)) at.commits;
       held = at.held;
     }
 

@@ -202,10 +202,10 @@ ends_build s number from call building state (Err refusal) closed left calls kep
     }
 
 -- ---- how much the log may hold
-pub bounds_kept : (s t : MachineView) (number : ℕ) (outcome : Outcome) → EndsBuild s number outcome t → HasBounds s.log.feed s.log.keep t.log
+pub bounds_kept : (s t : MachineView) (number : ℕ) (outcome : Outcome) → EndsBuild s number outcome t → HasBounds s.log.capacity s.log.retention t.log
 bounds_kept s t number outcome ends = elim ends.comes [
-  | inl o ↦ subst (λ (m : MachineView). HasBounds s.log.feed s.log.keep m.log) (sym o.is_next) (refl, refl)
-  | inr o ↦ subst (λ (m : MachineView). HasBounds s.log.feed s.log.keep m.log) (sym o.is_next) (refl, refl)
+  | inl o ↦ subst (λ (m : MachineView). HasBounds s.log.capacity s.log.retention m.log) (sym o.is_next) (refl, refl)
+  | inr o ↦ subst (λ (m : MachineView). HasBounds s.log.capacity s.log.retention m.log) (sym o.is_next) (refl, refl)
 ]
 
 -- ---- begins and steps

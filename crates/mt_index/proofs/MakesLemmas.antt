@@ -17,7 +17,7 @@ use Rattle.mt_index.proofs.EventLemmas.{begin-does, makes_more}
 use Rattle.mt_index.proofs.BeginStands.{begins-stands, begins-columns}
 
 module _ (s t : MachineView) (pass : PassNo) (request : Request) (outcome : Outcome) (begins : Begins s pass request outcome t) where
-  pub makes_begin : HasBounds s.log.feed s.log.keep t.log → Makes s (Begin pass request) outcome t
+  pub makes_begin : HasBounds s.log.capacity s.log.retention t.log → Makes s (Begin pass request) outcome t
   makes_begin bounds = record {
     stands = λ h st. (0, begins-stands s t pass request outcome h begins st);
     happens = record { does = begin-does s t outcome pass request begins; caused = tt; one_step = tt; one_field = tt };

@@ -34,7 +34,7 @@ use Rattle.mt_steps.specs.World.{IsLocked, IsTaken, World, IsWorld, RowsAreOfKey
 use Rattle.mt_index.specs.Stands.{Stands}
 
 -- ---- the new machine
-pub opens-stands : (C feed keep : ℕ) (a : ArenaView) (log : LogView) (w : World) → C ≤ MAX_COLUMNS → IsWorld a 0 w → ((number : ℕ) → IsTaken a w number → ⊥) → ((key : List ℕ) (row : Row) → HasRow a key row → ⊥) → log ≡ record { held_after = 0; deltas = []; reserved = 0; holders = []; feed = feed; keep = keep }
+pub opens-stands : (C feed keep : ℕ) (a : ArenaView) (log : LogView) (w : World) → C ≤ MAX_COLUMNS → IsWorld a 0 w → ((number : ℕ) → IsTaken a w number → ⊥) → ((key : List ℕ) (row : Row) → HasRow a key row → ⊥) → log ≡ record { held_after = 0; deltas = []; reserved = 0; holders = []; capacity = feed; retention = keep }
     → Stands (record { columns = C; epoch = 0; tree = a; log = log; calls = record { begun = 0; calls = [] }; views = record { built = 0; building = 0; views = [] } }) []
 opens-stands C feed keep a log w few world nobody empty is = subst (λ (l : LogView). Stands (record { columns = C; epoch = 0; tree = a; log = l; calls = record { begun = 0; calls = [] }; views = record { built = 0; building = 0; views = [] } }) []) (sym is) (record {
   legal = tt;

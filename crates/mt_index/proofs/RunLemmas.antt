@@ -168,10 +168,10 @@ module _ (s : MachineView) (pass : PassNo) where
     pub steps_so : Steps (while_open x) number (outcome_of number pass (newest s.log) (newest y.log) p) (after_step p y)
     steps_so = subst (λ (to : ℕ). Steps (while_open x) number (outcome_of number pass (newest s.log) to p) (after_step p y)) (sym (newest_after r.log y.log r.sound r.trims)) (inr (inl steps_open))
 
-    pub bounds_so : HasBounds x.log.feed x.log.keep y.log
+    pub bounds_so : HasBounds x.log.capacity x.log.retention y.log
     bounds_so = (
-      ap (λ (log : LogView). log.feed) r.trims ∙ ap (λ (b : List ℕ × ℕ × ℕ). b.1) r.bounds,
-      ap (λ (log : LogView). log.keep) r.trims ∙ ap (λ (b : List ℕ × ℕ × ℕ). b.2) r.bounds,
+      ap (λ (log : LogView). log.capacity) r.trims ∙ ap (λ (b : List ℕ × ℕ × ℕ). b.1) r.bounds,
+      ap (λ (log : LogView). log.retention) r.trims ∙ ap (λ (b : List ℕ × ℕ × ℕ). b.2) r.bounds,
     )
 
   -- a step after which the call continues
@@ -273,8 +273,8 @@ module _ (s : MachineView) (pass : PassNo) where
 -- a log has nothing to trim while no step is under way
 pub nothing_to_trim : (s : MachineView) (h : History) → Stands s h → IsTrimmed s.log
 nothing_to_trim s h st =
-    ap (λ (n : ℕ). min n (newest s.log - s.log.keep)) (slowest_is s.log (moment h) st.commits st.held)
-    ∙ ap (λ (n : ℕ). min (held_from (moment h)) (n - s.log.keep)) st.commits ∙ sym st.trimmed
+    ap (λ (n : ℕ). min n (newest s.log - s.log.retention)) (slowest_is s.log (moment h) st.commits st.held)
+    ∙ ap (λ (n : ℕ). min (held_from (moment h)) (n - s.log.retention)) st.commits ∙ sym st.trimmed
 
 -- ---- at the end the machine is at a history
 go_stand : (s t : MachineView) (call : CallNo) (outcomes : List Outcome) → StepsGo s call outcomes t → (h : History) → Stands s h → (then : History) × Stands t then
@@ -300,7 +300,7 @@ module _ (s t : MachineView) (pass : PassNo) (request : Request) (call : CallNo)
       outcome-limited t past (Step call) run.last opens then
 
 -- ---- and each step is an event that the machine makes
-makes_step : (s t : MachineView) (call : CallNo) (o : Outcome) → Steps s call.0 o t → HasBounds s.log.feed s.log.keep t.log → Makes s (Step call) o t
+makes_step : (s t : MachineView) (call : CallNo) (o : Outcome) → Steps s call.0 o t → HasBounds s.log.capacity s.log.retention t.log → Makes s (Step call) o t
 makes_step s t call o steps bounds = record {
   stands = λ h st. steps-stand s t call.0 o h steps st;
   happens = step-happens s t call o steps;
@@ -329,7 +329,7 @@ call_goes s t pass request call run goes = (
 
 pub or_goes : (s t : MachineView) (pass : PassNo) (request : Request) (called : CallRun) → BeginsOrNot s pass request called t → CallGoes s pass request called t
 or_goes s t pass request (Ran call run) goes = call_goes s t pass request call run goes
-or_goes s t pass request (RefusedRun refusal) begins = makes_begin s t pass request (RefusedOutcome refusal) begins (ap (λ (m : MachineView). m.log.feed) begins.1, ap (λ (m : MachineView). m.log.keep) begins.1)
+or_goes s t pass request (RefusedRun refusal) begins = makes_begin s t pass request (RefusedOutcome refusal) begins (ap (λ (m : MachineView). m.log.capacity) begins.1, ap (λ (m : MachineView). m.log.retention) begins.1)
 
 pub or_limited : (s t : MachineView) (pass : PassNo) (request : Request) (called : CallRun) → BeginsOrNot s pass request called t → (h : History) → Stands s h → RunIsLimited called
 or_limited s t pass request (Ran call run) goes h st = run_limited s t pass request call run goes h st
@@ -367,7 +367,7 @@ module _ (s : MachineView) (pass : PassNo) (idle : IsIdle s) where
       (begins_and_goes s pass write (subst (λ (n : ℕ). IsNew s.columns n (WriteWork write)) began new) request run y idle none asks has))))
 
 -- a call that has begun and made one step
-pub begun_one : (s m t : MachineView) (pass : PassNo) (request : Request) (call : CallNo) (o : Outcome) (commits : ℕ) → Begins s pass request (Called call) m → HasBounds s.log.feed s.log.keep m.log → Steps m call.0 o t → HasBounds m.log.feed m.log.keep t.log → commits ≡ commit_count o
+pub begun_one : (s m t : MachineView) (pass : PassNo) (request : Request) (call : CallNo) (o : Outcome) (commits : ℕ) → Begins s pass request (Called call) m → HasBounds s.log.capacity s.log.retention m.log → Steps m call.0 o t → HasBounds m.log.capacity m.log.retention t.log → commits ≡ commit_count o
     → BeginsAndGoes s pass request call (record { steps = 1; commits = commits; last = o }) t
 begun_one s m t pass request call o commits begins bounds step then_bounds counted = record {
   begun = m;

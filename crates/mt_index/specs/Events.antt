@@ -49,7 +49,7 @@ pub record Makes (s : MachineView) (event : Event) (outcome : Outcome) (t : Mach
   pub stands : (h : History) → Stands s h → (opens : ℕ) × Stands t (happening event outcome opens ∷ h)
   pub happens : Happens s event outcome t
   pub columns : t.columns ≡ s.columns
-  pub bounds : HasBounds s.log.feed s.log.keep t.log
+  pub bounds : HasBounds s.log.capacity s.log.retention t.log
 
 -- THESE EVENTS HAPPEN one after the other, with these outcomes, one for each: the machine makes each of them
 abbrev pub AllHappen : MachineView → List Event → List Outcome → MachineView → Type 0
@@ -105,7 +105,7 @@ HappensAlone s request last t = Happens s (Begin pass_0 request) last t ⊎ Step
 -- a machine on which nothing has happened, opened so
 pub record IsOpened (options : Options) (s : MachineView) : Type 0 where
   pub columns : s.columns ≡ options.columns
-  pub bounds : HasBounds options.feed options.keep s.log
+  pub bounds : HasBounds options.log_capacity options.log_retention s.log
   pub stands : Stands s []
 
 -- A RUN: these events, with these outcomes, happened one after the other on an empty index, and led to this machine;

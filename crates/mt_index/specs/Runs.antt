@@ -25,20 +25,20 @@ has_ended _ = false
 abbrev pub StepsGo : MachineView → CallNo → List Outcome → MachineView → Type 0
 StepsGo s call [] t = t ≡ s
 StepsGo s call (outcome ∷ outcomes) t = (next : MachineView) × Steps s call.0 outcome next
-    × HasBounds s.log.feed s.log.keep next.log × StepsGo next call outcomes t
+    × HasBounds s.log.capacity s.log.retention next.log × StepsGo next call outcomes t
 
 -- a call begins, and makes a run of steps, after each of which but the last it continues at once
 pub record BeginsAndGoes (s : MachineView) (pass : PassNo) (request : Request) (call : CallNo) (run : Run)
     (t : MachineView) : Type 0 where
   pub begun : MachineView
   pub begins : Begins s pass request (Called call) begun
-  pub begun_bounds : HasBounds s.log.feed s.log.keep begun.log
+  pub begun_bounds : HasBounds s.log.capacity s.log.retention begun.log
   pub outcomes : List Outcome
   pub go_on : All GoesOnAtOnce outcomes
   pub before : MachineView
   pub steps : StepsGo begun call outcomes before
   pub last : Steps before call.0 run.last t
-  pub last_bounds : HasBounds before.log.feed before.log.keep t.log
+  pub last_bounds : HasBounds before.log.capacity before.log.retention t.log
   pub many : run.steps ≡ length outcomes + 1
   pub commits : run.commits ≡ sum_by commit_count outcomes + commit_count run.last
 

@@ -122,7 +122,7 @@ pub record Stands (s : MachineView) (h : History) : Type 0 where
   -- the log has exactly the deltas of the commits after the least number from which it is held, and of the last ones
   -- that it keeps for no reader
   pub logged : s.log.deltas ≡ drop s.log.held_after (deltas_of s.columns (moment h).commits)
-  pub trimmed : s.log.held_after ≡ min (held_from (moment h)) (length (moment h).commits - s.log.keep)
+  pub trimmed : s.log.held_after ≡ min (held_from (moment h)) (length (moment h).commits - s.log.retention)
   -- it is held from each number as often as views and open calls hold it from there
   pub held : (number : ℕ) → times_held number s.log.holders ≡ times_held number (holding (moment h))
   -- the views are those of the history, and each is exact at its number
@@ -136,7 +136,7 @@ pub record Stands (s : MachineView) (h : History) : Type 0 where
 
 -- how much the log may hold for the slowest reader, and how much it keeps for no reader
 abbrev pub HasBounds : ℕ → ℕ → LogView → Type 0
-HasBounds feed keep log = (log.feed ≡ feed) × (log.keep ≡ keep)
+HasBounds feed keep log = (log.capacity ≡ feed) × (log.retention ≡ keep)
 
 -- what a step answers
 abbrev pub outcome_of : ℕ → PassNo → ℕ → ℕ → Progress → Outcome

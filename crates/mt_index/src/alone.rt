@@ -129,7 +129,7 @@ impl Machine {
         ensures fault { MatchOption (fault_of self.old request) (Unit {0}) (λ refusal. result ≡ Err refusal) }
         ensures idle { IsIdle self.new }
         ensures options { self.new.columns ≡ self.old.columns }
-        ensures bounds { HasBounds self.old.log.feed self.old.log.keep self.new.log }
+        ensures bounds { HasBounds self.old.log.capacity self.old.log.retention self.new.log }
     {
         let _stands = self.is_idle();
         if let Some(refusal) = self.fault_of(&request) {

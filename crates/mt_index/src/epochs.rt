@@ -26,7 +26,7 @@ impl Machine {
     // Begins the next epoch.
     pub(crate) fn advance(&mut self) -> Outcome
         ensures advances { Advances self.old result self.new }
-        ensures bounds { HasBounds self.old.log.feed self.old.log.keep self.new.log }
+        ensures bounds { HasBounds self.old.log.capacity self.old.log.retention self.new.log }
     {
         let Some(next) = self.epoch.checked_add(1) else {
             return Outcome::Refused(Refusal::Spent);
@@ -39,7 +39,7 @@ impl Machine {
     pub(crate) fn collect(&mut self) -> Outcome
         ensures collects { Collects self.old result self.new }
         ensures caused { IsCaused self.old Collect result self.new }
-        ensures bounds { HasBounds self.old.log.feed self.old.log.keep self.new.log }
+        ensures bounds { HasBounds self.old.log.capacity self.old.log.retention self.new.log }
     {
         match last_before(self.calls.oldest(), self.epoch) {
             Some(upto) => Outcome::Freed(collect(&mut self.tree, upto)),

@@ -92,24 +92,28 @@ impl Machine {
     ///
     /// # Errors
     ///
-    /// `BadColumn` unless `columns` is from 1 to `MAX_COLUMNS`; `BadLimit` unless `feed` is from 1 to `MAX_FEED` and
-    /// `keep` is at most `MAX_KEEP`; `NoMemory` if an allocation is refused. The first of these that applies.
+    /// `BadColumn` unless `columns` is from 1 to `MAX_COLUMNS`; `BadLimit` unless `feed` is from 1 to `MAX_LOG_CAPACITY` and
+    /// `keep` is at most `MAX_LOG_RETENTION`; `NoMemory` if an allocation is refused. The first of these that applies.
     pub fn open(alloc: Global, options: Options) -> Result<Machine, Refusal>
         ensures opened { IfOk result
-            (λ machine. (machine.columns ≡ options.columns) × HasBounds options.feed options.keep machine.log
+            (λ machine. (machine.columns ≡ options.columns) × HasBounds options.log_capacity options.log_retention machine.log
             × Stands machine []) }
-        ensures fault { MatchOption (open_fault options.columns options.feed options.keep)
+        ensures fault { MatchOption (open_fault options.columns options.log_capacity options.log_retention)
             (IfErr result (λ refusal. refusal ≡ Refusal.NoMemory)) (λ refusal. result ≡ Err refusal) }
         ensures idle { IfOk result IsIdle }
     {
-        if let Some(refusal) = open_fault(options.columns, options.feed, options.keep) {
+        if let Some(refusal) = open_fault(
+            options.columns,
+            options.log_capacity,
+            options.log_retention,
+        ) {
             return Err(refusal);
         }
         Ok(Machine {
             columns: options.columns as u8,
             epoch: 0,
             tree: Tree::open(alloc)?,
-            log: Log::open(alloc, options.feed, options.keep),
+            log: Log::open(alloc, options.log_capacity, options.log_retention),
             calls: Calls::new(alloc)?,
             views: Views::new(alloc),
         })
@@ -224,7 +228,7 @@ impl Machine {
         ensures one_field { IsOneField self.old event.now result self.new }
         ensures limited { OutcomeIsLimited result }
         ensures columns { self.new.columns ≡ self.old.columns }
-        ensures bounds { HasBounds self.old.log.feed self.old.log.keep self.new.log }
+        ensures bounds { HasBounds self.old.log.capacity self.old.log.retention self.new.log }
     {
         let _stands = self.is_idle();
         match event {
@@ -259,8 +263,8 @@ impl Machine {
     ) -> Result<(Machine, Vec<Outcome>), Refusal>
         ensures legal { IfOk result (λ run. (h : History) × IsRun options events.now run.1.items run.0 h) }
         ensures length { IfOk result (λ run. length run.1.items ≡ length events.now) }
-        ensures bounds { IfOk result (λ run. HasBounds options.feed options.keep run.0.log) }
-        ensures fault { MatchOption (open_fault options.columns options.feed options.keep)
+        ensures bounds { IfOk result (λ run. HasBounds options.log_capacity options.log_retention run.0.log) }
+        ensures fault { MatchOption (open_fault options.columns options.log_capacity options.log_retention)
             (IfErr result (λ refusal. refusal ≡ Refusal.NoMemory)) (λ refusal. result ≡ Err refusal) }
     {
         let mut machine = Machine::open(alloc, options)?;

@@ -182,7 +182,7 @@ impl Machine {
         requires { fault_of self.old request ≡ None }
         ensures begins { IfOk result (λ number. Begins self.old pass request (Called number) self.new) }
         ensures err { OnErr result (self.new ≡ self.old) }
-        ensures bounds { HasBounds self.old.log.feed self.old.log.keep self.new.log }
+        ensures bounds { HasBounds self.old.log.capacity self.old.log.retention self.new.log }
     {
         let from = self.log.number();
         let work = work_of(alloc, self.columns, from, request)?;
@@ -206,7 +206,7 @@ impl Machine {
     pub(crate) fn admitted(&mut self, alloc: Global, pass: PassNo, request: Request) -> Outcome
         requires { fault_of self.old request ≡ None }
         ensures begins { Begins self.old pass request result self.new }
-        ensures bounds { HasBounds self.old.log.feed self.old.log.keep self.new.log }
+        ensures bounds { HasBounds self.old.log.capacity self.old.log.retention self.new.log }
     {
         match self.admit(alloc, pass, request) {
             Ok(number) => Outcome::Call(number),
@@ -217,7 +217,7 @@ impl Machine {
     // Begins a call with a copy of a request, unless something refuses it.
     pub(crate) fn begin(&mut self, alloc: Global, pass: PassNo, request: &Request) -> Outcome
         ensures begins { Begins self.old pass request.now result self.new }
-        ensures bounds { HasBounds self.old.log.feed self.old.log.keep self.new.log }
+        ensures bounds { HasBounds self.old.log.capacity self.old.log.retention self.new.log }
     {
         if let Some(refusal) = self.fault_of(request) {
             return Outcome::Refused(refusal);
@@ -231,7 +231,7 @@ impl Machine {
     // Makes a step of the call of this number, by which it advances, waits or ends.
     pub(crate) fn step(&mut self, alloc: Global, number: u64) -> Outcome
         ensures steps { Steps self.old number result self.new }
-        ensures bounds { HasBounds self.old.log.feed self.old.log.keep self.new.log }
+        ensures bounds { HasBounds self.old.log.capacity self.old.log.retention self.new.log }
     {
         let stepped = match self.calls.step(
             alloc,
@@ -262,7 +262,7 @@ impl Machine {
     fn end_build(&mut self, number: u64) -> Outcome
         requires { IsBuiltCall (call_at number self.old.calls.calls) }
         ensures ends { EndsBuild self.old number result self.new }
-        ensures bounds { HasBounds self.old.log.feed self.old.log.keep self.new.log }
+        ensures bounds { HasBounds self.old.log.capacity self.old.log.retention self.new.log }
     {
         let Some(call) = self.calls.remove(number) else {
             unreachable!()

@@ -194,7 +194,7 @@ impl Machine {
     // Advances a view by the delta of the next commit, if there is one.
     pub(crate) fn apply(&mut self, view: u64) -> Outcome
         ensures applies { Applies self.old view result self.new }
-        ensures bounds { HasBounds self.old.log.feed self.old.log.keep self.new.log }
+        ensures bounds { HasBounds self.old.log.capacity self.old.log.retention self.new.log }
     {
         let Some(number) = self.views.meant(view) else {
             if view == 0 {
@@ -270,7 +270,7 @@ impl Machine {
     // Ends a view, which then holds the log no longer.
     pub(crate) fn view_drop(&mut self, view: u64) -> Outcome
         ensures drops { Drops self.old view result self.new }
-        ensures bounds { HasBounds self.old.log.feed self.old.log.keep self.new.log }
+        ensures bounds { HasBounds self.old.log.capacity self.old.log.retention self.new.log }
     {
         let Some(at) = self.views.at(view) else {
             return Outcome::Refused(Refusal::NoSuchView);

@@ -30,7 +30,7 @@ fn sets(alloc: Global, value: &'static [u8]) -> Result<Sets, Refusal> {
 // A map whose log keeps the last eight commits.
 fn open(alloc: Global) -> Result<Map, Refusal> {
     let options = Options {
-        keep: 8,
+        log_retention: 8,
         ..Options::default()
     };
     Map::open(alloc, options)

@@ -13,8 +13,8 @@ use std::test::Fail;
 
 const OPTIONS: Options = Options {
     columns: 1,
-    feed: 4096,
-    keep: 0,
+    log_capacity: 4096,
+    log_retention: 0,
     tidies: true,
 };
 

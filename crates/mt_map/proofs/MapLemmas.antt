@@ -52,7 +52,7 @@ fault_none (Some due) reply answer is = absurd (let clash : ◌≡◌ {A = Resul
 
 -- a call that is answered came to that
 pub came_answered : (s t : MachineView) (request : Request) (reply : Reply) → AnswersPlainly s request reply t → HappensAlone s request (Done reply) t
-    → MatchOption (fault_of s request) (Unit {0}) (λ (due : Refusal). ◌≡◌ {A = Result Reply Refusal} (Ok reply) (Err due)) → t.columns ≡ s.columns → HasBounds s.log.feed s.log.keep t.log → CameTo s request (Ok reply.answer) t
+    → MatchOption (fault_of s request) (Unit {0}) (λ (due : Refusal). ◌≡◌ {A = Result Reply Refusal} (Ok reply) (Err due)) → t.columns ≡ s.columns → HasBounds s.log.capacity s.log.retention t.log → CameTo s request (Ok reply.answer) t
 came_answered s t request reply plainly happens fault columns bounds = record {
   answered = record { reply = reply; is_its = refl; plainly = plainly; happens = happens };
   refused = tt;
@@ -63,7 +63,7 @@ came_answered s t request reply plainly happens fault columns bounds = record {
 
 -- a call that is refused came to that
 pub came_refused : (s t : MachineView) (request : Request) (refusal : Refusal) → RefusesPlainly s request refusal t → HappensAlone s request (Refused refusal) t
-    → MatchOption (fault_of s request) (Unit {0}) (λ (due : Refusal). ◌≡◌ {A = Result Reply Refusal} (Err refusal) (Err due)) → t.columns ≡ s.columns → HasBounds s.log.feed s.log.keep t.log → CameTo s request (Err refusal) t
+    → MatchOption (fault_of s request) (Unit {0}) (λ (due : Refusal). ◌≡◌ {A = Result Reply Refusal} (Err refusal) (Err due)) → t.columns ≡ s.columns → HasBounds s.log.capacity s.log.retention t.log → CameTo s request (Err refusal) t
 came_refused s t request refusal plainly happens fault columns bounds = record {
   answered = tt;
   refused = record { plainly = plainly; happens = happens };

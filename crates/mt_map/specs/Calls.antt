@@ -32,7 +32,7 @@ pub record CameTo (s : MachineView) (request : Request) (result : Result Answer 
   pub refused : IfErr result (λ refusal. HasRefusal s request refusal t)
   pub fault : MatchOption (fault_of s request) (Unit {0}) (λ refusal. result ≡ Err refusal)
   pub columns : t.columns ≡ s.columns
-  pub bounds : HasBounds s.log.feed s.log.keep t.log
+  pub bounds : HasBounds s.log.capacity s.log.retention t.log
 
 -- a plain map may answer such a request so
 pub record IsAnswerTo (request : Request) (answer : Answer) : Type 0 where

@@ -109,13 +109,13 @@ impl Map {
     ///
     /// # Errors
     ///
-    /// `BadColumn` unless `columns` is from 1 to `MAX_COLUMNS`; `BadLimit` unless `feed` is from 1 to `MAX_FEED` and
-    /// `keep` is at most `MAX_KEEP`; `NoMemory` if an allocation is refused. The first of these that applies.
+    /// `BadColumn` unless `columns` is from 1 to `MAX_COLUMNS`; `BadLimit` unless `feed` is from 1 to `MAX_LOG_CAPACITY` and
+    /// `keep` is at most `MAX_LOG_RETENTION`; `NoMemory` if an allocation is refused. The first of these that applies.
     pub fn open(alloc: Global, options: Options) -> Result<Map, Refusal>
         ensures opened { IfOk result (λ map. (map.machine.columns ≡ options.columns)
-            × HasBounds options.feed options.keep map.machine.log × Stands map.machine []) }
+            × HasBounds options.log_capacity options.log_retention map.machine.log × Stands map.machine []) }
         ensures tidies { IfOk result (λ map. map.tidies ≡ options.tidies) }
-        ensures fault { MatchOption (open_fault options.columns options.feed options.keep)
+        ensures fault { MatchOption (open_fault options.columns options.log_capacity options.log_retention)
             (IfErr result (λ refusal. refusal ≡ Refusal.NoMemory)) (λ refusal. result ≡ Err refusal) }
     {
         let machine = Machine::open(alloc, options)?;

@@ -25,8 +25,8 @@ use std::test::Fail;
 
 const OPTIONS: Options = Options {
     columns: 1,
-    feed: 4096,
-    keep: 2,
+    log_capacity: 4096,
+    log_retention: 2,
     tidies: true,
 };
 

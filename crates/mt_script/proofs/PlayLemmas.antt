@@ -140,14 +140,14 @@ pub record Playing (C keep : ℕ) (input old : Option (List ℕ)) (bad : ℕ) (s
   pub answered : AnswersAll C keep [] lines replies h
   pub stands : Stands s h
   pub columns : s.columns ≡ C
-  pub keeps : s.log.keep ≡ keep
+  pub keeps : s.log.retention ≡ keep
   pub written : Appends old new (output_of replies)
   pub counted : bad ≡ bad_lines replies
 
 legal_of : {C keep : ℕ} {input old : Option (List ℕ)} {bad : ℕ} {s : MachineView} {now new : Option (List ℕ)} → (p : Playing C keep input old bad s now new) → Legal C p.h
 legal_of p = subst (λ n. Legal n p.h) p.columns p.stands.legal
 
-pub Playing-none : (s : MachineView) (input old : Option (List ℕ)) → Stands s [] → Playing s.columns s.log.keep input old 0 s input old
+pub Playing-none : (s : MachineView) (input old : Option (List ℕ)) → Stands s [] → Playing s.columns s.log.retention input old 0 s input old
 Playing-none s input old stands = record {
   lines = [];
   replies = [];
@@ -163,16 +163,16 @@ Playing-none s input old stands = record {
 
 -- a line more is read and answered
 answered_more : {C keep : ℕ} {input old : Option (List ℕ)} {bad : ℕ} {s : MachineView} {now new : Option (List ℕ)} (t : MachineView) (next : Option (List ℕ)) (line : List ℕ) (reply : Reply) → (p : Playing C keep input old bad s now new)
-    → Leads s (λ past h. Answers s.columns s.log.keep (command_of line) past reply h) t → IsAsBefore s t
+    → Leads s (λ past h. Answers s.columns s.log.retention (command_of line) past reply h) t → IsAsBefore s t
     → (h : History) × AnswersAll C keep [] (p.lines ++ line ∷ []) (p.replies ++ reply ∷ []) h × Stands t h × Legal C h
 answered_more {C} {keep} {input} {old} {bad} {s} t next line reply p leads as_before =
     let led = leads p.h p.stands in
     let one : Answers C keep (command_of line) p.h reply led.0 =
-    subst (λ (k : ℕ). Answers C k (command_of line) p.h reply led.0) p.keeps (subst (λ (n : ℕ). Answers n s.log.keep (command_of line) p.h reply led.0) p.columns led.1) in
+    subst (λ (k : ℕ). Answers C k (command_of line) p.h reply led.0) p.keeps (subst (λ (n : ℕ). Answers n s.log.retention (command_of line) p.h reply led.0) p.columns led.1) in
     (led.0, AnswersAll-push C keep [] p.h led.0 p.lines p.replies line reply p.answered one, led.2, subst (λ n. Legal n led.0) (as_before.0 ∙ p.columns) led.2.legal)
 
 pub Playing-more : {C keep : ℕ} {input old : Option (List ℕ)} {bad : ℕ} {s : MachineView} {now new : Option (List ℕ)} (t : MachineView) (next out : Option (List ℕ)) (more : ℕ) (line : List ℕ) (reply : Reply) → (p : Playing C keep input old bad s now new)
-    → IfSome now (λ xs. LosesLine xs next (Some line)) → Leads s (λ past h. Answers s.columns s.log.keep (command_of line) past reply h) t → IsAsBefore s t
+    → IfSome now (λ xs. LosesLine xs next (Some line)) → Leads s (λ past h. Answers s.columns s.log.retention (command_of line) past reply h) t → IsAsBefore s t
     → Appends new out (reply_lines reply) → more ≡ bad + bad_lines (reply ∷ []) → Playing C keep input old more t next out
 Playing-more {C} {keep} {input} {old} {bad} {s} {now} {new} t next out more line reply p lost leads as_before sent counted =
     let one = answered_more t next line reply p leads as_before in record {
@@ -223,7 +223,7 @@ Broke-between fault unread {C} {keep} {input} {old} {bad} {s} {now} {new} p cut 
     }
 
 pub Broke-sending : (fault : ScriptFault) (unread : Option (List ℕ)) {C keep : ℕ} {input old : Option (List ℕ)} {bad : ℕ} {s : MachineView} {now new : Option (List ℕ)} (t : MachineView) (next out : Option (List ℕ)) (line : List ℕ) (reply : Reply) (sent unsent : List ℕ)
-    → (p : Playing C keep input old bad s now new) → IfSome now (λ xs. LosesLine xs next (Some line)) → Leads s (λ past h. Answers s.columns s.log.keep (command_of line) past reply h) t → IsAsBefore s t
+    → (p : Playing C keep input old bad s now new) → IfSome now (λ xs. LosesLine xs next (Some line)) → Leads s (λ past h. Answers s.columns s.log.retention (command_of line) past reply h) t → IsAsBefore s t
     → reply_lines reply ≡ sent ++ unsent → Appends new out sent → (fault ≡ Write) ⊎ (fault ≡ NoMemory) → Broke C keep fault input unread old out
 Broke-sending fault unread {C} {keep} {input} {old} {bad} {s} {now} {new} t next out line reply sent unsent p lost leads as_before split went cause =
     let one = answered_more t next line reply p leads as_before in

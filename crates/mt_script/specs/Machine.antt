@@ -9,4 +9,4 @@ Leads s On t = (past : History) → Stands s past → (h : History) × On past h
 
 -- the machine still has the same number of columns, and keeps the same number of commits for no reader
 abbrev pub IsAsBefore : MachineView → MachineView → Type 0
-IsAsBefore s t = (t.columns ≡ s.columns) × (t.log.keep ≡ s.log.keep)
+IsAsBefore s t = (t.columns ≡ s.columns) × (t.log.retention ≡ s.log.retention)

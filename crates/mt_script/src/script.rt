@@ -85,7 +85,7 @@ fn alone(machine: &mut Machine, alloc: Global, request: Request) -> Reply
 // The deltas of the commits after a number. No event happens.
 fn feed(machine: &Machine, alloc: Global, from: u64, limit: u16) -> Reply
     ensures { (h : History) → Stands machine.now h
-        → Feeds machine.now.columns machine.now.log.keep from limit h result }
+        → Feeds machine.now.columns machine.now.log.retention from limit h result }
 {
     match machine.feed(alloc, from, limit) {
         Ok(deltas) => Reply::Fed(Items::from_vec(deltas)),
@@ -96,7 +96,7 @@ fn feed(machine: &Machine, alloc: Global, from: u64, limit: u16) -> Reply
 // What a line is answered.
 fn answer(machine: &mut Machine, alloc: Global, line: &[u8]) -> Result<Reply, ScriptFault>
     ensures stands { IfOk result (λ reply. Leads machine.old
-        (λ past h. Answers machine.old.columns machine.old.log.keep (command_of line.now) past reply h) machine.new) }
+        (λ past h. Answers machine.old.columns machine.old.log.retention (command_of line.now) past reply h) machine.new) }
     ensures options { IsAsBefore machine.old machine.new }
     ensures err { IfErr result (λ fault. (fault ≡ NoMemory) × (machine.new ≡ machine.old)) }
 {
@@ -144,10 +144,10 @@ fn play<R: Read, W: Write>(
     writer: &mut Sink<W>,
 ) -> Result<u64, ScriptFault>
     requires { Stands machine.old [] }
-    ensures ok { IfOk result (λ bad. Played machine.old.columns machine.old.log.keep
+    ensures ok { IfOk result (λ bad. Played machine.old.columns machine.old.log.retention
         (source_rest R.remaining reader.old)
         (W.contents (sink_writer writer.old)) bad (W.contents (sink_writer writer.new))) }
-    ensures err { IfErr result (λ fault. Broke machine.old.columns machine.old.log.keep fault
+    ensures err { IfErr result (λ fault. Broke machine.old.columns machine.old.log.retention fault
         (source_rest R.remaining reader.old) (source_unread R.remaining reader.new)
         (W.contents (sink_writer writer.old)) (W.contents (sink_writer writer.new))) }
     ensures read { IfErr result (λ fault. fault ≡ ReadFault → read_failed reader.new ≡ true) }
@@ -195,17 +195,17 @@ pub fn script<R: Read, W: Write>(
     reader: &mut Source<R>,
     writer: &mut Sink<W>,
 ) -> Result<u64, ScriptFault>
-    ensures answered { IfOk result (λ bad. Played options.columns options.keep (source_rest R.remaining reader.old)
+    ensures answered { IfOk result (λ bad. Played options.columns options.log_retention (source_rest R.remaining reader.old)
         (W.contents (sink_writer writer.old)) bad (W.contents (sink_writer writer.new))) }
-    ensures broke { IfErr result (λ fault. Broke options.columns options.keep fault
+    ensures broke { IfErr result (λ fault. Broke options.columns options.log_retention fault
         (source_rest R.remaining reader.old) (source_unread R.remaining reader.new)
         (W.contents (sink_writer writer.old)) (W.contents (sink_writer writer.new))) }
     ensures read { result ≡ Err ReadFault → read_failed reader.new ≡ true }
     ensures write { result ≡ Err WriteFault → write_failed writer.new ≡ true }
-    ensures start { IfSome (open_fault options.columns options.feed options.keep)
+    ensures start { IfSome (open_fault options.columns options.log_capacity options.log_retention)
         (λ refusal. (result ≡ Err (Start refusal)) × (writer.new ≡ writer.old) × (reader.new ≡ reader.old)) }
     ensures opened { IfErr result (λ fault. (refusal : Refusal) → fault ≡ Start refusal
-        → open_fault options.columns options.feed options.keep ≡ Some refusal) }
+        → open_fault options.columns options.log_capacity options.log_retention ≡ Some refusal) }
 {
     match Machine::open(alloc, options) {
         Ok(mut machine) => play(&mut machine, alloc, reader, writer),

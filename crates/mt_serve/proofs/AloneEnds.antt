@@ -26,7 +26,7 @@ use Rattle.mt_promise.proofs.AloneLemmas.{lone_calls_are_plain, lone_refusals_do
 use Rattle.mt_shared.specs.Traces.{entry}
 use Rattle.mt_shared.specs.Passes.{PassView}
 use Rattle.mt_shared.specs.Drives.{IsCut, IsDrive, EndsIn}
-use Rattle.mt_shared.specs.Kept.{KeptView, Does, is_foreign}
+use Rattle.mt_shared.specs.Inner.{InnerView, Does, is_foreign}
 use Rattle.mt_serve.specs.Store.{Store, EndsBy, fault}
 use Rattle.mt_serve.specs.Plain.{IsAlone, CallRuns, GivesNext, store_of}
 use Rattle.mt_serve.proofs.CauseLemmas.{any_cause, begin_plainly}
@@ -80,15 +80,15 @@ gives_next C past call (Tidy key) (Built view) note s same right = absurd right
 gives_next C past call asked _ note s same right = tt
 
 -- its last step
-record LastStep (s : Store) (request : Request) (pass : PassNo) (call : CallNo) (last : Outcome) (t : KeptView) (q : PassView) : Type 0 where
-  m : KeptView
+record LastStep (s : Store) (request : Request) (pass : PassNo) (call : CallNo) (last : Outcome) (t : InnerView) (q : PassView) : Type 0 where
+  m : InnerView
   r : PassView
   at : Reached s request pass call m r
   went : Goes m r at.past (Step call) last t q
   legal : Legal s.machine.columns (happening (Step call) last went.note ∷ at.past)
   ends : EndsBy s pass request call last (store_of t (happening (Step call) last went.note ∷ at.past))
 
-last_step : (s : Store) (t : KeptView) (q : PassView) (request : Request) (pass : PassNo) (call : CallNo) (last : Outcome) → t.events < greatest_number → IsWhole s request pass call (entry pass (Step call) last) t q → LastStep s request pass call last t q
+last_step : (s : Store) (t : InnerView) (q : PassView) (request : Request) (pass : PassNo) (call : CallNo) (last : Outcome) → t.events < greatest_number → IsWhole s request pass call (entry pass (Step call) last) t q → LastStep s request pass call last t q
 last_step s t q request pass call last few w =
     let at = w.ends.at in
     let own : is_foreign w.ends.m.machine w.ends.r.number (Step call) ≡ false = subst (λ (n : PassNo). is_foreign w.ends.m.machine n (Step call) ≡ false) (sym at.number) (own_step request pass call s.past at.past at.way w.ends.m.machine at.keeps.stands) in
@@ -106,7 +106,7 @@ last_step s t q request pass call last few w =
       };
     }
 
-pub drive_ends : (s t : KeptView) (p q : PassView) (h : History) (request : Request) (result : Result Reply Refusal) → IsAlone s p h → t.events < greatest_number → IsDrive Does s p request result t q
+pub drive_ends : (s t : InnerView) (p q : PassView) (h : History) (request : Request) (result : Result Reply Refusal) → IsAlone s p h → t.events < greatest_number → IsDrive Does s p request result t q
     → (final : History) × IsAlone t q final × (t.machine.columns ≡ s.machine.columns) × CallRuns (store_of s h) request result (store_of t final)
 drive_ends s t p q h request (Ok reply) a few d =
     let w = whole_run s t p q h request reply.call d.driven.steps (Done reply) a few d.driven.are_steps d.driven.runs in

@@ -21,7 +21,7 @@ use Rattle.mt_index.specs.Stands.{Stands}
 use Rattle.mt_shared.specs.declared.trace.Entry.{Entry}
 use Rattle.mt_shared.specs.Passes.{PassView, seen_in}
 use Rattle.mt_shared.specs.Drives.{Runs, Continues}
-use Rattle.mt_shared.specs.Kept.{KeptView, Does, IsMade, IsUnmade, has_book, is_foreign, is_wrong, is_spent}
+use Rattle.mt_shared.specs.Inner.{InnerView, Does, IsMade, IsUnmade, has_counters, is_foreign, is_wrong, is_spent}
 use Rattle.mt_shared.proofs.HappeningLemmas.{event_grows, event_shows}
 use Rattle.mt_index.specs.Events.{Makes}
 use Rattle.mt_index.proofs.EventLemmas.{all-more}
@@ -29,56 +29,56 @@ use Rattle.mt_serve.specs.Store.{Store, Leads, ComesTo, call_events}
 use Rattle.mt_serve.specs.Plain.{IsAlone, store_of}
 
 -- ---- events are counted
-pub does_rises : (s t : KeptView) (p q : PassView) (e : Event) (o : Outcome) → Does s p e o t q → s.events ≤ t.events
+pub does_rises : (s t : InnerView) (p q : PassView) (e : Event) (o : Outcome) → Does s p e o t q → s.events ≤ t.events
 does_rises s t p q e o d = first (is_wrong s p.number e) (is_spent s p) d
   where
     same : t ≡ s → s.events ≤ t.events
-    same is = let equal = ap (λ (k : KeptView). k.events) is in omega (arith, equal)
+    same is = let equal = ap (λ (k : InnerView). k.events) is in omega (arith, equal)
 
     first : (wrong spent : Bool) → MatchBool wrong (IsUnmade WrongPass s p o t q) (MatchBool spent (IsUnmade Spent s p o t q) (IsMade s p e o t q)) → s.events ≤ t.events
     first true spent (refused, is, other) = same is
     first false true (refused, is, other) = same is
     first false false made = let one = made.events in omega (arith, one)
 
-pub runs_rise : (s t : KeptView) (p q : PassView) (xs : List Entry) → Runs Does s p xs t q → s.events ≤ t.events
-runs_rise s t p q [] (is, other) = let equal = ap (λ (k : KeptView). k.events) is in omega (arith, equal)
+pub runs_rise : (s t : InnerView) (p q : PassView) (xs : List Entry) → Runs Does s p xs t q → s.events ≤ t.events
+runs_rise s t p q [] (is, other) = let equal = ap (λ (k : InnerView). k.events) is in omega (arith, equal)
 runs_rise s t p q (x ∷ xs) (m, r, one, more) =
     let a = does_rises s m p r x.event x.outcome one in
     let b = runs_rise m t r q xs more in omega (arith, a, b)
 
 -- ---- an event that the pass makes
 -- what stays so, whatever the pass does
-pub record Keeping (s : KeptView) (p : PassView) (h : History) : Type 0 where
+pub record Keeping (s : InnerView) (p : PassView) (h : History) : Type 0 where
   pub stands : Stands s.machine h
-  pub own : has_book p.number s.books ≡ true
+  pub own : has_counters p.number s.counters ≡ true
   pub seen : p.seen ≤ length (moment h).commits
   pub counted : p.events ≤ s.events
 
-pub keeping : (s : KeptView) (p : PassView) (h : History) → IsAlone s p h → Keeping s p h
+pub keeping : (s : InnerView) (p : PassView) (h : History) → IsAlone s p h → Keeping s p h
 keeping s p h a = record { stands = a.stands; own = a.own; seen = a.seen; counted = a.counted }
 
 not_equal : (a n : ℕ) → a < n → (a == n) ≡ false
 not_equal a n less = elim (eqb_tells a n) [ inl e ↦ absurd (let is = e.1 in omega (arith, is, less)) | inr e ↦ e.0 ]
 
-is_made : (s t : KeptView) (p q : PassView) (e : Event) (o : Outcome) → is_wrong s p.number e ≡ false → is_spent s p ≡ false → Does s p e o t q → IsMade s p e o t q
+is_made : (s t : InnerView) (p q : PassView) (e : Event) (o : Outcome) → is_wrong s p.number e ≡ false → is_spent s p ≡ false → Does s p e o t q → IsMade s p e o t q
 is_made s t p q e o own unspent d =
     subst (λ (b : Bool). MatchBool b (IsUnmade Spent s p o t q) (IsMade s p e o t q)) unspent
     (subst (λ (b : Bool). MatchBool b (IsUnmade WrongPass s p o t q) (MatchBool (is_spent s p) (IsUnmade Spent s p o t q) (IsMade s p e o t q))) own d)
 
-not_wrong : (s : KeptView) (pass : PassNo) (e : Event) → has_book pass s.books ≡ true → is_foreign s.machine pass e ≡ false → is_wrong s pass e ≡ false
-not_wrong s pass e book foreign = ap (λ (b : Bool). not b || is_foreign s.machine pass e) book ∙ foreign
+not_wrong : (s : InnerView) (pass : PassNo) (e : Event) → has_counters pass s.counters ≡ true → is_foreign s.machine pass e ≡ false → is_wrong s pass e ≡ false
+not_wrong s pass e counted foreign = ap (λ (b : Bool). not b || is_foreign s.machine pass e) counted ∙ foreign
 
-not_spent : (s : KeptView) (p : PassView) → s.events < greatest_number → p.events ≤ s.events → is_spent s p ≡ false
+not_spent : (s : InnerView) (p : PassView) → s.events < greatest_number → p.events ≤ s.events → is_spent s p ≡ false
 not_spent s p few own =
     ap (λ (b : Bool). b || (p.events == greatest_number)) (not_equal s.events greatest_number few)
     ∙ not_equal p.events greatest_number (omega (arith, few, own))
 
-same_book : (pass final : PassNo) (s t : KeptView) → final ≡ pass → length t.books ≡ length s.books → has_book pass s.books ≡ true → has_book final t.books ≡ true
-same_book pass final s t same long book =
-    ap (λ (n : PassNo). has_book n t.books) same ∙ ap (λ (n : ℕ). not (pass.0 == 0) && nat_le pass.0 n) long ∙ book
+same_counters : (pass final : PassNo) (s t : InnerView) → final ≡ pass → length t.counters ≡ length s.counters → has_counters pass s.counters ≡ true → has_counters final t.counters ≡ true
+same_counters pass final s t same long counted =
+    ap (λ (n : PassNo). has_counters n t.counters) same ∙ ap (λ (n : ℕ). not (pass.0 == 0) && nat_le pass.0 n) long ∙ counted
 
 -- the event happened, as one that may; and what stays so stays
-pub record Goes (s : KeptView) (p : PassView) (h : History) (e : Event) (o : Outcome) (t : KeptView) (q : PassView) : Type 0 where
+pub record Goes (s : InnerView) (p : PassView) (h : History) (e : Event) (o : Outcome) (t : InnerView) (q : PassView) : Type 0 where
   pub note : ℕ
   pub keeps : Keeping t q (happening e o note ∷ h)
   pub may : MayHappen s.machine.columns h e o note
@@ -86,9 +86,9 @@ pub record Goes (s : KeptView) (p : PassView) (h : History) (e : Event) (o : Out
   pub columns : t.machine.columns ≡ s.machine.columns
   pub legal : Legal s.machine.columns (happening e o note ∷ h)
   pub happens : Makes s.machine e o t.machine
-  pub feed : t.machine.log.feed ≡ s.machine.log.feed
+  pub feed : t.machine.log.capacity ≡ s.machine.log.capacity
 
-pub goes : (s t : KeptView) (p q : PassView) (h : History) (e : Event) (o : Outcome) → Keeping s p h → t.events < greatest_number → is_foreign s.machine p.number e ≡ false → Does s p e o t q → Goes s p h e o t q
+pub goes : (s t : InnerView) (p q : PassView) (h : History) (e : Event) (o : Outcome) → Keeping s p h → t.events < greatest_number → is_foreign s.machine p.number e ≡ false → Does s p e o t q → Goes s p h e o t q
 goes s t p q h e o k few foreign d =
     let rises = does_rises s t p q e o d in
     let made = is_made s t p q e o (not_wrong s p.number e k.own foreign) (not_spent s p (omega (arith, rises, few)) k.counted) d in
@@ -102,7 +102,7 @@ goes s t p q h e o k few foreign d =
       note = note;
       keeps = record {
         stands = stood;
-        own = same_book p.number q.number s t made.counts.number (ap length made.books ∙ length-set s.books (p.number.0 - 1) _) k.own;
+        own = same_counters p.number q.number s t made.counts.number (ap length made.counters ∙ length-set s.counters (p.number.0 - 1) _) k.own;
         seen = subst (λ (n : ℕ). n ≤ length (moment (happening e o note ∷ h)).commits) (sym made.counts.seen) most;
         counted = (let a = made.counts.events in let b = made.events in let c = k.counted in omega (arith, a, b, c));
       };
@@ -115,10 +115,10 @@ goes s t p q h e o k few foreign d =
     }
 
 -- ---- from store to store
-pub leads_one : (s t : KeptView) (h : History) (e : Event) (o : Outcome) (note : ℕ) → Makes s.machine e o t.machine → Leads (store_of s h) (e ∷ []) (o ∷ []) (store_of t (happening e o note ∷ h))
+pub leads_one : (s t : InnerView) (h : History) (e : Event) (o : Outcome) (note : ℕ) → Makes s.machine e o t.machine → Leads (store_of s h) (e ∷ []) (o ∷ []) (store_of t (happening e o note ∷ h))
 leads_one s t h e o note happens = ((t.machine, happens, refl), (note, refl))
 
-pub leads_more : (s : Store) (m t : KeptView) (h : History) (events : List Event) (outcomes : List Outcome) (e : Event) (o : Outcome) (note : ℕ) → Leads s events outcomes (store_of m h) → Makes m.machine e o t.machine
+pub leads_more : (s : Store) (m t : InnerView) (h : History) (events : List Event) (outcomes : List Outcome) (e : Event) (o : Outcome) (note : ℕ) → Leads s events outcomes (store_of m h) → Makes m.machine e o t.machine
     → Leads s (events ++ e ∷ []) (outcomes ++ o ∷ []) (store_of t (happening e o note ∷ h))
 leads_more s m t h events outcomes e o note (all, on) happens =
     (all-more s.machine m.machine t.machine events outcomes e o all happens, GoesOn-append s.past h events outcomes e o note on)
@@ -128,7 +128,7 @@ all_push P [] x all p = All-cons P x [] p (All-nil P)
 all_push P (y ∷ xs) x all p = All-cons P y (xs ++ x ∷ []) (All-head P y xs all) (all_push P xs x (All-tail P y xs all) p)
 
 -- a step more of a call
-pub comes_more : (s : Store) (pass : PassNo) (request : Request) (call : CallNo) (m t : KeptView) (h : History) (o : Outcome) (note : ℕ) → ComesTo s pass request call (store_of m h) → Continues o → Makes m.machine (Step call) o t.machine
+pub comes_more : (s : Store) (pass : PassNo) (request : Request) (call : CallNo) (m t : InnerView) (h : History) (o : Outcome) (note : ℕ) → ComesTo s pass request call (store_of m h) → Continues o → Makes m.machine (Step call) o t.machine
     → ComesTo s pass request call (store_of t (happening (Step call) o note ∷ h))
 comes_more s pass request call m t h o note comes on happens = record {
   steps = comes.steps ++ o ∷ [];

@@ -28,7 +28,7 @@ use Rattle.mt_shared.specs.declared.trace.Entry.{Entry}
 use Rattle.mt_shared.specs.Traces.{entry}
 use Rattle.mt_shared.specs.Passes.{PassView}
 use Rattle.mt_shared.specs.Drives.{Runs, Continues, IsStep, whole}
-use Rattle.mt_shared.specs.Kept.{KeptView, Does, is_foreign, is_other}
+use Rattle.mt_shared.specs.Inner.{InnerView, Does, is_foreign, is_other}
 use Rattle.mt_serve.specs.Store.{Store, ComesTo, MayLack}
 use Rattle.mt_serve.specs.Plain.{IsAlone, store_of}
 use Rattle.mt_serve.proofs.StageLemmas.{IsWriting}
@@ -216,33 +216,33 @@ module _ (request : Request) (pass : PassNo) (call : CallNo) (before past : Hist
 
 -- ---- from its begin through its steps
 -- the call is under way at what was reached
-pub record Reached (s : Store) (request : Request) (pass : PassNo) (call : CallNo) (m : KeptView) (r : PassView) : Type 0 where
+pub record Reached (s : Store) (request : Request) (pass : PassNo) (call : CallNo) (m : InnerView) (r : PassView) : Type 0 where
   pub past : History
   pub keeps : Keeping m r past
   pub way : IsUnderWay request pass call s.past past
   pub number : r.number ≡ pass
   pub columns : m.machine.columns ≡ s.machine.columns
   pub comes : ComesTo s pass request call (store_of m past)
-  pub feed : m.machine.log.feed ≡ s.machine.log.feed
+  pub feed : m.machine.log.capacity ≡ s.machine.log.capacity
   pub says : CallSays s pass request call m.machine
 
 -- and then the last step is made
-pub record LastOf (s : Store) (request : Request) (pass : PassNo) (call : CallNo) (last : Entry) (t : KeptView) (q : PassView) : Type 0 where
-  pub m : KeptView
+pub record LastOf (s : Store) (request : Request) (pass : PassNo) (call : CallNo) (last : Entry) (t : InnerView) (q : PassView) : Type 0 where
+  pub m : InnerView
   pub r : PassView
   pub at : Reached s request pass call m r
   pub does : Does m r last.event last.outcome t q
 
-pub only_call : (s : Store) (request : Request) (pass : PassNo) (call : CallNo) (m : KeptView) (r : PassView) (at : Reached s request pass call m r) → Only s pass request call m.machine at.past at.way.one
+pub only_call : (s : Store) (request : Request) (pass : PassNo) (call : CallNo) (m : InnerView) (r : PassView) (at : Reached s request pass call m r) → Only s pass request call m.machine at.past at.way.one
 only_call s request pass call m r at = only_one s pass request call m.machine at.past at.way.one at.keeps.stands at.way.calls at.way.number
 
-steps_on : (s : Store) (request : Request) (pass : PassNo) (call : CallNo) (last : Entry) (t : KeptView) (q : PassView) → t.events < greatest_number
-    → (steps : List Entry) (m : KeptView) (r : PassView) → All (IsStep pass call) steps → Reached s request pass call m r → Runs Does m r (steps ++ last ∷ []) t q → LastOf s request pass call last t q
+steps_on : (s : Store) (request : Request) (pass : PassNo) (call : CallNo) (last : Entry) (t : InnerView) (q : PassView) → t.events < greatest_number
+    → (steps : List Entry) (m : InnerView) (r : PassView) → All (IsStep pass call) steps → Reached s request pass call m r → Runs Does m r (steps ++ last ∷ []) t q → LastOf s request pass call last t q
 steps_on s request pass call last t q few [] m r all at (n, w, does, (is, same)) = record {
   m = m;
   r = r;
   at = at;
-  does = subst (λ (k : KeptView). Does m r last.event last.outcome k q) (sym is) (subst (λ (v : PassView). Does m r last.event last.outcome n v) (sym same) does);
+  does = subst (λ (k : InnerView). Does m r last.event last.outcome k q) (sym is) (subst (λ (v : PassView). Does m r last.event last.outcome n v) (sym same) does);
 }
 steps_on s request pass call last t q few (x ∷ steps) m r all at (n, w, does, more) =
     let step = All-head (IsStep pass call) x steps all in
@@ -266,12 +266,12 @@ pub own_begin : (m : MachineView) (pass : PassNo) (request : Request) → is_for
 own_begin m pass request = ap not (eq-eqb pass.0 pass.0 refl)
 
 -- what its begin says of the limits
-pub record IsWhole (s : Store) (request : Request) (pass : PassNo) (call : CallNo) (last : Entry) (t : KeptView) (q : PassView) : Type 0 where
+pub record IsWhole (s : Store) (request : Request) (pass : PassNo) (call : CallNo) (last : Entry) (t : InnerView) (q : PassView) : Type 0 where
   pub ends : LastOf s request pass call last t q
   pub note : ℕ
   pub may : MayHappen s.machine.columns s.past (Begin pass request) (Called call) note
 
-pub whole_run : (s t : KeptView) (p q : PassView) (h : History) (request : Request) (call : CallNo) (steps : List Entry) (last : Outcome) → IsAlone s p h → t.events < greatest_number
+pub whole_run : (s t : InnerView) (p q : PassView) (h : History) (request : Request) (call : CallNo) (steps : List Entry) (last : Outcome) → IsAlone s p h → t.events < greatest_number
     → All (IsStep p.number call) steps → Runs Does s p (whole p.number request call steps last) t q → IsWhole (store_of s h) request p.number call (entry p.number (Step call) last) t q
 whole_run s t p q h request call steps last a few all (m, r, does, more) =
     let rises = runs_rise m t r q (steps ++ entry p.number (Step call) last ∷ []) more in

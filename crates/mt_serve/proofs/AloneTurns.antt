@@ -19,7 +19,7 @@ use Rattle.mt_shared.specs.declared.trace.Entry.{Entry}
 use Rattle.mt_shared.specs.Passes.{PassView}
 use Rattle.mt_shared.specs.Drives.{Runs}
 use Rattle.mt_shared.specs.Turns.{furthest, turn, IsTurn, HasTurned}
-use Rattle.mt_shared.specs.Kept.{KeptView, Does}
+use Rattle.mt_shared.specs.Inner.{InnerView, Does}
 use Rattle.mt_serve.specs.Asking.{KeepsViews}
 use Rattle.mt_serve.specs.Plain.{IsAlone, TakenOn, KeptUp, store_of}
 use Rattle.mt_index.specs.Events.{Makes}
@@ -203,7 +203,7 @@ refused_memory m refusal may = by_view (furthest_of None m.views) may
 
 -- ---- turns
 -- since the store s, this many turns have been made, and each has advanced a view
-record HasKept (s : Store) (pass : PassNo) (made : ℕ) (m : KeptView) (r : PassView) : Type 0 where
+record HasKept (s : Store) (pass : PassNo) (made : ℕ) (m : InnerView) (r : PassView) : Type 0 where
   past : History
   keeps : Keeping m r past
   number : r.number ≡ pass
@@ -216,13 +216,13 @@ record HasKept (s : Store) (pass : PassNo) (made : ℕ) (m : KeptView) (r : Pass
   ended : (moment past).calls ≡ []
 
 -- one more turn
-leads_turn : (s : Store) (m n : KeptView) (past : History) (turns : List Outcome) (o : Outcome) (note : ℕ) → Leads s (map (λ (x : Outcome). furthest) turns) turns (store_of m past)
+leads_turn : (s : Store) (m n : InnerView) (past : History) (turns : List Outcome) (o : Outcome) (note : ℕ) → Leads s (map (λ (x : Outcome). furthest) turns) turns (store_of m past)
     → Makes m.machine furthest o n.machine → Leads s (map (λ (x : Outcome). furthest) (turns ++ o ∷ [])) (turns ++ o ∷ []) (store_of n (happening furthest o note ∷ past))
 leads_turn s m n past turns o note leads happens =
     subst (λ (events : List Event). Leads s events (turns ++ o ∷ []) (store_of n (happening furthest o note ∷ past)))
     (sym (map-append (λ (x : Outcome). furthest) turns (o ∷ []))) (leads_more s m n past (map (λ (x : Outcome). furthest) turns) turns furthest o note leads happens)
 
-turned_one : (s : Store) (pass : PassNo) (made : ℕ) (m n t : KeptView) (r w : PassView) (number : ℕ) → t.events < greatest_number → n.events ≤ t.events
+turned_one : (s : Store) (pass : PassNo) (made : ℕ) (m n t : InnerView) (r w : PassView) (number : ℕ) → t.events < greatest_number → n.events ≤ t.events
     → HasKept s pass made m r → Does m r furthest (Applied number) n w → HasKept s pass (made + 1) n w
 turned_one s pass made m n t r w number few rises k does =
     let went = goes m n r w k.past furthest (Applied number) k.keeps (omega (arith, few, rises)) refl does in
@@ -243,14 +243,14 @@ turned_one s pass made m n t r w number few rises k does =
     }
 
 -- and then come these last events
-record KeptThen (s : Store) (pass : PassNo) (made : ℕ) (last : List Entry) (t : KeptView) (q : PassView) : Type 0 where
-  m : KeptView
+record KeptThen (s : Store) (pass : PassNo) (made : ℕ) (last : List Entry) (t : InnerView) (q : PassView) : Type 0 where
+  m : InnerView
   r : PassView
   kept : HasKept s pass made m r
   runs : Runs Does m r last t q
 
-turns_on : (s : Store) (pass : PassNo) (last : List Entry) (t : KeptView) (q : PassView) → t.events < greatest_number
-    → (turns : List Entry) (made total : ℕ) (m : KeptView) (r : PassView) → made + length turns ≡ total → All (IsTurn pass) turns → HasKept s pass made m r → Runs Does m r (turns ++ last) t q → KeptThen s pass total last t q
+turns_on : (s : Store) (pass : PassNo) (last : List Entry) (t : InnerView) (q : PassView) → t.events < greatest_number
+    → (turns : List Entry) (made total : ℕ) (m : InnerView) (r : PassView) → made + length turns ≡ total → All (IsTurn pass) turns → HasKept s pass made m r → Runs Does m r (turns ++ last) t q → KeptThen s pass total last t q
 turns_on s pass last t q few [] made total m r many all k runs = record {
   m = m;
   r = r;
@@ -264,14 +264,14 @@ turns_on s pass last t q few (x ∷ turns) made total m r many all k (n, w, does
     turns_on s pass last t q few turns (made + 1) total n w (let step : made + length (x ∷ turns) ≡ total = many in omega (arith, step)) (All-tail (IsTurn pass) x turns all)
     (turned_one s pass made m n t r w number few rises k one) more
 
-has_turned : (s t : KeptView) (p q : PassView) (h : History) (applied : ℕ) (last : List Entry) → IsAlone s p h → t.events < greatest_number → HasTurned Does s p applied last t q → KeptThen (store_of s h) p.number applied last t q
+has_turned : (s t : InnerView) (p q : PassView) (h : History) (applied : ℕ) (last : List Entry) → IsAlone s p h → t.events < greatest_number → HasTurned Does s p applied last t q → KeptThen (store_of s h) p.number applied last t q
 has_turned s t p q h applied last a few turned =
     turns_on (store_of s h) p.number last t q few turned.turns 0 applied s p (let many = turned.count in omega (arith, many)) turned.are_turns
     (record { past = h; keeps = keeping s p h a; number = refl; columns = refl; turns = []; leads = (refl, refl); commits = refl; views = taken_none (moment h).views; falls = omega arith; ended = a.ended })
     turned.runs
 
 -- what came of keeping views up
-pub record IsKeptUp (s : Store) (t : KeptView) (q : PassView) : Type 0 where
+pub record IsKeptUp (s : Store) (t : InnerView) (q : PassView) : Type 0 where
   pub final : History
   pub alone : IsAlone t q final
   pub columns : t.machine.columns ≡ s.machine.columns
@@ -280,7 +280,7 @@ pub record IsKeptUp (s : Store) (t : KeptView) (q : PassView) : Type 0 where
 few_still : (a b : List StandingView) → TakenOn a b → length a ≤ MAX_VIEWS → length b ≤ MAX_VIEWS
 few_still a b on few = subst (λ (n : ℕ). n ≤ MAX_VIEWS) (sym (taken_length a b on)) few
 
-alone_again : (t : KeptView) (q : PassView) (h final : History) → Keeping t q final → (moment final).calls ≡ [] → TakenOn (moment h).views (moment final).views → length (moment h).views ≤ MAX_VIEWS → IsAlone t q final
+alone_again : (t : InnerView) (q : PassView) (h final : History) → Keeping t q final → (moment final).calls ≡ [] → TakenOn (moment h).views (moment final).views → length (moment h).views ≤ MAX_VIEWS → IsAlone t q final
 alone_again t q h final k ended on few = record {
   stands = k.stands;
   ended = ended;
@@ -291,9 +291,9 @@ alone_again t q h final k ended on few = record {
 }
 
 -- 64 turns were made and each advanced a view: all views together were at most 64 commits behind
-all_turned : (s t : KeptView) (p q : PassView) (h : History) → IsAlone s p h → t.events < greatest_number → KeptThen (store_of s h) p.number 64 [] t q → IsKeptUp (store_of s h) t q
+all_turned : (s t : InnerView) (p q : PassView) (h : History) → IsAlone s p h → t.events < greatest_number → KeptThen (store_of s h) p.number 64 [] t q → IsKeptUp (store_of s h) t q
 all_turned s t p q h a few k =
-    let kept : HasKept (store_of s h) p.number 64 t q = subst (λ (n : KeptView). HasKept (store_of s h) p.number 64 n q) (sym k.runs.0) (subst (λ (w : PassView). HasKept (store_of s h) p.number 64 k.m w) (sym k.runs.1) k.kept) in
+    let kept : HasKept (store_of s h) p.number 64 t q = subst (λ (n : InnerView). HasKept (store_of s h) p.number 64 n q) (sym k.runs.0) (subst (λ (w : PassView). HasKept (store_of s h) p.number 64 k.m w) (sym k.runs.1) k.kept) in
     record {
       final = kept.past;
       alone = alone_again t q h kept.past kept.keeps kept.ended kept.views a.few_views;
@@ -313,10 +313,10 @@ all_turned s t p q h a few k =
     }
 
 -- the last turn found all of them at the newest commit
-found_current : (s t : KeptView) (p q : PassView) (h : History) (applied : ℕ) → IsAlone s p h → t.events < greatest_number → KeptThen (store_of s h) p.number applied (turn p.number Current ∷ []) t q → IsKeptUp (store_of s h) t q
+found_current : (s t : InnerView) (p q : PassView) (h : History) (applied : ℕ) → IsAlone s p h → t.events < greatest_number → KeptThen (store_of s h) p.number applied (turn p.number Current ∷ []) t q → IsKeptUp (store_of s h) t q
 found_current s t p q h applied a few k =
     let (n, w, does, (is, same)) = k.runs in
-    let one : Does k.m k.r furthest Current t q = subst (λ (x : KeptView). Does k.m k.r furthest Current x q) (sym is) (subst (λ (y : PassView). Does k.m k.r furthest Current n y) (sym same) does) in
+    let one : Does k.m k.r furthest Current t q = subst (λ (x : InnerView). Does k.m k.r furthest Current x q) (sym is) (subst (λ (y : PassView). Does k.m k.r furthest Current n y) (sym same) does) in
     let went = goes k.m t k.r q k.kept.past furthest Current k.kept.keeps few refl one in
     record {
       final = happening furthest Current went.note ∷ k.kept.past;
@@ -332,11 +332,11 @@ found_current s t p q h applied a few k =
     }
 
 -- a turn was refused
-was_stopped : (s t : KeptView) (p q : PassView) (h : History) (applied : ℕ) (refusal : Refusal) → IsAlone s p h → t.events < greatest_number → KeptThen (store_of s h) p.number applied (turn p.number (Refused refusal) ∷ []) t q
+was_stopped : (s t : InnerView) (p q : PassView) (h : History) (applied : ℕ) (refusal : Refusal) → IsAlone s p h → t.events < greatest_number → KeptThen (store_of s h) p.number applied (turn p.number (Refused refusal) ∷ []) t q
     → IsKeptUp (store_of s h) t q
 was_stopped s t p q h applied refusal a few k =
     let (n, w, does, (is, same)) = k.runs in
-    let one : Does k.m k.r furthest (Refused refusal) t q = subst (λ (x : KeptView). Does k.m k.r furthest (Refused refusal) x q) (sym is) (subst (λ (y : PassView). Does k.m k.r furthest (Refused refusal) n y) (sym same) does) in
+    let one : Does k.m k.r furthest (Refused refusal) t q = subst (λ (x : InnerView). Does k.m k.r furthest (Refused refusal) x q) (sym is) (subst (λ (y : PassView). Does k.m k.r furthest (Refused refusal) n y) (sym same) does) in
     let went = goes k.m t k.r q k.kept.past furthest (Refused refusal) k.kept.keeps few refl one in
     record {
       final = happening furthest (Refused refusal) went.note ∷ k.kept.past;
@@ -351,7 +351,7 @@ was_stopped s t p q h applied refusal a few k =
       };
     }
 
-pub keeps_up : (s t : KeptView) (p q : PassView) (h : History) → IsAlone s p h → t.events < greatest_number → KeepsViews Does s p t q → IsKeptUp (store_of s h) t q
+pub keeps_up : (s t : InnerView) (p q : PassView) (h : History) → IsAlone s p h → t.events < greatest_number → KeepsViews Does s p t q → IsKeptUp (store_of s h) t q
 keeps_up s t p q h a few (inl (applied, kept)) = elim kept.is_last [
   | inl spent ↦ all_turned s t p q h a few
       (subst (λ (n : ℕ). KeptThen (store_of s h) p.number n [] t q) spent.0 (subst (λ (l : List Entry). KeptThen (store_of s h) p.number applied l t q) spent.1 (has_turned s t p q h applied kept.last a few kept.turned)))

@@ -52,7 +52,7 @@ least_of n views all = from n views (omega arith) all
         let head = All-head (λ (w : StandingView). n ≤ w.at + 0) v views all in
         from (min best v.at) views (le-min most (omega (arith, head))) (All-tail (λ (w : StandingView). n ≤ w.at + 0) v views all)
 
-not_full : (s : Store) (slowest : ℕ) → 0 < s.machine.log.feed → NoneBehind 0 s → IsFull s slowest → ⊥
+not_full : (s : Store) (slowest : ℕ) → 0 < s.machine.log.capacity → NoneBehind 0 s → IsFull s slowest → ⊥
 not_full s slowest feed close (is, full) =
     let most = least_of (newest s) (now s).views close in
     let same : slowest ≡ slowest_view s = is in
@@ -94,7 +94,7 @@ module _ (C : ℕ) (s : Store) (reply : Reply) (made : List Change) (from : repl
   reply_is _ _ plain next = absurd plain
 
 -- if the store is short of nothing, a call that has begun is refused only if the refusal is the answer to its request
-given_up : (C : ℕ) (s : Store) (pass : PassNo) (request : Request) (number : CallNo) (refusal : Refusal) → 0 < s.machine.log.feed → NoneBehind 0 s → IsAmple (Refused refusal) → MayLack s pass request number refusal
+given_up : (C : ℕ) (s : Store) (pass : PassNo) (request : Request) (number : CallNo) (refusal : Refusal) → 0 < s.machine.log.capacity → NoneBehind 0 s → IsAmple (Refused refusal) → MayLack s pass request number refusal
     → IsPlainRefusal (rows C (now s)) request refusal → IsReply C (now s) request (Refused refusal)
 given_up C s pass request number NoMemory feed close ample lack plain = absurd ample
 given_up C s pass (Put key sets) number ArenaFull feed close ample lack plain = absurd ample
@@ -149,7 +149,7 @@ turned C m _ refusal why ample = fault_turned _ refusal why ample
 abbrev IsCallAnswer : ℕ → Moment → Request → Response → Option Refusal → Type 0
 IsCallAnswer C m request response limit = MatchOption limit (IsReply C m request response) (λ due. response ≡ Refused due)
 
-runs_is : (s t : Store) (request : Request) (result : Result Reply Refusal) → 0 < s.machine.log.feed → NoneBehind 0 s → CallRuns s request result t → IsAmple (call_response result) → IsAnswer s.machine.columns (now s) (Call request) (call_response result)
+runs_is : (s t : Store) (request : Request) (result : Result Reply Refusal) → 0 < s.machine.log.capacity → NoneBehind 0 s → CallRuns s request result t → IsAmple (call_response result) → IsAnswer s.machine.columns (now s) (Call request) (call_response result)
 runs_is s t request (Ok reply) feed close done ample =
     subst (IsCallAnswer s.machine.columns (now s) request (Done reply.from reply.to (end_of reply.answer))) (sym (unbroken s.machine.columns (now s) request done.within))
     (reply_is s.machine.columns s reply done.plain.made done.plain.from (done.plain.to ∙ (ap length done.plain.commits ∙ length-append (now s).commits done.plain.made)) request reply.answer done.plain.plain done.next)
@@ -181,7 +181,7 @@ read_is s t request (Ok reply) (same, read, none, plain) ample =
 read_is s t request (Err refusal) (same, read, why) ample =
     subst (IsCallAnswer s.machine.columns (now s) request (Refused refusal)) (sym (read_limit s.machine.columns (now s) request read ∙ fault_turned _ refusal why ample)) refl
 
-call_is : (s t : Store) (request : Request) (result : Result Reply Refusal) → 0 < s.machine.log.feed → NoneBehind 0 s → CallEnds s request result t → IsAmple (call_response result) → IsAnswer s.machine.columns (now s) (Call request) (call_response result)
+call_is : (s t : Store) (request : Request) (result : Result Reply Refusal) → 0 < s.machine.log.capacity → NoneBehind 0 s → CallEnds s request result t → IsAmple (call_response result) → IsAnswer s.machine.columns (now s) (Call request) (call_response result)
 call_is s t request result feed close (inl runs) ample = runs_is s t request result feed close runs ample
 call_is s t request result feed close (inr (inl read)) ample = read_is s t request result read ample
 call_is s t request result feed close (inr (inr (within, short, same))) ample = absurd (subst (λ (r : Result Reply Refusal). IsAmple (call_response r)) short ample)
@@ -217,7 +217,7 @@ drop_is None (Err refusal) may = let is : outcomes.Refused refusal ≡ outcomes.
 drop_is (Some v) (Ok done) may = refl
 drop_is (Some v) (Err refusal) may = let clash : outcomes.Refused refusal ≡ outcomes.Dropped = may in cc
 
-asks_are : (s t : Store) (query : Query) (response : Response) → 0 < s.machine.log.feed → NoneBehind 0 s → PlainlyAsks s query response t → IsAmple response → IsAnswer s.machine.columns (now s) query response
+asks_are : (s t : Store) (query : Query) (response : Response) → 0 < s.machine.log.capacity → NoneBehind 0 s → PlainlyAsks s query response t → IsAmple response → IsAnswer s.machine.columns (now s) query response
 asks_are s t (Call request) response feed close (result, ends, is) ample =
     subst (IsAnswer s.machine.columns (now s) (Call request)) (sym is) (call_is s t request result feed close ends (subst IsAmple is ample))
 asks_are s t (ViewRead view floor start limit) response feed close (result, inl (leads, (note, may)), is) ample =

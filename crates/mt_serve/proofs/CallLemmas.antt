@@ -51,7 +51,7 @@ use Rattle.mt_serve.proofs.StageLemmas.{WorkSays, Explains, IsWriting, work_move
 -- ---- why a call that began at a store may fail
 abbrev pub Cause : Store → PassNo → Request → CallNo → Refusal → Type 0
 Cause s pass request number ArenaFull = Meets s pass request number HasFewNodes
-Cause s pass request number (FeedFull slowest) = s.machine.log.feed ≤ newest s - slowest
+Cause s pass request number (FeedFull slowest) = s.machine.log.capacity ≤ newest s - slowest
 Cause s pass request number Spent = MeetsSpent s pass request number
 Cause s pass request number _ = Unit {0}
 
@@ -88,7 +88,7 @@ module _ (s : Store) (pass : PassNo) (request : Request) (number : CallNo) where
     pub comes : ComesTo s pass request number m
     pub commits : newest_of m.machine.log ≡ newest s
     pub reserved : m.machine.log.reserved ≡ 0
-    pub feed : m.machine.log.feed ≡ s.machine.log.feed
+    pub feed : m.machine.log.capacity ≡ s.machine.log.capacity
 
   module _ (m : Store) (came : Came m) where
     log : LogView
@@ -100,14 +100,14 @@ module _ (s : Store) (pass : PassNo) (request : Request) (number : CallNo) where
         let commits = came.commits in
         let reserved = came.reserved in
         let feed = came.feed in
-        elim (of_two (nat_le greatest_number (newest_of log + log.reserved)) Spent refusal (refused_if (nat_lt log.feed (newest_of log - slowest log + log.reserved + 1)) (FeedFull (slowest log))) e) [
+        elim (of_two (nat_le greatest_number (newest_of log + log.reserved)) Spent refusal (refused_if (nat_lt log.capacity (newest_of log - slowest log + log.reserved + 1)) (FeedFull (slowest log))) e) [
           | inl spent ↦ elim (leb_tells greatest_number (newest_of log + log.reserved)) [
             | inl t ↦ (let most = t.1 in subst Says (sym spent.1) (inl (omega (arith, most, commits, reserved))))
             | inr f ↦ (let clash : ◌≡◌ {A = Bool} true false = sym spent.0 ∙ f.0 in cc)
           ]
           | inr rest ↦
-              let full = of_one (nat_lt log.feed (newest_of log - slowest log + log.reserved + 1)) (FeedFull (slowest log)) refusal rest in
-              elim (less_tells log.feed (newest_of log - slowest log + log.reserved + 1)) [
+              let full = of_one (nat_lt log.capacity (newest_of log - slowest log + log.reserved + 1)) (FeedFull (slowest log)) refusal rest in
+              elim (less_tells log.capacity (newest_of log - slowest log + log.reserved + 1)) [
                 | inl t ↦ (let less = t.1 in subst Says (sym full.1) (omega (arith, less, commits, reserved, feed)))
                 | inr f ↦ (let clash : ◌≡◌ {A = Bool} true false = sym full.0 ∙ f.0 in cc)
               ]
@@ -203,7 +203,7 @@ module _ (s : Store) (pass : PassNo) (request : Request) (number : CallNo) where
   CallSays m = (c : Call) → call_at number.0 m.calls.calls ≡ Some c → WorkSays Says c.work
 
   -- it is so of each fault for which it may fail at a store to which it has come
-  explains : (m : Store) (one : OpenCall) (o : Only m.machine m.past one) → ComesTo s pass request number m → (one.committed ≡ None → newest_of m.machine.log ≡ newest s) → m.machine.log.feed ≡ s.machine.log.feed
+  explains : (m : Store) (one : OpenCall) (o : Only m.machine m.past one) → ComesTo s pass request number m → (one.committed ≡ None → newest_of m.machine.log ≡ newest s) → m.machine.log.capacity ≡ s.machine.log.capacity
       → (write : WriteView) → o.kept.work ≡ Write write → Explains Says m.machine.tree m.machine.log write
   explains m one o comes quiet feed write is = record {
     memory = tt;
@@ -220,7 +220,7 @@ module _ (s : Store) (pass : PassNo) (request : Request) (number : CallNo) where
       }
 
   -- a step leaves it so
-  pub says_on : (m : Store) (n : MachineView) (one : OpenCall) (o : Only m.machine m.past one) → ComesTo s pass request number m → (one.committed ≡ None → newest_of m.machine.log ≡ newest s) → m.machine.log.feed ≡ s.machine.log.feed
+  pub says_on : (m : Store) (n : MachineView) (one : OpenCall) (o : Only m.machine m.past one) → ComesTo s pass request number m → (one.committed ≡ None → newest_of m.machine.log ≡ newest s) → m.machine.log.capacity ≡ s.machine.log.capacity
       → (outcome : Outcome) → Continues outcome → Happens m.machine (Step number) outcome n → CallSays m.machine → CallSays n
   says_on m n one o comes quiet feed Moved on h says = λ c at.
       work_moved Says m.machine.tree m.machine.log o.kept.work c.work (explains m one o comes quiet feed)

@@ -19,7 +19,7 @@ use Rattle.mt_shared.specs.Tidies.{Frees, Looks, Purges, Tidies, TidiesAll, Tidi
 use Rattle.mt_walk.specs.declared.place.TheConstants.{MAX_TIDIES}
 use Rattle.mt_index.specs.Viewing.{page_outcome}
 use Rattle.mt_shared.specs.Turns.{drop_outcome, turn}
-use Rattle.mt_shared.specs.Kept.{KeptView, Does}
+use Rattle.mt_shared.specs.Inner.{InnerView, Does}
 use Rattle.mt_wire.specs.declared.query.Query.{Query}
 use Rattle.mt_wire.specs.declared.query.Query.TheVariants.{Call, ViewRead, ViewDrop}
 use Rattle.mt_wire.specs.declared.response.Response.{Response}
@@ -37,82 +37,82 @@ use Rattle.mt_serve.proofs.AloneTurns.{keeps_up}
 use Rattle.mt_serve.proofs.NewestLemmas.{advanced_calls, advanced_views}
 
 -- ---- events are counted
-drive_rises : (s t : KeptView) (p q : PassView) (request : Request) (result : Result Reply Refusal) → IsDrive Does s p request result t q → s.events ≤ t.events
+drive_rises : (s t : InnerView) (p q : PassView) (request : Request) (result : Result Reply Refusal) → IsDrive Does s p request result t q → s.events ≤ t.events
 drive_rises s t p q request (Ok reply) d = runs_rise s t p q (whole p.number request reply.call d.driven.steps (Done reply)) d.driven.runs
 drive_rises s t p q request (Err refusal) d = elim d.refused [
   | inl turned ↦ does_rises s t p q (Begin p.number request) (Refused refusal) turned
   | inr cut ↦ runs_rise s t p q (whole p.number request cut.call cut.steps cut.last) cut.runs
 ]
 
-same_rise : (s t : KeptView) → t ≡ s → s.events ≤ t.events
-same_rise s t is = let equal = ap (λ (k : KeptView). k.events) is in omega (arith, equal)
+same_rise : (s t : InnerView) → t ≡ s → s.events ≤ t.events
+same_rise s t is = let equal = ap (λ (k : InnerView). k.events) is in omega (arith, equal)
 
-asks_rise : (s t : KeptView) (p q : PassView) (query : Query) (response : Response) → Asks Does ReadsNow PagesNow s p query response t q → s.events ≤ t.events
+asks_rise : (s t : InnerView) (p q : PassView) (query : Query) (response : Response) → Asks Does ReadsNow PagesNow s p query response t q → s.events ≤ t.events
 asks_rise s t p q (Call request) response (result, inl (inl (must, drive)), is) = drive_rises s t p q request result drive
 asks_rise s t p q (Call request) response (result, inr (within, short, same, pass), is) = same_rise s t same
 asks_rise s t p q (Call request) response (result, inl (inr read), is) =
-    let equal = ap (λ (k : KeptView). k.events) (read_same s t p q request result read) in omega (arith, equal)
+    let equal = ap (λ (k : InnerView). k.events) (read_same s t p q request result read) in omega (arith, equal)
 asks_rise s t p q (ViewRead view floor start limit) response (result, inl (shown, same, pass), is) = same_rise s t same
 asks_rise s t p q (ViewRead view floor start limit) response (result, inr (must, does, told), is) = does_rises s t p q (ReadOf view floor start limit) (page_outcome result) does
 asks_rise s t p q (ViewDrop view) response (result, does, is) = does_rises s t p q (DropOf view) (drop_outcome result) does
 
-keeps_rise : (s t : KeptView) (p q : PassView) → KeepsViews Does s p t q → s.events ≤ t.events
+keeps_rise : (s t : InnerView) (p q : PassView) → KeepsViews Does s p t q → s.events ≤ t.events
 keeps_rise s t p q (inl (applied, kept)) = runs_rise s t p q (kept.turned.turns ++ kept.last) kept.turned.runs
 keeps_rise s t p q (inr (refusal, stopped)) = runs_rise s t p q (stopped.turned.turns ++ turn p.number (Refused refusal) ∷ []) stopped.turned.runs
 
-once_rise : (s t : KeptView) (p q : PassView) (key : List ℕ) (took : Bool) → TidiesOnce Does s p key took t q → s.events ≤ t.events
+once_rise : (s t : InnerView) (p q : PassView) (key : List ℕ) (took : Bool) → TidiesOnce Does s p key took t q → s.events ≤ t.events
 once_rise s t p q key took (inl (result, drive, is)) = drive_rises s t p q (Tidy key) result drive
 once_rise s t p q key took (inr (none, is, same)) = same_rise s t is
 
-tidies_rise : (s t : KeptView) (p q : PassView) (key : List ℕ) (tidies : ℕ) → Tidies Does Looks s p key tidies t q → s.events ≤ t.events
+tidies_rise : (s t : InnerView) (p q : PassView) (key : List ℕ) (tidies : ℕ) → Tidies Does Looks s p key tidies t q → s.events ≤ t.events
 tidies_rise s t p q key zero (is, same) = same_rise s t is
 tidies_rise s t p q key (suc tidies) (m, r, before, one, still) =
     let a = tidies_rise s m p r key tidies before in
     let b = once_rise m t r q key true one in omega (arith, a, b)
 
-tidies_all_rise : (s t : KeptView) (p q : PassView) (key : List ℕ) → TidiesAll Does Looks s p key t q → s.events ≤ t.events
+tidies_all_rise : (s t : InnerView) (p q : PassView) (key : List ℕ) → TidiesAll Does Looks s p key t q → s.events ≤ t.events
 tidies_all_rise s t p q key (inl all) = tidies_rise s t p q key MAX_TIDIES all
 tidies_all_rise s t p q key (inr (tidies, fewer, m, r, before, (took, one, last))) =
     let a = tidies_rise s m p r key tidies before in
     let b = once_rise m t r q key took one in omega (arith, a, b)
 
-frees_rise : (s t : KeptView) (p q : PassView) → Frees Does s p t q → s.events ≤ t.events
+frees_rise : (s t : InnerView) (p q : PassView) → Frees Does s p t q → s.events ≤ t.events
 frees_rise s t p q (m, r, next, freed, advances, collects) =
     let a = does_rises s m p r Advance next advances in
     let b = does_rises m t r q Collect freed collects in omega (arith, a, b)
 
-emptied_rise : (s t : KeptView) (p q : PassView) (key : List ℕ) (empty : Bool) → MatchBool empty (Purges Does Looks s p key t q) ((t ≡ s) × (q ≡ p)) → s.events ≤ t.events
+emptied_rise : (s t : InnerView) (p q : PassView) (key : List ℕ) (empty : Bool) → MatchBool empty (Purges Does Looks s p key t q) ((t ≡ s) × (q ≡ p)) → s.events ≤ t.events
 emptied_rise s t p q key true (m, r, all, frees) =
     let a = tidies_all_rise s m p r key all in
     let b = frees_rise m t r q frees in omega (arith, a, b)
 emptied_rise s t p q key false (is, same) = same_rise s t is
 
-purges_rise : (s t : KeptView) (p q : PassView) (query : Query) → PurgesFor Does Looks query s p t q → s.events ≤ t.events
+purges_rise : (s t : InnerView) (p q : PassView) (query : Query) → PurgesFor Does Looks query s p t q → s.events ≤ t.events
 purges_rise s t p q (Call (Remove key)) (inl (empty, looks, by)) = emptied_rise s t p q key empty by
 purges_rise s t p q (Call (Remove key)) (inr (none, is, same)) = same_rise s t is
 purges_rise s t p q _ same = same_rise s t same.0
 
-then_rise : (s t : KeptView) (p q : PassView) (query : Query) (b : Bool) → MatchBool b (Follows Does Looks query s p t q) ((t ≡ s) × (q ≡ p)) → s.events ≤ t.events
+then_rise : (s t : InnerView) (p q : PassView) (query : Query) (b : Bool) → MatchBool b (Follows Does Looks query s p t q) ((t ≡ s) × (q ≡ p)) → s.events ≤ t.events
 then_rise s t p q query true (m, r, kept, purges) =
     let a = keeps_rise s m p r kept in
     let b = purges_rise m t r q query purges in omega (arith, a, b)
 then_rise s t p q query false (is, same) = same_rise s t is
 
-answers_rise : (s t : KeptView) (p q : PassView) (query : Query) (response : Response) → Answers Does ReadsNow PagesNow Looks s p query response t q → s.events ≤ t.events
+answers_rise : (s t : InnerView) (p q : PassView) (query : Query) (response : Response) → Answers Does ReadsNow PagesNow Looks s p query response t q → s.events ≤ t.events
 answers_rise s t p q query response (m, r, asks, final) =
     let a = asks_rise s m p r query response asks in
     let b = then_rise m t r q query (changes response) final in omega (arith, a, b)
 
-all_rise : (s t : KeptView) (p q : PassView) (queries : List Query) (responses : List Response) → AnswersAll Does ReadsNow PagesNow Looks s p queries responses t q → s.events ≤ t.events
-all_rise s t p q [] [] (is, same) = let equal = ap (λ (k : KeptView). k.events) is in omega (arith, equal)
+all_rise : (s t : InnerView) (p q : PassView) (queries : List Query) (responses : List Response) → AnswersAll Does ReadsNow PagesNow Looks s p queries responses t q → s.events ≤ t.events
+all_rise s t p q [] [] (is, same) = let equal = ap (λ (k : InnerView). k.events) is in omega (arith, equal)
 all_rise s t p q (query ∷ queries) (response ∷ responses) (m, r, one, more) =
     let a = answers_rise s m p r query response one in
     let b = all_rise m t r q queries responses more in omega (arith, a, b)
 all_rise s t p q [] (response ∷ responses) never = absurd never
 all_rise s t p q (query ∷ queries) [] never = absurd never
 
-frames_rise : (s t : KeptView) (p q : PassView) (frames : List (Frame Query)) (replies : List (Frame Response)) → AnswersFrames Does ReadsNow PagesNow Looks s p frames replies t q → s.events ≤ t.events
-frames_rise s t p q [] [] (is, same) = let equal = ap (λ (k : KeptView). k.events) is in omega (arith, equal)
+frames_rise : (s t : InnerView) (p q : PassView) (frames : List (Frame Query)) (replies : List (Frame Response)) → AnswersFrames Does ReadsNow PagesNow Looks s p frames replies t q → s.events ≤ t.events
+frames_rise s t p q [] [] (is, same) = let equal = ap (λ (k : InnerView). k.events) is in omega (arith, equal)
 frames_rise s t p q (frame ∷ frames) (reply ∷ replies) (m, r, one, more) =
     let a = all_rise s m p r frame.messages reply.messages one.1 in
     let b = frames_rise m t r q frames replies more in omega (arith, a, b)
@@ -121,7 +121,7 @@ frames_rise s t p q (frame ∷ frames) [] never = absurd never
 
 -- ---- a query
 -- what came of what a query asked
-record IsAsked (s : Store) (query : Query) (response : Response) (t : KeptView) (q : PassView) : Type 0 where
+record IsAsked (s : Store) (query : Query) (response : Response) (t : InnerView) (q : PassView) : Type 0 where
   final : History
   alone : IsAlone t q final
   columns : t.machine.columns ≡ s.machine.columns
@@ -133,26 +133,26 @@ few_left number (v ∷ views) =
     let rest = few_left number views in
     elim (cases_Bool (v.number == number)) [ inl b ↦ rw b (omega (arith, rest)) | inr b ↦ rw b (omega (arith, rest)) ]
 
-asks_plainly : (s t : KeptView) (p q : PassView) (h : History) (query : Query) (response : Response) → IsAlone s p h → t.events < greatest_number → Asks Does ReadsNow PagesNow s p query response t q → IsAsked (store_of s h) query response t q
+asks_plainly : (s t : InnerView) (p q : PassView) (h : History) (query : Query) (response : Response) → IsAlone s p h → t.events < greatest_number → Asks Does ReadsNow PagesNow s p query response t q → IsAsked (store_of s h) query response t q
 asks_plainly s t p q h (Call request) response a few (result, inl (inl (must, drive)), is) =
     let (final, alone, columns, ends) = drive_ends s t p q h request result a few drive in
     record { final = final; alone = alone; columns = columns; plain = (result, inl ends, is) }
 asks_plainly s t p q h (Call request) response a few (result, inl (inr read), is) =
     let (alone, ends) = read_ends s t p q h request result a read in
-    record { final = h; alone = alone; columns = ap (λ (k : KeptView). k.machine.columns) (read_same s t p q request result read); plain = (result, inr (inl ends), is) }
+    record { final = h; alone = alone; columns = ap (λ (k : InnerView). k.machine.columns) (read_same s t p q request result read); plain = (result, inr (inl ends), is) }
 asks_plainly s t p q h (Call request) response a few (result, inr (within, short, same, pass), is) = record {
   final = h;
-  alone = subst (λ (k : KeptView). IsAlone k q h) (sym same) (subst (λ (v : PassView). IsAlone s v h) (sym pass) a);
-  columns = ap (λ (k : KeptView). k.machine.columns) same;
-  plain = (result, inr (inr (within, short, ap (λ (k : KeptView). store_of k h) same)), is);
+  alone = subst (λ (k : InnerView). IsAlone k q h) (sym same) (subst (λ (v : PassView). IsAlone s v h) (sym pass) a);
+  columns = ap (λ (k : InnerView). k.machine.columns) same;
+  plain = (result, inr (inr (within, short, ap (λ (k : InnerView). store_of k h) same)), is);
 }
 asks_plainly s t p q h (ViewRead view floor start limit) response a few (result, inl (shown, same, pass), is) =
     let (note, then) = shown.page.stands h a.stands in
     record {
       final = h;
-      alone = subst (λ (k : KeptView). IsAlone k q h) (sym same) (subst (λ (v : PassView). IsAlone s v h) (sym pass) a);
-      columns = ap (λ (k : KeptView). k.machine.columns) same;
-      plain = (result, inr (ap (λ (k : KeptView). store_of k h) same, (note, then.legal.1)), is);
+      alone = subst (λ (k : InnerView). IsAlone k q h) (sym same) (subst (λ (v : PassView). IsAlone s v h) (sym pass) a);
+      columns = ap (λ (k : InnerView). k.machine.columns) same;
+      plain = (result, inr (ap (λ (k : InnerView). store_of k h) same, (note, then.legal.1)), is);
     }
 asks_plainly s t p q h (ViewRead view floor start limit) response a few (result, inr (must, does, told), is) =
     let went = goes s t p q h (ReadOf view floor start limit) (page_outcome result) (keeping s p h a) few refl does in
@@ -188,32 +188,32 @@ asks_plainly s t p q h (ViewDrop view) response a few (Err refusal, does, is) =
 
 -- ---- tidies
 -- what was done leaves the pass alone, at a store of which this holds
-record ThenAlone (C : ℕ) (P : Store → Type 0) (t : KeptView) (q : PassView) : Type 0 where
+record ThenAlone (C : ℕ) (P : Store → Type 0) (t : InnerView) (q : PassView) : Type 0 where
   final : History
   alone : IsAlone t q final
   columns : t.machine.columns ≡ C
   plain : P (store_of t final)
 
-alone_still : (s t : KeptView) (p q : PassView) (h : History) (P : Store → Type 0) → IsAlone s p h → t ≡ s → q ≡ p → P (store_of t h) → ThenAlone s.machine.columns P t q
+alone_still : (s t : InnerView) (p q : PassView) (h : History) (P : Store → Type 0) → IsAlone s p h → t ≡ s → q ≡ p → P (store_of t h) → ThenAlone s.machine.columns P t q
 alone_still s t p q h P a is same plain = record {
   final = h;
-  alone = subst (λ (k : KeptView). IsAlone k q h) (sym is) (subst (λ (v : PassView). IsAlone s v h) (sym same) a);
-  columns = ap (λ (k : KeptView). k.machine.columns) is;
+  alone = subst (λ (k : InnerView). IsAlone k q h) (sym is) (subst (λ (v : PassView). IsAlone s v h) (sym same) a);
+  columns = ap (λ (k : InnerView). k.machine.columns) is;
   plain = plain;
 }
 
-once_plainly : (s t : KeptView) (p q : PassView) (h : History) (key : List ℕ) (took : Bool) → IsAlone s p h → t.events < greatest_number → TidiesOnce Does s p key took t q
+once_plainly : (s t : InnerView) (p q : PassView) (h : History) (key : List ℕ) (took : Bool) → IsAlone s p h → t.events < greatest_number → TidiesOnce Does s p key took t q
     → ThenAlone s.machine.columns (TidiesPlainlyOnce (store_of s h) key took) t q
 once_plainly s t p q h key took a few (inl (result, drive, is)) =
     let (final, alone, columns, ends) = drive_ends s t p q h (Tidy key) result a few drive in
     record { final = final; alone = alone; columns = columns; plain = inl (result, inl ends, is) }
 once_plainly s t p q h key took a few (inr (none, is, same)) =
-    alone_still s t p q h (TidiesPlainlyOnce (store_of s h) key took) a is same (inr (none, ap (λ (k : KeptView). store_of k h) is))
+    alone_still s t p q h (TidiesPlainlyOnce (store_of s h) key took) a is same (inr (none, ap (λ (k : InnerView). store_of k h) is))
 
-tidies_plainly : (s t : KeptView) (p q : PassView) (h : History) (key : List ℕ) (tidies : ℕ) → IsAlone s p h → t.events < greatest_number → Tidies Does Looks s p key tidies t q
+tidies_plainly : (s t : InnerView) (p q : PassView) (h : History) (key : List ℕ) (tidies : ℕ) → IsAlone s p h → t.events < greatest_number → Tidies Does Looks s p key tidies t q
     → ThenAlone s.machine.columns (TidiesPlainly (store_of s h) key tidies) t q
 tidies_plainly s t p q h key zero a few (is, same) =
-    alone_still s t p q h (TidiesPlainly (store_of s h) key zero) a is same (ap (λ (k : KeptView). store_of k h) is)
+    alone_still s t p q h (TidiesPlainly (store_of s h) key zero) a is same (ap (λ (k : InnerView). store_of k h) is)
 tidies_plainly s t p q h key (suc tidies) a few (m, r, before, one, still) =
     let rises = once_rise m t r q key true one in
     let so_far = tidies_plainly s m p r h key tidies a (omega (arith, few, rises)) before in
@@ -224,7 +224,7 @@ abbrev AllPlainly : Store → List ℕ → Store → Type 0
 AllPlainly s key t = TidiesPlainly s key MAX_TIDIES t
     ⊎ ((tidies : ℕ) × (tidies < MAX_TIDIES) × (m : Store) × TidiesPlainly s key tidies m × ((took : Bool) × TidiesPlainlyOnce m key took t))
 
-tidies_all_plainly : (s t : KeptView) (p q : PassView) (h : History) (key : List ℕ) → IsAlone s p h → t.events < greatest_number → TidiesAll Does Looks s p key t q
+tidies_all_plainly : (s t : InnerView) (p q : PassView) (h : History) (key : List ℕ) → IsAlone s p h → t.events < greatest_number → TidiesAll Does Looks s p key t q
     → ThenAlone s.machine.columns (AllPlainly (store_of s h) key) t q
 tidies_all_plainly s t p q h key a few (inl all) =
     let done = tidies_plainly s t p q h key MAX_TIDIES a few all in
@@ -240,7 +240,7 @@ tidies_all_plainly s t p q h key a few (inr (tidies, fewer, m, r, before, (took,
       plain = inr (tidies, fewer, store_of m so_far.final, so_far.plain, (took, last.plain));
     }
 
-emptied_plainly : (s t : KeptView) (p q : PassView) (h : History) (key : List ℕ) (empty : Bool) → IsAlone s p h → t.events < greatest_number → MatchBool empty (Purges Does Looks s p key t q) ((t ≡ s) × (q ≡ p))
+emptied_plainly : (s t : InnerView) (p q : PassView) (h : History) (key : List ℕ) (empty : Bool) → IsAlone s p h → t.events < greatest_number → MatchBool empty (Purges Does Looks s p key t q) ((t ≡ s) × (q ≡ p))
     → ThenAlone s.machine.columns (MayBeTidied (Call (Remove key)) (store_of s h)) t q
 emptied_plainly s t p q h key true a few (m, r, all, (n, v, next, freed, advances, collects)) =
     let last = does_rises n t v q Collect freed collects in
@@ -271,23 +271,23 @@ emptied_plainly s t p q h key true a few (m, r, all, (n, v, next, freed, advance
       });
     }
 emptied_plainly s t p q h key false a few (is, same) =
-    alone_still s t p q h (MayBeTidied (Call (Remove key)) (store_of s h)) a is same (inr (ap (λ (k : KeptView). store_of k h) is))
+    alone_still s t p q h (MayBeTidied (Call (Remove key)) (store_of s h)) a is same (inr (ap (λ (k : InnerView). store_of k h) is))
 
-purges_plainly : (s t : KeptView) (p q : PassView) (h : History) (query : Query) → IsAlone s p h → t.events < greatest_number → PurgesFor Does Looks query s p t q
+purges_plainly : (s t : InnerView) (p q : PassView) (h : History) (query : Query) → IsAlone s p h → t.events < greatest_number → PurgesFor Does Looks query s p t q
     → ThenAlone s.machine.columns (MayBeTidied query (store_of s h)) t q
 purges_plainly s t p q h (Call (Remove key)) a few (inl (empty, looks, by)) = emptied_plainly s t p q h key empty a few by
 purges_plainly s t p q h (Call (Remove key)) a few (inr (none, is, same)) =
-    alone_still s t p q h (MayBeTidied (Call (Remove key)) (store_of s h)) a is same (inr (ap (λ (k : KeptView). store_of k h) is))
+    alone_still s t p q h (MayBeTidied (Call (Remove key)) (store_of s h)) a is same (inr (ap (λ (k : InnerView). store_of k h) is))
 purges_plainly s t p q h _ a few same =
-    alone_still s t p q h (λ (x : Store). x ≡ store_of s h) a same.0 same.1 (ap (λ (k : KeptView). store_of k h) same.0)
+    alone_still s t p q h (λ (x : Store). x ≡ store_of s h) a same.0 same.1 (ap (λ (k : InnerView). store_of k h) same.0)
 
-record IsAnswered (s : Store) (query : Query) (response : Response) (t : KeptView) (q : PassView) : Type 0 where
+record IsAnswered (s : Store) (query : Query) (response : Response) (t : InnerView) (q : PassView) : Type 0 where
   final : History
   alone : IsAlone t q final
   columns : t.machine.columns ≡ s.machine.columns
   plain : PlainlyAnswers s query response (store_of t final)
 
-answers_plainly : (s t : KeptView) (p q : PassView) (h : History) (query : Query) (response : Response) → IsAlone s p h → t.events < greatest_number → Answers Does ReadsNow PagesNow Looks s p query response t q → IsAnswered (store_of s h) query response t q
+answers_plainly : (s t : InnerView) (p q : PassView) (h : History) (query : Query) (response : Response) → IsAlone s p h → t.events < greatest_number → Answers Does ReadsNow PagesNow Looks s p query response t q → IsAnswered (store_of s h) query response t q
 answers_plainly s t p q h query response a few (m, r, asks, final) =
     let rises = then_rise m t r q query (changes response) final in
     let asked = asks_plainly s m p r h query response a (omega (arith, few, rises)) asks in
@@ -311,18 +311,18 @@ answers_plainly s t p q h query response a few (m, r, asks, final) =
         }
     by_change asked false e (is, same) = record {
       final = asked.final;
-      alone = subst (λ (k : KeptView). IsAlone k q asked.final) (sym is) (subst (λ (v : PassView). IsAlone m v asked.final) (sym same) asked.alone);
-      columns = ap (λ (k : KeptView). k.machine.columns) is ∙ asked.columns;
-      plain = (store_of m asked.final, asked.plain, subst (λ (b : Bool). MatchBool b (PlainlyFollows query (store_of m asked.final) (store_of t asked.final)) (store_of t asked.final ≡ store_of m asked.final)) (sym e) (ap (λ (k : KeptView). store_of k asked.final) is));
+      alone = subst (λ (k : InnerView). IsAlone k q asked.final) (sym is) (subst (λ (v : PassView). IsAlone m v asked.final) (sym same) asked.alone);
+      columns = ap (λ (k : InnerView). k.machine.columns) is ∙ asked.columns;
+      plain = (store_of m asked.final, asked.plain, subst (λ (b : Bool). MatchBool b (PlainlyFollows query (store_of m asked.final) (store_of t asked.final)) (store_of t asked.final ≡ store_of m asked.final)) (sym e) (ap (λ (k : InnerView). store_of k asked.final) is));
     }
 
 -- ---- queries and frames
 pub alone_answers : AloneAnswersPlainly
 alone_answers s t p q h [] [] a few (is, same) = (
   h,
-  subst (λ (k : KeptView). IsAlone k q h) (sym is) (subst (λ (v : PassView). IsAlone s v h) (sym same) a),
-  ap (λ (k : KeptView). k.machine.columns) is,
-  ap (λ (k : KeptView). store_of k h) is,
+  subst (λ (k : InnerView). IsAlone k q h) (sym is) (subst (λ (v : PassView). IsAlone s v h) (sym same) a),
+  ap (λ (k : InnerView). k.machine.columns) is,
+  ap (λ (k : InnerView). store_of k h) is,
 )
 alone_answers s t p q h (query ∷ queries) (response ∷ responses) a few (m, r, one, more) =
     let rises = all_rise m t r q queries responses more in
@@ -335,9 +335,9 @@ alone_answers s t p q h (query ∷ queries) [] a few never = absurd never
 pub alone_answers_frames : AloneAnswersFramesPlainly
 alone_answers_frames s t p q h [] [] a few (is, same) = (
   h,
-  subst (λ (k : KeptView). IsAlone k q h) (sym is) (subst (λ (v : PassView). IsAlone s v h) (sym same) a),
-  ap (λ (k : KeptView). k.machine.columns) is,
-  ap (λ (k : KeptView). store_of k h) is,
+  subst (λ (k : InnerView). IsAlone k q h) (sym is) (subst (λ (v : PassView). IsAlone s v h) (sym same) a),
+  ap (λ (k : InnerView). k.machine.columns) is,
+  ap (λ (k : InnerView). store_of k h) is,
 )
 alone_answers_frames s t p q h (frame ∷ frames) (reply ∷ replies) a few (m, r, one, more) =
     let rises = frames_rise m t r q frames replies more in
@@ -370,16 +370,16 @@ alone_serves s t p q h input old new summary a few served =
     )
 
 -- ---- a session that breaks off
-breaks_in_rise : (s t : KeptView) (p q : PassView) (fault : SessionFault) (frame : Frame Query) (old new : Option (List ℕ)) → BreaksIn Does ReadsNow PagesNow Looks s p fault frame old new t q → s.events ≤ t.events
+breaks_in_rise : (s t : InnerView) (p q : PassView) (fault : SessionFault) (frame : Frame Query) (old new : Option (List ℕ)) → BreaksIn Does ReadsNow PagesNow Looks s p fault frame old new t q → s.events ≤ t.events
 breaks_in_rise s t p q Write frame old new (reply, sent, unsent, answered, is, wrote) = all_rise s t p q frame.messages reply.messages answered.1
 breaks_in_rise s t p q WantsMemory frame old new (done, undone, responses, is, answered, same) = all_rise s t p q done responses answered
 breaks_in_rise s t p q _ frame old new never = absurd never
 
-breaks_rise : (s t : KeptView) (p q : PassView) (fault : SessionFault) (rest unread old new : Option (List ℕ)) → BreaksAt Does ReadsNow PagesNow Looks s p fault rest unread old new t q → s.events ≤ t.events
-breaks_rise s t p q fault rest unread old new (inl (other, stands, same, is, pass)) = let equal = ap (λ (k : KeptView). k.events) is in omega (arith, equal)
+breaks_rise : (s t : InnerView) (p q : PassView) (fault : SessionFault) (rest unread old new : Option (List ℕ)) → BreaksAt Does ReadsNow PagesNow Looks s p fault rest unread old new t q → s.events ≤ t.events
+breaks_rise s t p q fault rest unread old new (inl (other, stands, same, is, pass)) = let equal = ap (λ (k : InnerView). k.events) is in omega (arith, equal)
 breaks_rise s t p q fault rest unread old new (inr (frame, fits, there, breaks)) = breaks_in_rise s t p q fault frame old new breaks
 
-breaks_in_plainly : (s t : KeptView) (p q : PassView) (h : History) (fault : SessionFault) (frame : Frame Query) (old new : Option (List ℕ)) → IsAlone s p h → t.events < greatest_number → BreaksIn Does ReadsNow PagesNow Looks s p fault frame old new t q
+breaks_in_plainly : (s t : InnerView) (p q : PassView) (h : History) (fault : SessionFault) (frame : Frame Query) (old new : Option (List ℕ)) → IsAlone s p h → t.events < greatest_number → BreaksIn Does ReadsNow PagesNow Looks s p fault frame old new t q
     → (final : History) × IsAlone t q final × BreaksInPlainly (store_of s h) fault frame old new (store_of t final)
 breaks_in_plainly s t p q h Write frame old new a few (reply, sent, unsent, answered, is, wrote) =
     let (final, alone, columns, plain) = alone_answers s t p q h frame.messages reply.messages a few answered.1 in
@@ -389,12 +389,12 @@ breaks_in_plainly s t p q h WantsMemory frame old new a few (done, undone, respo
     (final, alone, (done, undone, responses, is, plain, same))
 breaks_in_plainly s t p q h _ frame old new a few never = absurd never
 
-breaks_plainly : (s t : KeptView) (p q : PassView) (h : History) (fault : SessionFault) (rest : List ℕ) (unread old new : Option (List ℕ)) → IsAlone s p h → t.events < greatest_number → BreaksAt Does ReadsNow PagesNow Looks s p fault (Some rest) unread old new t q
+breaks_plainly : (s t : InnerView) (p q : PassView) (h : History) (fault : SessionFault) (rest : List ℕ) (unread old new : Option (List ℕ)) → IsAlone s p h → t.events < greatest_number → BreaksAt Does ReadsNow PagesNow Looks s p fault (Some rest) unread old new t q
     → (final : History) × IsAlone t q final × BreaksAtPlainly (store_of s h) fault rest unread old new (store_of t final)
 breaks_plainly s t p q h fault rest unread old new a few (inl (other, stands, same, is, pass)) = (
   h,
-  subst (λ (k : KeptView). IsAlone k q h) (sym is) (subst (λ (v : PassView). IsAlone s v h) (sym pass) a),
-  inl (other, stands, same, ap (λ (k : KeptView). store_of k h) is),
+  subst (λ (k : InnerView). IsAlone k q h) (sym is) (subst (λ (v : PassView). IsAlone s v h) (sym pass) a),
+  inl (other, stands, same, ap (λ (k : InnerView). store_of k h) is),
 )
 breaks_plainly s t p q h fault rest unread old new a few (inr (frame, fits, (more, front), breaks)) =
     let (final, alone, plain) = breaks_in_plainly s t p q h fault frame old new a few breaks in
@@ -429,7 +429,7 @@ fresh_is_alone options traced s p fresh new = record {
   stands = fresh.stands;
   ended = refl;
   few_views = omega arith;
-  own = (let one = fresh.books in let number = new.number in ap (λ (n : ℕ). not (n == 0) && nat_le n (length s.books)) number ∙ ap (λ (n : ℕ). nat_le 1 n) one);
+  own = (let one = fresh.counters in let number = new.number in ap (λ (n : ℕ). not (n == 0) && nat_le n (length s.counters)) number ∙ ap (λ (n : ℕ). nat_le 1 n) one);
   seen = (let none = new.seen in omega (arith, none));
   counted = (let none = new.events in omega (arith, none));
 }

@@ -17,7 +17,7 @@ use Rattle.mt_index.specs.Paired.{Paired}
 use Rattle.mt_index.specs.Stands.{MachineView, Stands, CallStands}
 use Rattle.mt_shared.specs.declared.trace.Trace.TheVariants.{Off}
 use Rattle.mt_shared.specs.Passes.{PassView}
-use Rattle.mt_shared.specs.Kept.{KeptView, IsRefusedBy}
+use Rattle.mt_shared.specs.Inner.{InnerView, IsRefusedBy}
 use Rattle.mt_shared.specs.Reads.{IsRead, IsPlainNow, IsReadNow, IsToldNow, MustDrive, ReadsNow, read_reply}
 use Rattle.mt_shared.proofs.ReadLemmas.{unbroken}
 use Rattle.mt_walk.specs.Removes.{RemovesWithin}
@@ -31,7 +31,7 @@ no_entries m past st none = go m.calls.calls refl (subst (λ (l : List OpenCall)
     go [] is pairs = is
     go (entry ∷ entries) is pairs = absurd pairs
 
-pub read_same : (s t : KeptView) (p q : PassView) (request : Request) (result : Result Reply Refusal) → IsReadNow ReadsNow s p request result t q → t ≡ s
+pub read_same : (s t : InnerView) (p q : PassView) (request : Request) (result : Result Reply Refusal) → IsReadNow ReadsNow s p request result t q → t ≡ s
 read_same s t p q request result read = read.same
 
 -- a read that is refused is refused for the limit that it breaks, or out of memory
@@ -44,7 +44,7 @@ builds_none (Get key asked) answer n read = refl
 builds_none (Range start limit asked) answer n read = refl
 builds_none _ answer n read = absurd read
 
-module _ (s : KeptView) (p : PassView) (h : History) (request : Request) (a : IsAlone s p h) where
+module _ (s : InnerView) (p : PassView) (h : History) (request : Request) (a : IsAlone s p h) where
   -- a pass that has seen as much as there is now
   sees : (at : ℕ) → at ≡ length (moment h).commits → IsAlone s (record p { seen = at }) h
   sees at is = record {
@@ -71,7 +71,7 @@ module _ (s : KeptView) (p : PassView) (h : History) (request : Request) (a : Is
   }
 
   -- what came of a read at once
-  abbrev Came : Result Reply Refusal → KeptView → PassView → Type 0
+  abbrev Came : Result Reply Refusal → InnerView → PassView → Type 0
   Came result t q = IsAlone t q h × IsReadAtOnce (store_of s h) request result (store_of t h)
 
   told : (read : Result (ℕ × Answer) Refusal) (result : Result Reply Refusal) (q : PassView) → ReadsNow s p.number request (Some read) → IsToldNow p read result q → Came result s q
@@ -89,12 +89,12 @@ module _ (s : KeptView) (p : PassView) (h : History) (request : Request) (a : Is
       (subst (λ (v : PassView). Came (Err refusal) s v) (sym same)
       (a, (refl, (shown.may.0 refl).0, due (request_fault s.machine.columns request) refusal shown.fault)))
 
-pub read_ends : (s t : KeptView) (p q : PassView) (h : History) (request : Request) (result : Result Reply Refusal) → IsAlone s p h → IsReadNow ReadsNow s p request result t q
+pub read_ends : (s t : InnerView) (p q : PassView) (h : History) (request : Request) (result : Result Reply Refusal) → IsAlone s p h → IsReadNow ReadsNow s p request result t q
     → IsAlone t q h × IsReadAtOnce (store_of s h) request result (store_of t h)
-read_ends s t p q h request result a read = subst (λ (k : KeptView). Came s p h request a result k q) (sym read.same) (told s p h request a read.read result q read.shown read.told)
+read_ends s t p q h request result a read = subst (λ (k : InnerView). Came s p h request a result k q) (sym read.same) (told s p h request a read.read result q read.shown read.told)
 
 -- where no trace is kept, no get or range need be driven
-never_driven : (s : KeptView) (p : PassView) (h : History) (request : Request) → IsAlone s p h → s.trace ≡ Off → IsRead request → MustDrive ReadsNow s p.number request → ⊥
+never_driven : (s : InnerView) (p : PassView) (h : History) (request : Request) → IsAlone s p h → s.trace ≡ Off → IsRead request → MustDrive ReadsNow s p.number request → ⊥
 never_driven s p h request a off read (inl other) = other read
 never_driven s p h request a off read (inr none) =
     let some = none.may.1 (read, (a.own, ap changing (no_entries s.machine h a.stands a.ended), off)) in absurd (cc some)

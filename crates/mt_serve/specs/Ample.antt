@@ -84,7 +84,7 @@ IsAmple _ = Unit {0}
 -- answer.
 abbrev pub AmpleAnswersAreTheirs : Type 0
 AmpleAnswersAreTheirs =
-    (s t : Store) (query : Query) (response : Response) → 0 < s.machine.log.feed → NoneBehind 0 s
+    (s t : Store) (query : Query) (response : Response) → 0 < s.machine.log.capacity → NoneBehind 0 s
     → PlainlyAnswers s query response t → IsAmple response → IsAnswer s.machine.columns (now s) query response
 
 -- the last events that led to this store, but for tidies, were turns that advance views, and the last of them ran out of

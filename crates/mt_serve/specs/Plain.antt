@@ -29,7 +29,7 @@ use Rattle.mt_index.specs.declared.options.Options.{Options}
 use Rattle.mt_index.specs.Stands.{Stands}
 use Rattle.mt_shared.specs.declared.trace.Trace.TheVariants.{Off}
 use Rattle.mt_shared.specs.Passes.{PassView, IsNewPass}
-use Rattle.mt_shared.specs.Kept.{KeptView, Does, IsFresh, has_book}
+use Rattle.mt_shared.specs.Inner.{InnerView, Does, IsFresh, has_counters}
 use Rattle.mt_shared.specs.Reads.{IsRead, ReadsNow}
 use Rattle.mt_shared.specs.Pages.{PagesNow}
 use Rattle.mt_shared.specs.Tidies.{Looks, has_taken_out}
@@ -217,28 +217,28 @@ PlainlyAnswersFrames s (frame ∷ frames) [] t = ⊥
 
 -- an index of one caller, where this has happened and every call has ended: the pass is one of its own, and has seen no
 -- more than there is
-pub record IsAlone (s : KeptView) (p : PassView) (h : History) : Type 0 where
+pub record IsAlone (s : InnerView) (p : PassView) (h : History) : Type 0 where
   pub stands : Stands s.machine h
   pub ended : (moment h).calls ≡ []
   pub few_views : length (moment h).views ≤ MAX_VIEWS
-  pub own : has_book p.number s.books ≡ true
+  pub own : has_counters p.number s.counters ≡ true
   pub seen : p.seen ≤ length (moment h).commits
   pub counted : p.events ≤ s.events
 
 -- the store that it is
-abbrev pub store_of : KeptView → History → Store
+abbrev pub store_of : InnerView → History → Store
 store_of s h = record { machine = s.machine; past = h }
 
 -- so is one on which nothing has happened
 abbrev pub FreshIsAlone : Type 0
 FreshIsAlone =
-    (options : Options) (traced : Bool) (s : KeptView) (p : PassView) → IsFresh options 1 s → IsNewPass traced 1 p
+    (options : Options) (traced : Bool) (s : InnerView) (p : PassView) → IsFresh options 1 s → IsNewPass traced 1 p
     → IsAlone s p []
 
 -- Of an index of one caller that keeps no trace: a get or a range is read at once, and nothing happens.
 abbrev pub AloneReadsAtOnce : Type 0
 AloneReadsAtOnce =
-    (s t : KeptView) (p q : PassView) (h : History) (request : Request) (response : Response)
+    (s t : InnerView) (p q : PassView) (h : History) (request : Request) (response : Response)
     → IsAlone s p h → s.trace ≡ Off → IsRead request → Asks Does ReadsNow PagesNow s p (Call request) response t q
     → (result : Result Reply Refusal) × IsReadAtOnce (store_of s h) request result (store_of t h)
     × (response ≡ call_response result)
@@ -246,14 +246,14 @@ AloneReadsAtOnce =
 -- Of an index of one caller, while its events can be counted: queries that it answers are answered plainly.
 abbrev pub AloneAnswersPlainly : Type 0
 AloneAnswersPlainly =
-    (s t : KeptView) (p q : PassView) (h : History) (queries : List Query) (responses : List Response)
+    (s t : InnerView) (p q : PassView) (h : History) (queries : List Query) (responses : List Response)
     → IsAlone s p h → t.events < greatest_number → AnswersAll Does ReadsNow PagesNow Looks s p queries responses t q
     → (then : History) × IsAlone t q then × (t.machine.columns ≡ s.machine.columns)
     × PlainlyAnswersAll (store_of s h) queries responses (store_of t then)
 
 abbrev pub AloneAnswersFramesPlainly : Type 0
 AloneAnswersFramesPlainly =
-    (s t : KeptView) (p q : PassView) (h : History) (frames : List (Frame Query)) (replies : List (Frame Response))
+    (s t : InnerView) (p q : PassView) (h : History) (frames : List (Frame Query)) (replies : List (Frame Response))
     → IsAlone s p h → t.events < greatest_number → AnswersFrames Does ReadsNow PagesNow Looks s p frames replies t q
     → (then : History) × IsAlone t q then × (t.machine.columns ≡ s.machine.columns)
     × PlainlyAnswersFrames (store_of s h) frames replies (store_of t then)
@@ -270,7 +270,7 @@ pub record ServesPlainly (s : Store) (input : List ℕ) (old new : Option (List 
 
 abbrev pub AloneServesPlainly : Type 0
 AloneServesPlainly =
-    (s t : KeptView) (p q : PassView) (h : History) (input : List ℕ) (old new : Option (List ℕ)) (summary : Summary)
+    (s t : InnerView) (p q : PassView) (h : History) (input : List ℕ) (old new : Option (List ℕ)) (summary : Summary)
     → IsAlone s p h → t.events < greatest_number → IsServed Does ReadsNow PagesNow Looks s p (Some input) old summary new t q
     → (then : History) × IsAlone t q then × ServesPlainly (store_of s h) input old new (store_of t then)
 
@@ -308,7 +308,7 @@ pub record BreaksPlainly (s : Store) (input : List ℕ) (old : Option (List ℕ)
 
 abbrev pub AloneBreaksPlainly : Type 0
 AloneBreaksPlainly =
-    (s t : KeptView) (p q : PassView) (h : History) (input : List ℕ) (unread old new : Option (List ℕ))
+    (s t : InnerView) (p q : PassView) (h : History) (input : List ℕ) (unread old new : Option (List ℕ))
     (fault : SessionFault)
     → IsAlone s p h → t.events < greatest_number → IsBroken Does ReadsNow PagesNow Looks s p (Some input) old fault unread new t q
     → (then : History) × IsAlone t q then × BreaksPlainly (store_of s h) input old fault unread new (store_of t then)

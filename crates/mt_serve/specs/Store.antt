@@ -66,7 +66,7 @@ slowest_view s = least (newest s) (map (λ (v : StandingView). v.at) (now s).vie
 
 -- the log holds as many changes as it may for the view that is furthest behind, which is at this number
 abbrev pub IsFull : Store → ℕ → Type 0
-IsFull s slowest = (slowest ≡ slowest_view s) × (s.machine.log.feed ≤ newest s - slowest)
+IsFull s slowest = (slowest ≡ slowest_view s) × (s.machine.log.capacity ≤ newest s - slowest)
 
 -- at most one number of a node is free: a split wants one, a layer two
 abbrev pub HasFewNodes : MachineView → Type 0

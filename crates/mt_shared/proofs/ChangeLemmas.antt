@@ -13,7 +13,7 @@ use Rattle.mt_shared.specs.declared.changing.Changed.TheVariants.{Started as Sta
 use Rattle.mt_shared.specs.declared.driving.Started.TheVariants.{Ran}
 use Rattle.mt_shared.specs.Changes.{IsChanged, IsDriveKept, KeepsViews}
 use Rattle.mt_shared.specs.Drives.{EventLaw}
-use Rattle.mt_shared.specs.Kept.{KeptView, IsKept, Does}
+use Rattle.mt_shared.specs.Inner.{InnerView, IsInner, Does}
 use Rattle.mt_shared.specs.Passes.{PassView, IsTold, Suits}
 use Rattle.mt_shared.specs.Turns.{HasTurned, furthest, turn}
 use Rattle.mt_shared.proofs.DriveLemmas.{begun_goes, run_finishes}
@@ -22,7 +22,7 @@ use Rattle.mt_shared.proofs.TurnLemmas.{Turned, all_current, turn_refused}
 use Rattle.mt_shared.proofs.RunLemmas.{runs_somewhere, somewhere, started_keeps, started_somewhere}
 
 module _ {S : Type 0} (x : S) where
-  turned_somewhere : (s : KeptView) (p : PassView) (applied : ℕ) (last : List Entry) (t : KeptView) (q : PassView) → IsKept s → (turned : HasTurned Does s p applied last t q) → HasTurned (somewhere S) x p applied last x q
+  turned_somewhere : (s : InnerView) (p : PassView) (applied : ℕ) (last : List Entry) (t : InnerView) (q : PassView) → IsInner s → (turned : HasTurned Does s p applied last t q) → HasTurned (somewhere S) x p applied last x q
   turned_somewhere s p applied last t q k turned = record {
     turns = turned.turns;
     count = turned.count;
@@ -30,7 +30,7 @@ module _ {S : Type 0} (x : S) where
     runs = runs_somewhere x s p (turned.turns ++ last) t q k turned.runs;
   }
 
-  keeps_somewhere : (s : KeptView) (p : PassView) (most : ℕ) (t : KeptView) (q : PassView) → IsKept s → KeepsViews Does s p most t q → KeepsViews (somewhere S) x p most x q
+  keeps_somewhere : (s : InnerView) (p : PassView) (most : ℕ) (t : InnerView) (q : PassView) → IsInner s → KeepsViews Does s p most t q → KeepsViews (somewhere S) x p most x q
   unfolding turned_somewhere
   keeps_somewhere s p most t q k (inl (applied, up)) =
       inl (applied, record { last = up.last; is_last = up.is_last; turned = turned_somewhere s p applied up.last t q k up.turned; traced = up.traced })
@@ -43,7 +43,7 @@ module _ {S : Type 0} (x : S) where
     },
   )
 
-pub changed_somewhere : {S : Type 0} (x y : S) (s : KeptView) (p : PassView) (request : Request) (most : ℕ) (changed : Changed) (t : KeptView) (q : PassView) → IsKept s → IsChanged Does s p request most changed t q → IsChanged (somewhere S) x p request most changed y q
+pub changed_somewhere : {S : Type 0} (x y : S) (s : InnerView) (p : PassView) (request : Request) (most : ℕ) (changed : Changed) (t : InnerView) (q : PassView) → IsInner s → IsChanged Does s p request most changed t q → IsChanged (somewhere S) x p request most changed y q
 changed_somewhere x y s p request most (StartedOnly started) t q k is = (started_somewhere x s p request started t q y k is.0, is.1)
 changed_somewhere x y s p request most (Ended reply) t q k (m, r, call, is, late, change, keeps) = (
   y,
@@ -56,7 +56,7 @@ changed_somewhere x y s p request most (Ended reply) t q k (m, r, call, is, late
 )
 
 -- a turn that advances no view is the last
-pub turn_stops : (s : KeptView) (p : PassView) (n most : ℕ) (m : KeptView) (r : PassView) (o : Outcome) (t : KeptView) (q : PassView) → IsKept m → Turned Does s p n m r → Does m r furthest o t q
+pub turn_stops : (s : InnerView) (p : PassView) (n most : ℕ) (m : InnerView) (r : PassView) (o : Outcome) (t : InnerView) (q : PassView) → IsInner m → Turned Does s p n m r → Does m r furthest o t q
     → ((number : ℕ) → o ≡ Applied number → ⊥) → n < most → KeepsViews Does s p most t q
 turn_stops s p n most m r o t q k b d none few = elim told [
   | inl unmade ↦ elim unmade.0 [ inl e ↦ stopped WrongPass e | inr e ↦ stopped Spent e ]

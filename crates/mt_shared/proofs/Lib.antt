@@ -1,5 +1,5 @@
 pub mod HappeningLemmas
-pub mod KeptLemmas
+pub mod InnerLemmas
 pub mod TidiedLemmas
 pub mod ToldLemmas
 pub mod DriveLemmas

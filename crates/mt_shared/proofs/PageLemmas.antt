@@ -15,7 +15,7 @@ use Rattle.mt_index.specs.Viewing.{page_outcome}
 use Rattle.mt_index.proofs.ApplyStands.{applies-stand, reads-stand}
 use Rattle.mt_index.proofs.EventLemmas.{apply-does, read-does}
 use Rattle.mt_index.proofs.LimitedLemmas.{outcome-limited}
-use Rattle.mt_shared.specs.Kept.{KeptView, IsKept}
+use Rattle.mt_shared.specs.Inner.{InnerView, IsInner}
 use Rattle.mt_shared.specs.Turns.{furthest}
 use Rattle.mt_shared.proofs.ToldLemmas.{suits}
 
@@ -28,7 +28,7 @@ page_makes m view floor start limit o reads = record {
   bounds = (refl, refl);
 }
 
-module _ (s : KeptView) (k : IsKept s) (view : ViewNo) (floor : ℕ) (start : List ℕ) (limit : ℕ) where
+module _ (s : InnerView) (k : IsInner s) (view : ViewNo) (floor : ℕ) (start : List ℕ) (limit : ℕ) where
   -- it is at the floor or further on
   pub page_floor : (read : Result Page Refusal) → ReadsView s.machine view.0 floor start limit (page_outcome read) → IfOk read (λ page. floor ≤ page.at)
   page_floor (Ok page) reads =

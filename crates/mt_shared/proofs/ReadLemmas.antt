@@ -7,7 +7,7 @@ use Rattle.mt_types.specs.declared.event.Answer.{Answer}
 use Rattle.mt_types.specs.declared.event.Reply.{Reply}
 use Rattle.mt_types.specs.declared.event.Request.{Request}
 use Rattle.mt_promise.proofs.LimitedLemmas.{plain_answers_are_limited}
-use Rattle.mt_shared.specs.Kept.{KeptView, IsKept, IsRefusedBy}
+use Rattle.mt_shared.specs.Inner.{InnerView, IsInner, IsRefusedBy}
 use Rattle.mt_shared.specs.Passes.{PassView}
 use Rattle.mt_shared.specs.Drives.{EventLaw, IsDrive}
 use Rattle.mt_shared.specs.Reads.{ReadLaw, IsPlainNow, IsCall, MustDrive}
@@ -18,7 +18,7 @@ unbroken None found why = refl
 unbroken {T} (Some due) found why = absurd (let clash : ◌≡◌ {A = Result T Refusal} (Ok found) (Err due) = why in cc)
 
 -- an answer now keeps the limits of an index
-pub read_is_limited : (s : KeptView) (request : Request) (answer : Answer) → IsKept s → IsPlainNow s.machine request answer → request_fault s.machine.columns request ≡ None → AnswerIsLimited answer
+pub read_is_limited : (s : InnerView) (request : Request) (answer : Answer) → IsInner s → IsPlainNow s.machine request answer → request_fault s.machine.columns request ≡ None → AnswerIsLimited answer
 read_is_limited s request answer kept plain none =
     let (h, st, many, trace) = kept.stands in
     plain_answers_are_limited s.machine.columns h request answer st.few st.legal none (plain h st)

@@ -23,64 +23,64 @@ use Rattle.mt_promise.specs.History.{History, happening}
 use Rattle.mt_index.specs.Stands.{MachineView, Stands}
 use Rattle.mt_index.proofs.EventLemmas.{pass-kept}
 use Rattle.mt_index.proofs.RunLemmas.{begun_pass}
-use Rattle.mt_shared.specs.declared.book.Book.{Book}
+use Rattle.mt_shared.specs.declared.counters.Counters.{Counters}
 use Rattle.mt_shared.specs.declared.trace.Entry.{Entry}
 use Rattle.mt_shared.specs.declared.trace.Trace.{Trace}
 use Rattle.mt_shared.specs.declared.trace.Trace.TheVariants.{Off}
 use Rattle.mt_shared.specs.Traces.{entry, Gains}
 use Rattle.mt_shared.specs.Passes.{PassView, IsTold, pass_after, seen_in}
-use Rattle.mt_shared.specs.Books.{book_after, book_with}
+use Rattle.mt_shared.specs.Counters.{counters_after, counters_with}
 use Rattle.mt_shared.specs.declared.driving.Started.{Started}
 use Rattle.mt_shared.specs.declared.driving.Started.TheVariants.{Refused as RefusedStart, Begun, Ran}
 use Rattle.mt_shared.specs.Drives.{EventLaw, Runs, IsRunStep, HasGone, IsBegun, IsStarted}
-use Rattle.mt_shared.specs.Kept.{KeptView, IsKept, IsMade, IsUnmade, Does, DoesSomewhere, has_book, is_foreign, is_other, is_wrong, is_spent}
-use Rattle.mt_shared.proofs.KeptLemmas.{book_bounds, book_within, commits_then, does_make, has_its_book, in_books, keeps, not_spent}
+use Rattle.mt_shared.specs.Inner.{InnerView, IsInner, IsMade, IsUnmade, Does, DoesSomewhere, has_counters, is_foreign, is_other, is_wrong, is_spent}
+use Rattle.mt_shared.proofs.InnerLemmas.{counters_bounds, counters_within, commits_then, does_make, has_its_counters, in_counters, keeps, not_spent}
 use Rattle.mt_shared.proofs.DriveLemmas.{gains_none}
 use Rattle.mt_shared.proofs.ToldLemmas.{does_tell}
 
-kept_at : (s : KeptView) (p : PassView) (e : Event) (o : Outcome) (t : KeptView) (q : PassView) (b c : Bool) → b ≡ is_wrong s p.number e → IsKept s
-    → MatchBool b (IsUnmade WrongPass s p o t q) (MatchBool c (IsUnmade Spent s p o t q) (IsMade s p e o t q)) → IsKept t
-kept_at s p e o t q true c is k h = subst IsKept (sym h.1) k
-kept_at s p e o t q false true is k h = subst IsKept (sym h.1) k
+kept_at : (s : InnerView) (p : PassView) (e : Event) (o : Outcome) (t : InnerView) (q : PassView) (b c : Bool) → b ≡ is_wrong s p.number e → IsInner s
+    → MatchBool b (IsUnmade WrongPass s p o t q) (MatchBool c (IsUnmade Spent s p o t q) (IsMade s p e o t q)) → IsInner t
+kept_at s p e o t q true c is k h = subst IsInner (sym h.1) k
+kept_at s p e o t q false true is k h = subst IsInner (sym h.1) k
 kept_at s p e o t q false false is k h =
-    let then = keeps s t.machine e o (p.number.0 - 1) h.book (book_with o h.book) k h.makes (in_books s p.number e is).0 (sym h.is_book) refl p.number t.trace h.trace in
-    subst (λ n. IsKept (record { machine = t.machine; events = n; books = t.books; trace = t.trace; tidies = t.tidies })) (sym h.events)
-    (subst (λ (bs : List Book). IsKept (record { machine = t.machine; events = s.events + 1; books = bs; trace = t.trace; tidies = t.tidies })) (sym h.books)
-    (subst (λ (tidies : Bool). IsKept (record { machine = t.machine; events = s.events + 1; books = set s.books (p.number.0 - 1) (book_with o h.book); trace = t.trace; tidies = tidies })) (sym h.tidies) then))
+    let then = keeps s t.machine e o (p.number.0 - 1) h.own (counters_with o h.own) k h.makes (in_counters s p.number e is).0 (sym h.is_counters) refl p.number t.trace h.trace in
+    subst (λ n. IsInner (record { machine = t.machine; events = n; counters = t.counters; trace = t.trace; tidies = t.tidies })) (sym h.events)
+    (subst (λ (bs : List Counters). IsInner (record { machine = t.machine; events = s.events + 1; counters = bs; trace = t.trace; tidies = t.tidies })) (sym h.counters)
+    (subst (λ (tidies : Bool). IsInner (record { machine = t.machine; events = s.events + 1; counters = set s.counters (p.number.0 - 1) (counters_with o h.own); trace = t.trace; tidies = tidies })) (sym h.tidies) then))
 
-pub does_keep : (s : KeptView) (p : PassView) (e : Event) (o : Outcome) (t : KeptView) (q : PassView) → IsKept s → Does s p e o t q → IsKept t
+pub does_keep : (s : InnerView) (p : PassView) (e : Event) (o : Outcome) (t : InnerView) (q : PassView) → IsInner s → Does s p e o t q → IsInner t
 does_keep s p e o t q k h = kept_at s p e o t q (is_wrong s p.number e) (is_spent s p) refl k h
 
-pub runs_keep : (s : KeptView) (p : PassView) (xs : List Entry) (t : KeptView) (q : PassView) → IsKept s → Runs Does s p xs t q → IsKept t
-runs_keep s p [] t q k run = subst IsKept (sym run.0) k
+pub runs_keep : (s : InnerView) (p : PassView) (xs : List Entry) (t : InnerView) (q : PassView) → IsInner s → Runs Does s p xs t q → IsInner t
+runs_keep s p [] t q k run = subst IsInner (sym run.0) k
 runs_keep s p (x ∷ xs) t q k run = runs_keep run.0 run.1 xs t q (does_keep s p x.event x.outcome run.0 run.1 k run.2) run.3
 
 -- ---- one more event, where nothing is traced
--- what the lock keeps, with this number of events and this book at a place
-abbrev pub now_kept : KeptView → ℕ → MachineView → ℕ → Book → KeptView
-now_kept s i m events book = record { machine = m; events = events; books = set s.books i book; trace = Off; tidies = s.tidies }
+-- what the lock keeps, with this number of events and these counters at a place
+abbrev pub now_kept : InnerView → ℕ → MachineView → ℕ → Counters → InnerView
+now_kept s i m events own = record { machine = m; events = events; counters = set s.counters i own; trace = Off; tidies = s.tidies }
 
 abbrev pub pass_with : PassView → ℕ → ℕ → ℕ → PassView
 pass_with p events commits seen = record p { events = events; commits = commits; seen = seen }
 
-module _ (s : KeptView) (p : PassView) (there : has_book p.number s.books ≡ true) (within : p.number.0 - 1 < length s.books) (off : p.trace ≡ Off) where
-  right : (m : MachineView) (events : ℕ) (book : Book) (e : Event) → is_foreign m p.number e ≡ false → is_wrong (now_kept s (p.number.0 - 1) m events book) p.number e ≡ false
-  right m events book e own =
-      ap (λ n. not (not (eqb p.number.0 0) && leb p.number.0 n) || is_foreign m p.number e) (length-set s.books (p.number.0 - 1) book)
+module _ (s : InnerView) (p : PassView) (there : has_counters p.number s.counters ≡ true) (within : p.number.0 - 1 < length s.counters) (off : p.trace ≡ Off) where
+  right : (m : MachineView) (events : ℕ) (own : Counters) (e : Event) → is_foreign m p.number e ≡ false → is_wrong (now_kept s (p.number.0 - 1) m events own) p.number e ≡ false
+  right m events own e own =
+      ap (λ n. not (not (eqb p.number.0 0) && leb p.number.0 n) || is_foreign m p.number e) (length-set s.counters (p.number.0 - 1) own)
       ∙ ap (λ (b : Bool). not b || is_foreign m p.number e) there ∙ own
 
-  pub one_more : (m n : MachineView) (events : ℕ) (book : Book) (made commits seen : ℕ) (e : Event) (o : Outcome) → is_foreign m p.number e ≡ false → (events ≡ greatest_number → ⊥) → (made ≡ greatest_number → ⊥) → Makes m e o n
-      → Does (now_kept s (p.number.0 - 1) m events book) (pass_with p made commits seen) e o
-      (now_kept s (p.number.0 - 1) n (events + 1) (book_with o book)) (pass_with p (made + 1) (commits + commit_count o) (max seen (seen_in o)))
-  one_more m n events book made commits seen e o own more again makes =
+  pub one_more : (m n : MachineView) (events : ℕ) (own : Counters) (made commits seen : ℕ) (e : Event) (o : Outcome) → is_foreign m p.number e ≡ false → (events ≡ greatest_number → ⊥) → (made ≡ greatest_number → ⊥) → Makes m e o n
+      → Does (now_kept s (p.number.0 - 1) m events own) (pass_with p made commits seen) e o
+      (now_kept s (p.number.0 - 1) n (events + 1) (counters_with o own)) (pass_with p (made + 1) (commits + commit_count o) (max seen (seen_in o)))
+  one_more m n events own made commits seen e o own more again makes =
       let i = p.number.0 - 1 in
-      does_make (now_kept s i m events book) (pass_with p made commits seen) e o (now_kept s i n (events + 1) (book_with o book)) (pass_with p (made + 1) (commits + commit_count o) (max seen (seen_in o)))
-      (sym (right m events book e own)) (not_spent (now_kept s i m events book) (pass_with p made commits seen) more again) (record {
+      does_make (now_kept s i m events own) (pass_with p made commits seen) e o (now_kept s i n (events + 1) (counters_with o own)) (pass_with p (made + 1) (commits + commit_count o) (max seen (seen_in o)))
+      (sym (right m events own e own)) (not_spent (now_kept s i m events own) (pass_with p made commits seen) more again) (record {
         makes = makes;
         events = refl;
-        book = book;
-        is_book = get_or-set_same s.books i book book within;
-        books = sym (set-set s.books i book (book_with o book));
+        own = own;
+        is_counters = get_or-set_same s.counters i own own within;
+        counters = sym (set-set s.counters i own (counters_with o own));
         trace = tt;
         counts = record {
           number = refl;
@@ -97,17 +97,17 @@ module _ (s : KeptView) (p : PassView) (there : has_book p.number s.books ≡ tr
   step_of call o = entry p.number (Step call) o
 
   -- these steps were made one by one, and so they are counted
-  record Counted (m n : MachineView) (call : CallNo) (events : ℕ) (book : Book) (made commits seen : ℕ) (os : List Outcome) : Type 0 where
+  record Counted (m n : MachineView) (call : CallNo) (events : ℕ) (own : Counters) (made commits seen : ℕ) (os : List Outcome) : Type 0 where
     pub events_then : ℕ
-    pub book_then : Book
+    pub counters_then : Counters
     pub made_then : ℕ
     pub commits_then : ℕ
     pub seen_then : ℕ
-    pub runs : Runs Does (now_kept s (p.number.0 - 1) m events book) (pass_with p made commits seen) (map (step_of call) os) (now_kept s (p.number.0 - 1) n events_then book_then) (pass_with p made_then commits_then seen_then)
+    pub runs : Runs Does (now_kept s (p.number.0 - 1) m events own) (pass_with p made commits seen) (map (step_of call) os) (now_kept s (p.number.0 - 1) n events_then counters_then) (pass_with p made_then commits_then seen_then)
     pub events_are : events_then ≡ events + length os
-    pub book_events : book_then.events ≡ book.events + length os
-    pub book_commits : book_then.commits ≡ book.commits + sum_by commit_count os
-    pub book_seen : book_then.seen ≡ book.seen
+    pub counters_events : counters_then.events ≡ own.events + length os
+    pub counters_commits : counters_then.commits ≡ own.commits + sum_by commit_count os
+    pub counters_seen : counters_then.seen ≡ own.seen
     pub made_is : made_then ≡ made + length os
     pub commits_are : commits_then ≡ commits + sum_by commit_count os
     pub seen_is : seen_then ≡ seen
@@ -118,44 +118,44 @@ module _ (s : KeptView) (p : PassView) (there : has_book p.number s.books ≡ tr
   shows_none (Commit number) on = refl
   shows_none _ on = absurd on
 
-  counted : (m n : MachineView) (call : CallNo) (events : ℕ) (book : Book) (made commits seen : ℕ) (os : List Outcome) → is_other (pass_at call.0 m.calls.calls) p.number ≡ false → events + length os ≤ greatest_number → made + length os ≤ greatest_number
-      → All GoesOnAtOnce os → MakesSteps m call os n → Counted m n call events book made commits seen os
-  counted m n call events book made commits seen [] own more again on same = record {
+  counted : (m n : MachineView) (call : CallNo) (events : ℕ) (own : Counters) (made commits seen : ℕ) (os : List Outcome) → is_other (pass_at call.0 m.calls.calls) p.number ≡ false → events + length os ≤ greatest_number → made + length os ≤ greatest_number
+      → All GoesOnAtOnce os → MakesSteps m call os n → Counted m n call events own made commits seen os
+  counted m n call events own made commits seen [] own more again on same = record {
     events_then = events;
-    book_then = book;
+    counters_then = own;
     made_then = made;
     commits_then = commits;
     seen_then = seen;
-    runs = (ap (λ (x : MachineView). now_kept s (p.number.0 - 1) x events book) same, refl);
+    runs = (ap (λ (x : MachineView). now_kept s (p.number.0 - 1) x events own) same, refl);
     events_are = omega arith;
-    book_events = omega arith;
-    book_commits = omega arith;
-    book_seen = refl;
+    counters_events = omega arith;
+    counters_commits = omega arith;
+    counters_seen = refl;
     made_is = omega arith;
     commits_are = omega arith;
     seen_is = refl;
     own = ap (λ (x : MachineView). pass_at call.0 x.calls.calls) same;
   }
-  counted m n call events book made commits seen (o ∷ os) own more again on (next, one, rest) =
+  counted m n call events own made commits seen (o ∷ os) own more again on (next, one, rest) =
       let goes = All-head GoesOnAtOnce o os on in
       let kept = pass-kept m next call o one goes in
       let none = shows_none o goes in
-      let first = one_more m next events book made commits seen (Step call) o own (λ e. omega (arith, e, more)) (λ e. omega (arith, e, again)) one in
-      let later = counted next n call (events + 1) (book_with o book) (made + 1) (commits + commit_count o) (max seen (seen_in o)) os (ap (λ (x : _). is_other x p.number) kept ∙ own) (omega (arith, more)) (omega (arith, again)) (All-tail GoesOnAtOnce o os on) rest in
-      let a = later.events_are in let b = later.book_events in let c = later.book_commits in let d = later.book_seen in
+      let first = one_more m next events own made commits seen (Step call) o own (λ e. omega (arith, e, more)) (λ e. omega (arith, e, again)) one in
+      let later = counted next n call (events + 1) (counters_with o own) (made + 1) (commits + commit_count o) (max seen (seen_in o)) os (ap (λ (x : _). is_other x p.number) kept ∙ own) (omega (arith, more)) (omega (arith, again)) (All-tail GoesOnAtOnce o os on) rest in
+      let a = later.events_are in let b = later.counters_events in let c = later.counters_commits in let d = later.counters_seen in
       let e = later.made_is in let f = later.commits_are in let g = later.seen_is in
       let whole = sum_by-append commit_count (o ∷ []) os in
       record {
         events_then = later.events_then;
-        book_then = later.book_then;
+        counters_then = later.counters_then;
         made_then = later.made_then;
         commits_then = later.commits_then;
         seen_then = later.seen_then;
-        runs = (now_kept s (p.number.0 - 1) next (events + 1) (book_with o book), pass_with p (made + 1) (commits + commit_count o) (max seen (seen_in o)), first, later.runs);
+        runs = (now_kept s (p.number.0 - 1) next (events + 1) (counters_with o own), pass_with p (made + 1) (commits + commit_count o) (max seen (seen_in o)), first, later.runs);
         events_are = omega (arith, a);
-        book_events = omega (arith, b);
-        book_commits = omega (arith, c, whole);
-        book_seen = omega (arith, d, none);
+        counters_events = omega (arith, b);
+        counters_commits = omega (arith, c, whole);
+        counters_seen = omega (arith, d, none);
         made_is = omega (arith, e);
         commits_are = omega (arith, f, whole);
         seen_is = omega (arith, g, none);
@@ -169,15 +169,15 @@ module _ (s : KeptView) (p : PassView) (there : has_book p.number s.books ≡ tr
   gains_off : (xs : List Entry) → Gains p.trace xs p.trace
   gains_off xs = subst (λ (t : Trace). Gains t xs t) (sym off) tt
 
-  -- what the lock keeps is itself with the book that it has
-  same_kept : (b : Book) → s.trace ≡ Off → b ≡ get_or s.books (p.number.0 - 1) b → now_kept s (p.number.0 - 1) s.machine s.events b ≡ s
+  -- what the lock keeps is itself with the counters that it has
+  same_kept : (b : Counters) → s.trace ≡ Off → b ≡ get_or s.counters (p.number.0 - 1) b → now_kept s (p.number.0 - 1) s.machine s.events b ≡ s
   same_kept b none at =
-      ap (λ (bs : List Book). record { machine = s.machine; events = s.events; books = bs; trace = Off; tidies = s.tidies }) (ap (set s.books (p.number.0 - 1)) at ∙ set-get_or s.books (p.number.0 - 1) b)
-      ∙ ap (λ (t : Trace). record { machine = s.machine; events = s.events; books = s.books; trace = t; tidies = s.tidies }) (sym none)
+      ap (λ (bs : List Counters). record { machine = s.machine; events = s.events; counters = bs; trace = Off; tidies = s.tidies }) (ap (set s.counters (p.number.0 - 1)) at ∙ set-get_or s.counters (p.number.0 - 1) b)
+      ∙ ap (λ (t : Trace). record { machine = s.machine; events = s.events; counters = s.counters; trace = t; tidies = s.tidies }) (sym none)
 
-  -- books and passes by their counts
-  book_is : (x y : Book) → x.events ≡ y.events → x.commits ≡ y.commits → x.seen ≡ y.seen → x ≡ y
-  book_is x y a b c =
+  -- counters and passes by their counts
+  counters_is : (x y : Counters) → x.events ≡ y.events → x.commits ≡ y.commits → x.seen ≡ y.seen → x ≡ y
+  counters_is x y a b c =
       ap (λ n. record { events = n; commits = x.commits; seen = x.seen }) a
       ∙ ap (λ n. record { events = y.events; commits = n; seen = x.seen }) b
       ∙ ap (λ n. record { events = y.events; commits = y.commits; seen = n }) c
@@ -186,31 +186,31 @@ module _ (s : KeptView) (p : PassView) (there : has_book p.number s.books ≡ tr
   pass_is a b c x y z e f g = ap (λ n. pass_with p n b c) e ∙ ap (λ n. pass_with p x n c) f ∙ ap (λ n. pass_with p x y n) g
 
   -- A RUN, counted as the code counts it
-  pub goes : (call : CallNo) (run : Run) (n : MachineView) (b : Book) → IsKept s → s.trace ≡ Off → is_other (pass_at call.0 s.machine.calls.calls) p.number ≡ false → b ≡ get_or s.books (p.number.0 - 1) b
+  pub goes : (call : CallNo) (run : Run) (n : MachineView) (b : Counters) → IsInner s → s.trace ≡ Off → is_other (pass_at call.0 s.machine.calls.calls) p.number ≡ false → b ≡ get_or s.counters (p.number.0 - 1) b
       → s.events + run.steps < 2 ^ 64 → p.events + run.steps < 2 ^ 64 → GoesThrough s.machine call run n
-      → HasGone Does s p call run.last (record { machine = n; events = s.events + run.steps; books = set s.books (p.number.0 - 1) (book_after run b); trace = s.trace; tidies = s.tidies }) (pass_after run p)
+      → HasGone Does s p call run.last (record { machine = n; events = s.events + run.steps; counters = set s.counters (p.number.0 - 1) (counters_after run b); trace = s.trace; tidies = s.tidies }) (pass_after run p)
   goes call run n b k none own at here there' g =
       let i = p.number.0 - 1 in
       let many = g.many in
       let whole = g.commits in
       let made = counted s.machine g.before call s.events b p.events p.commits p.seen g.outcomes own (omega (arith, here, many)) (omega (arith, there', many)) g.go_on g.steps in
-      let a = made.events_are in let be = made.book_events in let bc = made.book_commits in let bs = made.book_seen in
+      let a = made.events_are in let be = made.counters_events in let bc = made.counters_commits in let bs = made.counters_seen in
       let e = made.made_is in let f = made.commits_are in let x = made.seen_is in
-      let runs = subst (λ (m : KeptView). Runs Does m p (map (step_of call) g.outcomes) (now_kept s i g.before made.events_then made.book_then) (pass_with p made.made_then made.commits_then made.seen_then)) (same_kept b none at) made.runs in
-      let last = one_more g.before n made.events_then made.book_then made.made_then made.commits_then made.seen_then (Step call) run.last (ap (λ (w : _). is_other w p.number) made.own ∙ own) (λ q. omega (arith, q, a, here, many)) (λ q. omega (arith, q, e, there', many)) g.last in
-      let then : KeptView = record { machine = n; events = s.events + run.steps; books = set s.books i (book_after run b); trace = Off; tidies = s.tidies } in
-      let is_then : now_kept s i n (made.events_then + 1) (book_with run.last made.book_then) ≡ then =
-      ap (λ (v : ℕ). now_kept s i n v (book_with run.last made.book_then)) (omega (arith, a, many))
-      ∙ ap (λ (v : Book). now_kept s i n (s.events + run.steps) v) (book_is (book_with run.last made.book_then) (book_after run b) (omega (arith, be, many)) (omega (arith, bc, whole)) (ap (λ (v : ℕ). max v (seen_in run.last)) bs)) in
+      let runs = subst (λ (m : InnerView). Runs Does m p (map (step_of call) g.outcomes) (now_kept s i g.before made.events_then made.counters_then) (pass_with p made.made_then made.commits_then made.seen_then)) (same_kept b none at) made.runs in
+      let last = one_more g.before n made.events_then made.counters_then made.made_then made.commits_then made.seen_then (Step call) run.last (ap (λ (w : _). is_other w p.number) made.own ∙ own) (λ q. omega (arith, q, a, here, many)) (λ q. omega (arith, q, e, there', many)) g.last in
+      let then : InnerView = record { machine = n; events = s.events + run.steps; counters = set s.counters i (counters_after run b); trace = Off; tidies = s.tidies } in
+      let is_then : now_kept s i n (made.events_then + 1) (counters_with run.last made.counters_then) ≡ then =
+      ap (λ (v : ℕ). now_kept s i n v (counters_with run.last made.counters_then)) (omega (arith, a, many))
+      ∙ ap (λ (v : Counters). now_kept s i n (s.events + run.steps) v) (counters_is (counters_with run.last made.counters_then) (counters_after run b) (omega (arith, be, many)) (omega (arith, bc, whole)) (ap (λ (v : ℕ). max v (seen_in run.last)) bs)) in
       let is_pass : pass_with p (made.made_then + 1) (made.commits_then + commit_count run.last) (max made.seen_then (seen_in run.last)) ≡ pass_after run p =
       pass_is _ _ _ _ _ _ (omega (arith, e, many)) (omega (arith, f, whole)) (ap (λ (v : ℕ). max v (seen_in run.last)) x) in
       let between = pass_with p made.made_then made.commits_then made.seen_then in
-      let does = subst (λ (t : KeptView). Does (now_kept s i g.before made.events_then made.book_then) between (Step call) run.last t (pass_after run p)) is_then
-      (subst (λ (q : PassView). Does (now_kept s i g.before made.events_then made.book_then) between (Step call) run.last (now_kept s i n (made.events_then + 1) (book_with run.last made.book_then)) q) is_pass last) in
-      subst (λ (t : Trace). HasGone Does s p call run.last (record { machine = n; events = s.events + run.steps; books = set s.books i (book_after run b); trace = t; tidies = s.tidies }) (pass_after run p)) (sym none) (record {
+      let does = subst (λ (t : InnerView). Does (now_kept s i g.before made.events_then made.counters_then) between (Step call) run.last t (pass_after run p)) is_then
+      (subst (λ (q : PassView). Does (now_kept s i g.before made.events_then made.counters_then) between (Step call) run.last (now_kept s i n (made.events_then + 1) (counters_with run.last made.counters_then)) q) is_pass last) in
+      subst (λ (t : Trace). HasGone Does s p call run.last (record { machine = n; events = s.events + run.steps; counters = set s.counters i (counters_after run b); trace = t; tidies = s.tidies }) (pass_after run p)) (sym none) (record {
         steps = map (step_of call) g.outcomes;
         are_steps = go_steps call g.outcomes g.go_on;
-        then = now_kept s i g.before made.events_then made.book_then;
+        then = now_kept s i g.before made.events_then made.counters_then;
         between = between;
         runs = runs;
         traced = gains_off (map (step_of call) g.outcomes);
@@ -222,99 +222,99 @@ module _ (s : KeptView) (p : PassView) (there : has_book p.number s.books ≡ tr
       })
 
   -- a begin, counted as the code counts it
-  pub opens : (request : Request) (run : Run) (n : MachineView) (b : Book) → s.trace ≡ Off → b ≡ get_or s.books (p.number.0 - 1) b → s.events + 1 < 2 ^ 64 → p.events + 1 < 2 ^ 64 → run.steps ≡ 1 → run.commits ≡ 0 → commit_count run.last ≡ 0
+  pub opens : (request : Request) (run : Run) (n : MachineView) (b : Counters) → s.trace ≡ Off → b ≡ get_or s.counters (p.number.0 - 1) b → s.events + 1 < 2 ^ 64 → p.events + 1 < 2 ^ 64 → run.steps ≡ 1 → run.commits ≡ 0 → commit_count run.last ≡ 0
       → Makes s.machine (Begin p.number request) run.last n
-      → Does s p (Begin p.number request) run.last (record { machine = n; events = s.events + 1; books = set s.books (p.number.0 - 1) (book_after run b); trace = s.trace; tidies = s.tidies }) (pass_after run p)
+      → Does s p (Begin p.number request) run.last (record { machine = n; events = s.events + 1; counters = set s.counters (p.number.0 - 1) (counters_after run b); trace = s.trace; tidies = s.tidies }) (pass_after run p)
   opens request run n b none at here there' one none_made zero makes =
       let i = p.number.0 - 1 in
       let own : not (eqb p.number.0 p.number.0) ≡ false = ap not (eq-eqb p.number.0 p.number.0 refl) in
       let made = one_more s.machine n s.events b p.events p.commits p.seen (Begin p.number request) run.last own (λ q. omega (arith, q, here)) (λ q. omega (arith, q, there')) makes in
-      let is_then : now_kept s i n (s.events + 1) (book_with run.last b) ≡ record { machine = n; events = s.events + 1; books = set s.books i (book_after run b); trace = Off; tidies = s.tidies } =
-      ap (λ (v : Book). now_kept s i n (s.events + 1) v) (book_is (book_with run.last b) (book_after run b) (omega (arith, one)) (omega (arith, none_made, zero)) refl) in
+      let is_then : now_kept s i n (s.events + 1) (counters_with run.last b) ≡ record { machine = n; events = s.events + 1; counters = set s.counters i (counters_after run b); trace = Off; tidies = s.tidies } =
+      ap (λ (v : Counters). now_kept s i n (s.events + 1) v) (counters_is (counters_with run.last b) (counters_after run b) (omega (arith, one)) (omega (arith, none_made, zero)) refl) in
       let is_pass : pass_with p (p.events + 1) (p.commits + commit_count run.last) (max p.seen (seen_in run.last)) ≡ pass_after run p =
       pass_is _ _ _ _ _ _ (omega (arith, one)) (omega (arith, none_made, zero)) refl in
-      subst (λ (t : Trace). Does s p (Begin p.number request) run.last (record { machine = n; events = s.events + 1; books = set s.books i (book_after run b); trace = t; tidies = s.tidies }) (pass_after run p)) (sym none)
-      (subst (λ (m : KeptView). Does m p (Begin p.number request) run.last (record { machine = n; events = s.events + 1; books = set s.books i (book_after run b); trace = Off; tidies = s.tidies }) (pass_after run p)) (same_kept b none at)
-      (subst (λ (t : KeptView). Does (now_kept s i s.machine s.events b) p (Begin p.number request) run.last t (pass_after run p)) is_then
-      (subst (λ (q : PassView). Does (now_kept s i s.machine s.events b) p (Begin p.number request) run.last (now_kept s i n (s.events + 1) (book_with run.last b)) q) is_pass made)))
+      subst (λ (t : Trace). Does s p (Begin p.number request) run.last (record { machine = n; events = s.events + 1; counters = set s.counters i (counters_after run b); trace = t; tidies = s.tidies }) (pass_after run p)) (sym none)
+      (subst (λ (m : InnerView). Does m p (Begin p.number request) run.last (record { machine = n; events = s.events + 1; counters = set s.counters i (counters_after run b); trace = Off; tidies = s.tidies }) (pass_after run p)) (same_kept b none at)
+      (subst (λ (t : InnerView). Does (now_kept s i s.machine s.events b) p (Begin p.number request) run.last t (pass_after run p)) is_then
+      (subst (λ (q : PassView). Does (now_kept s i s.machine s.events b) p (Begin p.number request) run.last (now_kept s i n (s.events + 1) (counters_with run.last b)) q) is_pass made)))
 
 -- a run of what the lock keeps, as the code counts it
-pub gone_as_counted : (s : KeptView) (p q : PassView) (call : CallNo) (run : Run) (n : MachineView) (b : Book) (books : List Book) (events : ℕ) (number : PassNo) → IsKept s → (s.trace ≡ Off) × (p.trace ≡ Off) → number ≡ p.number → false ≡ is_wrong s number (Step call)
-    → b ≡ get_or s.books (p.number.0 - 1) b → s.events + run.steps < 2 ^ 64 → p.events + run.steps < 2 ^ 64 → GoesThrough s.machine call run n → books ≡ set s.books (p.number.0 - 1) (book_after run b) → events ≡ s.events + run.steps → q ≡ pass_after run p
-    → HasGone Does s p call run.last (record { machine = n; events = events; books = books; trace = s.trace; tidies = s.tidies }) q
-gone_as_counted s p q call run n b books events number k off same mine at here far went books_are events_are pass_is' =
+pub gone_as_counted : (s : InnerView) (p q : PassView) (call : CallNo) (run : Run) (n : MachineView) (b : Counters) (counters : List Counters) (events : ℕ) (number : PassNo) → IsInner s → (s.trace ≡ Off) × (p.trace ≡ Off) → number ≡ p.number → false ≡ is_wrong s number (Step call)
+    → b ≡ get_or s.counters (p.number.0 - 1) b → s.events + run.steps < 2 ^ 64 → p.events + run.steps < 2 ^ 64 → GoesThrough s.machine call run n → counters ≡ set s.counters (p.number.0 - 1) (counters_after run b) → events ≡ s.events + run.steps → q ≡ pass_after run p
+    → HasGone Does s p call run.last (record { machine = n; events = events; counters = counters; trace = s.trace; tidies = s.tidies }) q
+gone_as_counted s p q call run n b counters events number k off same mine at here far went counters_are events_are pass_is' =
     let own = subst (λ (m : PassNo). false ≡ is_wrong s m (Step call)) same mine in
-    let both = in_books s p.number (Step call) own in
-    subst (λ (e : ℕ). HasGone Does s p call run.last (record { machine = n; events = e; books = books; trace = s.trace; tidies = s.tidies }) q) (sym events_are)
-    (subst (λ (bs : List Book). HasGone Does s p call run.last (record { machine = n; events = s.events + run.steps; books = bs; trace = s.trace; tidies = s.tidies }) q) (sym books_are)
-    (subst (λ (r : PassView). HasGone Does s p call run.last (record { machine = n; events = s.events + run.steps; books = set s.books (p.number.0 - 1) (book_after run b); trace = s.trace; tidies = s.tidies }) r) (sym pass_is')
-    (goes s p (has_its_book s p.number (Step call) own) both.0 off.1 call run n b k off.0 both.1 at here far went)))
+    let both = in_counters s p.number (Step call) own in
+    subst (λ (e : ℕ). HasGone Does s p call run.last (record { machine = n; events = e; counters = counters; trace = s.trace; tidies = s.tidies }) q) (sym events_are)
+    (subst (λ (bs : List Counters). HasGone Does s p call run.last (record { machine = n; events = s.events + run.steps; counters = bs; trace = s.trace; tidies = s.tidies }) q) (sym counters_are)
+    (subst (λ (r : PassView). HasGone Does s p call run.last (record { machine = n; events = s.events + run.steps; counters = set s.counters (p.number.0 - 1) (counters_after run b); trace = s.trace; tidies = s.tidies }) r) (sym pass_is')
+    (goes s p (has_its_counters s p.number (Step call) own) both.0 off.1 call run n b k off.0 both.1 at here far went)))
 
-pub gone_keep : (s : KeptView) (p : PassView) (call : CallNo) (o : Outcome) (t : KeptView) (q : PassView) → IsKept s → HasGone Does s p call o t q → IsKept t
+pub gone_keep : (s : InnerView) (p : PassView) (call : CallNo) (o : Outcome) (t : InnerView) (q : PassView) → IsInner s → HasGone Does s p call o t q → IsInner t
 gone_keep s p call o t q k g = does_keep g.then g.between (Step call) o t q (runs_keep s p g.steps g.then g.between k g.runs) g.made
 
 -- a begin and a run of what the lock keeps, counted together
-pub starts_own : (s : KeptView) (p : PassView) (request : Request) (call : CallNo) (run : Run) (begun n : MachineView) (b : Book) → IsKept s → (s.trace ≡ Off) × (p.trace ≡ Off) → has_book p.number s.books ≡ true → b ≡ get_or s.books (p.number.0 - 1) b
+pub starts_own : (s : InnerView) (p : PassView) (request : Request) (call : CallNo) (run : Run) (begun n : MachineView) (b : Counters) → IsInner s → (s.trace ≡ Off) × (p.trace ≡ Off) → has_counters p.number s.counters ≡ true → b ≡ get_or s.counters (p.number.0 - 1) b
     → s.events + (run.steps + 1) < 2 ^ 64 → p.events + (run.steps + 1) < 2 ^ 64 → Makes s.machine (Begin p.number request) (Call call) begun → GoesThrough begun call run n
-    → IsStarted Does s p request (Ran call run.last) (record { machine = n; events = s.events + (run.steps + 1); books = set s.books (p.number.0 - 1) (book_after (record run { steps = run.steps + 1 }) b); trace = s.trace; tidies = s.tidies }) (pass_after (record run { steps = run.steps + 1 }) p)
+    → IsStarted Does s p request (Ran call run.last) (record { machine = n; events = s.events + (run.steps + 1); counters = set s.counters (p.number.0 - 1) (counters_after (record run { steps = run.steps + 1 }) b); trace = s.trace; tidies = s.tidies }) (pass_after (record run { steps = run.steps + 1 }) p)
 starts_own s p request call run begun n b k off there at here far makes went =
     let i = p.number.0 - 1 in
-    let within = book_within p.number s.books there in
+    let within = counters_within p.number s.counters there in
     let first : Run = record { steps = 1; commits = 0; last = Call call } in
-    let one : Book = book_after first b in
-    let mid : KeptView = record { machine = begun; events = s.events + 1; books = set s.books i one; trace = s.trace; tidies = s.tidies } in
+    let one : Counters = counters_after first b in
+    let mid : InnerView = record { machine = begun; events = s.events + 1; counters = set s.counters i one; trace = s.trace; tidies = s.tidies } in
     let r : PassView = pass_after first p in
     let does : Does s p (Begin p.number request) (Call call) mid r = opens s p there within off.1 request first begun b off.0 at (omega (arith, here)) (omega (arith, far)) refl refl refl makes in
-    let there_too = ap (λ n. not (eqb p.number.0 0) && leb p.number.0 n) (length-set s.books i one) ∙ there in
+    let there_too = ap (λ n. not (eqb p.number.0 0) && leb p.number.0 n) (length-set s.counters i one) ∙ there in
     let (h, st, long, told) = k.stands in
     let own = ap (λ (w : _). is_other w p.number) (begun_pass s.machine begun h p.number request call st makes) ∙ ap not (eq-eqb p.number.0 p.number.0 refl) in
     let kept = does_keep s p (Begin p.number request) (Call call) mid r k does in
-    let gone : HasGone Does mid r call run.last (record { machine = n; events = s.events + 1 + run.steps; books = set (set s.books i one) i (book_after run one); trace = s.trace; tidies = s.tidies }) (pass_after run r) =
-    goes mid r there_too (book_within p.number mid.books there_too) off.1 call run n one kept off.0 own (sym (get_or-set_same s.books i one one within)) (omega (arith, here)) (omega (arith, far)) went in
-    let then_is = set-set s.books i one (book_after run one) ∙ ap (set s.books i)
-    (book_is s p there within off.1 (book_after run one) (book_after (record run { steps = run.steps + 1 }) b) (omega arith) (omega arith) (omega arith)) in
+    let gone : HasGone Does mid r call run.last (record { machine = n; events = s.events + 1 + run.steps; counters = set (set s.counters i one) i (counters_after run one); trace = s.trace; tidies = s.tidies }) (pass_after run r) =
+    goes mid r there_too (counters_within p.number mid.counters there_too) off.1 call run n one kept off.0 own (sym (get_or-set_same s.counters i one one within)) (omega (arith, here)) (omega (arith, far)) went in
+    let then_is = set-set s.counters i one (counters_after run one) ∙ ap (set s.counters i)
+    (counters_is s p there within off.1 (counters_after run one) (counters_after (record run { steps = run.steps + 1 }) b) (omega arith) (omega arith) (omega arith)) in
     let pass_then = pass_is s p there within off.1 (p.events + 1 + run.steps) (p.commits + 0 + run.commits) (max (max p.seen 0) (seen_in run.last)) (p.events + (run.steps + 1)) (p.commits + run.commits) (max p.seen (seen_in run.last)) (omega arith) (omega arith) (omega arith) in (
       mid,
       r,
       (does, does_tell s p (Begin p.number request) (Call call) mid r k does),
-      subst (λ (q : PassView). HasGone Does mid r call run.last (record { machine = n; events = s.events + (run.steps + 1); books = set s.books i (book_after (record run { steps = run.steps + 1 }) b); trace = s.trace; tidies = s.tidies }) q) pass_then
-          (subst (λ (bs : List Book). HasGone Does mid r call run.last (record { machine = n; events = s.events + (run.steps + 1); books = bs; trace = s.trace; tidies = s.tidies }) (pass_after run r)) then_is
-          (subst (λ (e : ℕ). HasGone Does mid r call run.last (record { machine = n; events = e; books = set (set s.books i one) i (book_after run one); trace = s.trace; tidies = s.tidies }) (pass_after run r)) (omega arith) gone)),
+      subst (λ (q : PassView). HasGone Does mid r call run.last (record { machine = n; events = s.events + (run.steps + 1); counters = set s.counters i (counters_after (record run { steps = run.steps + 1 }) b); trace = s.trace; tidies = s.tidies }) q) pass_then
+          (subst (λ (bs : List Counters). HasGone Does mid r call run.last (record { machine = n; events = s.events + (run.steps + 1); counters = bs; trace = s.trace; tidies = s.tidies }) (pass_after run r)) then_is
+          (subst (λ (e : ℕ). HasGone Does mid r call run.last (record { machine = n; events = e; counters = set (set s.counters i one) i (counters_after run one); trace = s.trace; tidies = s.tidies }) (pass_after run r)) (omega arith) gone)),
     )
 
--- a book is within what was counted
-pub book_fits : (s : KeptView) (p : PassView) (items : List Book) (b : Book) → IsKept s → has_book p.number s.books ≡ true → items ≡ s.books → b ≡ get_or items (p.number.0 - 1) b → (b.events ≤ s.events) × (b.commits ≤ newest s.machine.log)
-book_fits s p items b k there same at = book_bounds s (p.number.0 - 1) b k (book_within p.number s.books there) (at ∙ ap (λ (bs : List Book). get_or bs (p.number.0 - 1) b) same)
+-- counters are within what was counted
+pub counters_fits : (s : InnerView) (p : PassView) (items : List Counters) (b : Counters) → IsInner s → has_counters p.number s.counters ≡ true → items ≡ s.counters → b ≡ get_or items (p.number.0 - 1) b → (b.events ≤ s.events) × (b.commits ≤ newest s.machine.log)
+counters_fits s p items b k there same at = counters_bounds s (p.number.0 - 1) b k (counters_within p.number s.counters there) (at ∙ ap (λ (bs : List Counters). get_or bs (p.number.0 - 1) b) same)
 
 -- as the code counts them
-module _ (s : KeptView) (p q : PassView) (request : Request) (n : MachineView) (b : Book) (items books : List Book) (events : ℕ) (off : (s.trace ≡ Off) × (p.trace ≡ Off)) (there : has_book p.number s.books ≡ true) (same : items ≡ s.books) (at : b ≡ get_or items (p.number.0 - 1) b) where
-  at_own : b ≡ get_or s.books (p.number.0 - 1) b
-  at_own = at ∙ ap (λ (bs : List Book). get_or bs (p.number.0 - 1) b) same
+module _ (s : InnerView) (p q : PassView) (request : Request) (n : MachineView) (b : Counters) (items counters : List Counters) (events : ℕ) (off : (s.trace ≡ Off) × (p.trace ≡ Off)) (there : has_counters p.number s.counters ≡ true) (same : items ≡ s.counters) (at : b ≡ get_or items (p.number.0 - 1) b) where
+  at_own : b ≡ get_or s.counters (p.number.0 - 1) b
+  at_own = at ∙ ap (λ (bs : List Counters). get_or bs (p.number.0 - 1) b) same
 
-  set_own : (run : Run) → books ≡ set items (p.number.0 - 1) (book_after run b) → set s.books (p.number.0 - 1) (book_after run b) ≡ books
-  set_own run is = ap (λ (bs : List Book). set bs (p.number.0 - 1) (book_after run b)) (sym same) ∙ sym is
+  set_own : (run : Run) → counters ≡ set items (p.number.0 - 1) (counters_after run b) → set s.counters (p.number.0 - 1) (counters_after run b) ≡ counters
+  set_own run is = ap (λ (bs : List Counters). set bs (p.number.0 - 1) (counters_after run b)) (sym same) ∙ sym is
 
-  pub refused_as_counted : (refusal : Refusal) → s.events + 1 < 2 ^ 64 → p.events + 1 < 2 ^ 64 → Makes s.machine (Begin p.number request) (Refused refusal) n → books ≡ set items (p.number.0 - 1) (book_after (record { steps = 1; commits = 0; last = Refused refusal }) b) → events ≡ s.events + 1
-      → q ≡ pass_after (record { steps = 1; commits = 0; last = Refused refusal }) p → Does s p (Begin p.number request) (Refused refusal) (record { machine = n; events = events; books = books; trace = s.trace; tidies = s.tidies }) q
-  refused_as_counted refusal here far makes books_are events_are pass_is' =
+  pub refused_as_counted : (refusal : Refusal) → s.events + 1 < 2 ^ 64 → p.events + 1 < 2 ^ 64 → Makes s.machine (Begin p.number request) (Refused refusal) n → counters ≡ set items (p.number.0 - 1) (counters_after (record { steps = 1; commits = 0; last = Refused refusal }) b) → events ≡ s.events + 1
+      → q ≡ pass_after (record { steps = 1; commits = 0; last = Refused refusal }) p → Does s p (Begin p.number request) (Refused refusal) (record { machine = n; events = events; counters = counters; trace = s.trace; tidies = s.tidies }) q
+  refused_as_counted refusal here far makes counters_are events_are pass_is' =
       let run : Run = record { steps = 1; commits = 0; last = Refused refusal } in
-      subst (λ (e : ℕ). Does s p (Begin p.number request) (Refused refusal) (record { machine = n; events = e; books = books; trace = s.trace; tidies = s.tidies }) q) (sym events_are)
-      (subst (λ (bs : List Book). Does s p (Begin p.number request) (Refused refusal) (record { machine = n; events = s.events + 1; books = bs; trace = s.trace; tidies = s.tidies }) q) (set_own run books_are)
-      (subst (λ (r : PassView). Does s p (Begin p.number request) (Refused refusal) (record { machine = n; events = s.events + 1; books = set s.books (p.number.0 - 1) (book_after run b); trace = s.trace; tidies = s.tidies }) r) (sym pass_is')
-      (opens s p there (book_within p.number s.books there) off.1 request run n b off.0 at_own here far refl refl refl makes)))
+      subst (λ (e : ℕ). Does s p (Begin p.number request) (Refused refusal) (record { machine = n; events = e; counters = counters; trace = s.trace; tidies = s.tidies }) q) (sym events_are)
+      (subst (λ (bs : List Counters). Does s p (Begin p.number request) (Refused refusal) (record { machine = n; events = s.events + 1; counters = bs; trace = s.trace; tidies = s.tidies }) q) (set_own run counters_are)
+      (subst (λ (r : PassView). Does s p (Begin p.number request) (Refused refusal) (record { machine = n; events = s.events + 1; counters = set s.counters (p.number.0 - 1) (counters_after run b); trace = s.trace; tidies = s.tidies }) r) (sym pass_is')
+      (opens s p there (counters_within p.number s.counters there) off.1 request run n b off.0 at_own here far refl refl refl makes)))
 
-  pub ran_as_counted : (call : CallNo) (run : Run) (begun : MachineView) → IsKept s → s.events + (run.steps + 1) < 2 ^ 64 → p.events + (run.steps + 1) < 2 ^ 64 → Makes s.machine (Begin p.number request) (Call call) begun → GoesThrough begun call run n
-      → books ≡ set items (p.number.0 - 1) (book_after (record run { steps = run.steps + 1 }) b) → events ≡ s.events + (run.steps + 1) → q ≡ pass_after (record run { steps = run.steps + 1 }) p
-      → IsStarted Does s p request (Ran call run.last) (record { machine = n; events = events; books = books; trace = s.trace; tidies = s.tidies }) q
-  ran_as_counted call run begun k here far makes went books_are events_are pass_is' =
+  pub ran_as_counted : (call : CallNo) (run : Run) (begun : MachineView) → IsInner s → s.events + (run.steps + 1) < 2 ^ 64 → p.events + (run.steps + 1) < 2 ^ 64 → Makes s.machine (Begin p.number request) (Call call) begun → GoesThrough begun call run n
+      → counters ≡ set items (p.number.0 - 1) (counters_after (record run { steps = run.steps + 1 }) b) → events ≡ s.events + (run.steps + 1) → q ≡ pass_after (record run { steps = run.steps + 1 }) p
+      → IsStarted Does s p request (Ran call run.last) (record { machine = n; events = events; counters = counters; trace = s.trace; tidies = s.tidies }) q
+  ran_as_counted call run begun k here far makes went counters_are events_are pass_is' =
       let more : Run = record run { steps = run.steps + 1 } in
-      subst (λ (e : ℕ). IsStarted Does s p request (Ran call run.last) (record { machine = n; events = e; books = books; trace = s.trace; tidies = s.tidies }) q) (sym events_are)
-      (subst (λ (bs : List Book). IsStarted Does s p request (Ran call run.last) (record { machine = n; events = s.events + (run.steps + 1); books = bs; trace = s.trace; tidies = s.tidies }) q) (set_own more books_are)
-      (subst (λ (r : PassView). IsStarted Does s p request (Ran call run.last) (record { machine = n; events = s.events + (run.steps + 1); books = set s.books (p.number.0 - 1) (book_after more b); trace = s.trace; tidies = s.tidies }) r) (sym pass_is')
+      subst (λ (e : ℕ). IsStarted Does s p request (Ran call run.last) (record { machine = n; events = e; counters = counters; trace = s.trace; tidies = s.tidies }) q) (sym events_are)
+      (subst (λ (bs : List Counters). IsStarted Does s p request (Ran call run.last) (record { machine = n; events = s.events + (run.steps + 1); counters = bs; trace = s.trace; tidies = s.tidies }) q) (set_own more counters_are)
+      (subst (λ (r : PassView). IsStarted Does s p request (Ran call run.last) (record { machine = n; events = s.events + (run.steps + 1); counters = set s.counters (p.number.0 - 1) (counters_after more b); trace = s.trace; tidies = s.tidies }) r) (sym pass_is')
       (starts_own s p request call run begun n b k off there at_own here far makes went)))
 
 -- what the lock keeps is kept by a start
-pub started_keeps : (s : KeptView) (p : PassView) (request : Request) (call : CallNo) (last : Outcome) (t : KeptView) (q : PassView) → IsKept s → IsStarted Does s p request (Ran call last) t q → IsKept t
+pub started_keeps : (s : InnerView) (p : PassView) (request : Request) (call : CallNo) (last : Outcome) (t : InnerView) (q : PassView) → IsInner s → IsStarted Does s p request (Ran call last) t q → IsInner t
 started_keeps s p request call last t q k (m, r, begun, gone) = gone_keep m r call last t q (does_keep s p (Begin p.number request) (Call call) m r k begun.0) gone
 
 -- the machine's commits after a run
@@ -363,13 +363,13 @@ abbrev pub somewhere : (S : Type 0) → EventLaw S
 somewhere S = λ _ p event outcome _ q. DoesSomewhere p event outcome q
 
 module _ {S : Type 0} (x : S) where
-  pub runs_somewhere : (s : KeptView) (p : PassView) (xs : List Entry) (t : KeptView) (q : PassView) → IsKept s → Runs Does s p xs t q → Runs (somewhere S) x p xs x q
+  pub runs_somewhere : (s : InnerView) (p : PassView) (xs : List Entry) (t : InnerView) (q : PassView) → IsInner s → Runs Does s p xs t q → Runs (somewhere S) x p xs x q
   runs_somewhere s p [] t q k run = (refl, run.1)
   runs_somewhere s p (y ∷ xs) t q k run =
       let kept = does_keep s p y.event y.outcome run.0 run.1 k run.2 in
       (x, run.1, record { before = s; then = run.0; kept = k; does = run.2; keeps = kept }, runs_somewhere run.0 run.1 xs t q kept run.3)
 
-  pub gone_somewhere : (s : KeptView) (p : PassView) (call : CallNo) (last : Outcome) (t : KeptView) (q : PassView) (y : S) → IsKept s → HasGone Does s p call last t q → HasGone (somewhere S) x p call last y q
+  pub gone_somewhere : (s : InnerView) (p : PassView) (call : CallNo) (last : Outcome) (t : InnerView) (q : PassView) (y : S) → IsInner s → HasGone Does s p call last t q → HasGone (somewhere S) x p call last y q
   gone_somewhere s p call last t q y k g =
       let between = runs_keep s p g.steps g.then g.between k g.runs in
       record {
@@ -386,10 +386,10 @@ module _ {S : Type 0} (x : S) where
         told = g.told;
       }
 
-  begun_somewhere : (s : KeptView) (p : PassView) (request : Request) (o : Outcome) (t : KeptView) (q : PassView) (y : S) → IsKept s → IsBegun Does s p request o t q → IsBegun (somewhere S) x p request o y q
+  begun_somewhere : (s : InnerView) (p : PassView) (request : Request) (o : Outcome) (t : InnerView) (q : PassView) (y : S) → IsInner s → IsBegun Does s p request o t q → IsBegun (somewhere S) x p request o y q
   begun_somewhere s p request o t q y k b = (record { before = s; then = t; kept = k; does = b.0; keeps = does_keep s p (Begin p.number request) o t q k b.0 }, b.1)
 
-  pub started_somewhere : (s : KeptView) (p : PassView) (request : Request) (started : Started) (t : KeptView) (q : PassView) (y : S) → IsKept s → IsStarted Does s p request started t q → IsStarted (somewhere S) x p request started y q
+  pub started_somewhere : (s : InnerView) (p : PassView) (request : Request) (started : Started) (t : InnerView) (q : PassView) (y : S) → IsInner s → IsStarted Does s p request started t q → IsStarted (somewhere S) x p request started y q
   started_somewhere s p request (RefusedStart refusal) t q y k is = begun_somewhere s p request (Refused refusal) t q y k is
   started_somewhere s p request (Begun call) t q y k is = begun_somewhere s p request (Call call) t q y k is
   started_somewhere s p request (Ran call last) t q y k (m, r, b, g) =

@@ -1,4 +1,4 @@
--- What a pass learns from an event of Kept.
+-- What a pass learns from an event of Inner.
 use Rattle.std.proofs.Common.{sym, ap, ◌≡◌, ◌∙◌, ℕ, refl, length, Option, Some, None, inl, inr, Bool, true, false, not, eqb}
 use Rattle.std.specs.Prelude.{MatchBool}
 use Rattle.std.specs.Option.{option_map}
@@ -16,9 +16,9 @@ use Rattle.mt_index.specs.Stands.{MachineView, Stands}
 use Rattle.mt_index.proofs.PairedLemmas.{paired-pass}
 use Rattle.mt_shared.specs.Passes.{PassView, IsTold, Suits}
 use Rattle.mt_index.specs.Events.{Makes}
-use Rattle.mt_shared.specs.Kept.{KeptView, IsKept, Does, IsMade, IsUnmade, is_wrong, is_spent, is_foreign, is_other}
+use Rattle.mt_shared.specs.Inner.{InnerView, IsInner, Does, IsMade, IsUnmade, is_wrong, is_spent, is_foreign, is_other}
 use Rattle.mt_shared.proofs.HappeningLemmas.{begin_suits, step_suits, apply_suits, page_suits, drop_suits}
-use Rattle.mt_shared.proofs.KeptLemmas.{in_books}
+use Rattle.mt_shared.proofs.InnerLemmas.{in_counters}
 
 own_number : (p n : ℕ) → not (eqb p n) ≡ false → p ≡ n
 own_number p n h = elim (eqb_tells p n) [ inl e ↦ e.1 | inr e ↦ absurd (clash (sym (ap not e.0) ∙ h)) ]
@@ -44,11 +44,11 @@ suits m n h pass (ViewDrop view) o st makes mine = let (opens, then) = makes.sta
 suits m n h pass Advance o st makes mine = tt
 suits m n h pass Collect o st makes mine = tt
 
-told_at : (s : KeptView) (p : PassView) (e : Event) (o : Outcome) (t : KeptView) (q : PassView) (b c : Bool) → b ≡ is_wrong s p.number e → IsKept s
+told_at : (s : InnerView) (p : PassView) (e : Event) (o : Outcome) (t : InnerView) (q : PassView) (b c : Bool) → b ≡ is_wrong s p.number e → IsInner s
     → MatchBool b (IsUnmade WrongPass s p o t q) (MatchBool c (IsUnmade Spent s p o t q) (IsMade s p e o t q)) → IsTold p e o q
 told_at s p e o t q true c is k h = inl (inl h.0, h.2)
 told_at s p e o t q false true is k h = inl (inr h.0, h.2)
-told_at s p e o t q false false is k h = let (past, st, long, told) = k.stands in inr (h.counts, suits s.machine t.machine past p.number e o st h.makes (in_books s p.number e is).1)
+told_at s p e o t q false false is k h = let (past, st, long, told) = k.stands in inr (h.counts, suits s.machine t.machine past p.number e o st h.makes (in_counters s p.number e is).1)
 
-pub does_tell : (s : KeptView) (p : PassView) (e : Event) (o : Outcome) (t : KeptView) (q : PassView) → IsKept s → Does s p e o t q → IsTold p e o q
+pub does_tell : (s : InnerView) (p : PassView) (e : Event) (o : Outcome) (t : InnerView) (q : PassView) → IsInner s → Does s p e o t q → IsTold p e o q
 does_tell s p e o t q k h = told_at s p e o t q (is_wrong s p.number e) (is_spent s p) refl k h

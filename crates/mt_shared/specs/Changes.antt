@@ -12,7 +12,7 @@ use Rattle.mt_shared.specs.declared.changing.Changed.{Changed}
 use Rattle.mt_shared.specs.declared.changing.Changed.TheVariants.{Started as StartedOnly, Ended}
 use Rattle.mt_shared.specs.declared.driving.Started.{Started}
 use Rattle.mt_shared.specs.declared.driving.Started.TheVariants.{Ran}
-use Rattle.mt_shared.specs.Kept.{KeptView, StartsFully}
+use Rattle.mt_shared.specs.Inner.{InnerView, StartsFully}
 use Rattle.mt_shared.specs.Passes.{PassView}
 use Rattle.mt_shared.specs.Drives.{EventLaw, IsDrive, IsStarted, StartIsLimited}
 use Rattle.mt_shared.specs.Turns.{KeepsUp, IsStopped}
@@ -53,7 +53,7 @@ ChangeIsLimited (StartedOnly started) = StartIsLimited started
 ChangeIsLimited (Ended reply) = AnswerIsLimited reply.answer
 
 -- a call that was only started has made all the events that it may, or no more can be counted (see `StartsFully`)
-abbrev pub ChangesFully : KeptView → PassView → ℕ → Changed → KeptView → PassView → Type 0
+abbrev pub ChangesFully : InnerView → PassView → ℕ → Changed → InnerView → PassView → Type 0
 ChangesFully s p most (StartedOnly started) t q = StartsFully s p most started t q
 ChangesFully s p most (Ended reply) t q = Unit {0}
 

@@ -11,7 +11,7 @@ use Rattle.mt_view.specs.Views.{state_at}
 use Rattle.mt_index.specs.Feed.{feed_fault}
 use Rattle.mt_index.specs.Viewing.{CopiesView}
 use Rattle.mt_index.specs.Stands.{MachineView, Stands}
-use Rattle.mt_shared.specs.Kept.{KeptView, IsKept, IsRefusedBy}
+use Rattle.mt_shared.specs.Inner.{InnerView, IsInner, IsRefusedBy}
 
 -- at each history at which the machine is, these are the deltas of its commits after the first `from`, at most `limit`
 abbrev pub AreNext : MachineView → ℕ → ℕ → List Delta → Type 0
@@ -25,8 +25,8 @@ pub record Feeds (m : MachineView) (from limit : ℕ) (result : Result (Vec Delt
 
 -- the feed of something that the lock keeps
 pub record FeedsSomewhere (from limit : ℕ) (result : Result (Vec Delta) Refusal) : Type 0 where
-  pub kept : KeptView
-  pub keeps : IsKept kept
+  pub kept : InnerView
+  pub keeps : IsInner kept
   pub feeds : Feeds kept.machine from limit result
 
 -- The copy of a view of a machine: the state of the view, with the number of commits at which the view is. At each
@@ -40,6 +40,6 @@ pub record Copies (m : MachineView) (view : ℕ) (result : Result (ℕ × StateV
 
 -- the copy of a view of something that the lock keeps
 pub record CopiesSomewhere (view : ℕ) (result : Result (ℕ × StateView) Refusal) : Type 0 where
-  pub kept : KeptView
-  pub keeps : IsKept kept
+  pub kept : InnerView
+  pub keeps : IsInner kept
   pub copies : Copies kept.machine view result

@@ -1,8 +1,8 @@
 pub mod Tidies
 pub mod Traces
 pub mod Passes
-pub mod Books
-pub mod Kept
+pub mod Counters
+pub mod Inner
 pub mod Drives
 pub mod Turns
 pub mod Feeds

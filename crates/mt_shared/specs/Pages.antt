@@ -10,15 +10,15 @@ use Rattle.mt_index.specs.Viewing.{page_outcome}
 use Rattle.mt_shared.specs.declared.trace.Trace.TheVariants.{Off}
 use Rattle.mt_shared.specs.Passes.{PassView, IsTold}
 use Rattle.mt_shared.specs.Drives.{EventLaw}
-use Rattle.mt_shared.specs.Kept.{KeptView, IsKept, has_book}
+use Rattle.mt_shared.specs.Inner.{InnerView, IsInner, has_counters}
 
--- the pass has a book, and no trace is kept, in which a page would be missing
-abbrev pub MayPage : KeptView → PassNo → Type 0
-MayPage s pass = (has_book pass s.books ≡ true) × (s.trace ≡ Off)
+-- the pass has counters, and no trace is kept, in which a page would be missing
+abbrev pub MayPage : InnerView → PassNo → Type 0
+MayPage s pass = (has_counters pass s.counters ≡ true) × (s.trace ≡ Off)
 
 -- What a page at once of a pass gives: what the event that reads the page would come to at this moment. That event
 -- changes nothing of the machine. It gives nothing exactly if the page may not be read at once.
-pub record PagesNow (s : KeptView) (pass : PassNo) (view : ViewNo) (floor : ℕ) (start : List ℕ) (limit : ℕ)
+pub record PagesNow (s : InnerView) (pass : PassNo) (view : ViewNo) (floor : ℕ) (start : List ℕ) (limit : ℕ)
     (result : Option (Result Page Refusal)) : Type 0 where
   pub may : IsSome result ↔ MayPage s pass
   pub page : IfSome result (λ read. Makes s.machine (ViewRead view floor start limit) (page_outcome read) s.machine)
@@ -26,8 +26,8 @@ pub record PagesNow (s : KeptView) (pass : PassNo) (view : ViewNo) (floor : ℕ)
 -- the same of something that the lock keeps
 pub record PagesSomewhere (pass : PassNo) (view : ViewNo) (floor : ℕ) (start : List ℕ) (limit : ℕ)
     (result : Option (Result Page Refusal)) : Type 0 where
-  pub kept : KeptView
-  pub keeps : IsKept kept
+  pub kept : InnerView
+  pub keeps : IsInner kept
   pub pages : PagesNow kept pass view floor start limit result
 
 -- ---- a page that may be read at once

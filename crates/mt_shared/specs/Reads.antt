@@ -16,7 +16,7 @@ use Rattle.mt_index.specs.Stands.{MachineView, Stands}
 use Rattle.mt_shared.specs.declared.trace.Trace.TheVariants.{Off}
 use Rattle.mt_shared.specs.Passes.{PassView}
 use Rattle.mt_shared.specs.Drives.{EventLaw, IsDrive}
-use Rattle.mt_shared.specs.Kept.{KeptView, IsKept, IsRefusedBy, has_book}
+use Rattle.mt_shared.specs.Inner.{InnerView, IsInner, IsRefusedBy, has_counters}
 
 -- a get or a range
 abbrev pub IsRead : Request → Type 0
@@ -31,9 +31,9 @@ IsReadAnswer (Found row) = Unit {0}
 IsReadAnswer (Rows pairs) = Unit {0}
 IsReadAnswer _ = ⊥
 
--- the pass has a book, no put, remove or tidy is open, and no trace is kept, in which a read would be missing
-abbrev pub MayRead : KeptView → PassNo → Type 0
-MayRead s pass = (has_book pass s.books ≡ true) × IsQuiet s.machine × (s.trace ≡ Off)
+-- the pass has counters, no put, remove or tidy is open, and no trace is kept, in which a read would be missing
+abbrev pub MayRead : InnerView → PassNo → Type 0
+MayRead s pass = (has_counters pass s.counters ≡ true) × IsQuiet s.machine × (s.trace ≡ Off)
 
 -- at each history at which the machine is, the answer is that of a plain map of the rows
 abbrev pub IsPlainNow : MachineView → Request → Answer → Type 0
@@ -46,7 +46,7 @@ IsNow m at = (h : History) → Stands m h → at ≡ length (moment h).commits
 
 -- What a read at once of a pass gives for this request: the number of commits and the answer; or the refusal that is due,
 -- or out of memory. It gives nothing exactly if the request is no read, or may not be read at once.
-pub record ReadsNow (s : KeptView) (pass : PassNo) (request : Request)
+pub record ReadsNow (s : InnerView) (pass : PassNo) (request : Request)
     (result : Option (Result (ℕ × Answer) Refusal)) : Type 0 where
   pub may : IsSome result ↔ (IsRead request × MayRead s pass)
   pub answer : IfSome result (λ read. IfOk read (λ now. IsNow s.machine now.0 × IsPlainNow s.machine request now.1))
@@ -55,8 +55,8 @@ pub record ReadsNow (s : KeptView) (pass : PassNo) (request : Request)
 -- the same of something that the lock keeps
 pub record ReadsSomewhere (pass : PassNo) (request : Request)
     (result : Option (Result (ℕ × Answer) Refusal)) : Type 0 where
-  pub kept : KeptView
-  pub keeps : IsKept kept
+  pub kept : InnerView
+  pub keeps : IsInner kept
   pub reads : ReadsNow kept pass request result
 
 -- ---- a call that may be a read at once

@@ -14,7 +14,7 @@ use Rattle.mt_index.specs.Alone.{IsQuiet}
 use Rattle.mt_walk.specs.Emptied.{IsEmptied}
 use Rattle.mt_walk.specs.Removes.{RemovesNone, RemovesWithin}
 use Rattle.mt_walk.specs.declared.place.TheConstants.{MAX_TIDIES}
-use Rattle.mt_shared.specs.Kept.{KeptView, IsKept}
+use Rattle.mt_shared.specs.Inner.{InnerView, IsInner}
 use Rattle.mt_shared.specs.Passes.{PassView}
 use Rattle.mt_shared.specs.Drives.{EventLaw, IsDrive}
 use Rattle.mt_shared.specs.Changes.{IsDriveKept, has_changed}
@@ -27,15 +27,15 @@ LookLaw S = S → List ℕ → Bool → Type 0
 
 -- A LOOK at a key's border, if tidies follow removes: whether it is empty. While a put, remove or tidy is open, it isn't
 -- looked at, and counts as empty.
-abbrev pub Looks : LookLaw KeptView
+abbrev pub Looks : LookLaw InnerView
 Looks s key empty =
     MatchBool s.tidies ((IsQuiet s.machine × IsEmptied s.machine.tree key empty)
     ⊎ ((IsQuiet s.machine → ⊥) × (empty ≡ true))) (empty ≡ false)
 
 -- the same of something that the lock keeps
 pub record LooksSomewhere (key : List ℕ) (empty : Bool) : Type 0 where
-  pub kept : KeptView
-  pub keeps : IsKept kept
+  pub kept : InnerView
+  pub keeps : IsInner kept
   pub looks : Looks kept key empty
 
 -- ---- tidies

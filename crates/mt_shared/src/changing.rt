@@ -3,11 +3,11 @@
 ghost use Rattle.std.specs.Prelude.{◌≡◌, ◌≤◌, ◌<◌, ◌⊎◌, IfOk, IsFalse, IsTrue, false, true};
 ghost use Rattle.mt_types.specs.Limited.{AnswerIsLimited};
 ghost use Rattle.mt_shared.specs.Changes.{ChangeIsLimited, ChangesFully, IsChanged, IsDriveKept, KeepsViews, has_changed, is_change};
-ghost use Rattle.mt_shared.specs.Kept.{Does, IsKept};
+ghost use Rattle.mt_shared.specs.Inner.{Does, IsInner};
 ghost use Rattle.mt_shared.specs.Tidies.{IsDriveTidied};
 
 use crate::driving::{NoGate, Shared, Started, finish};
-use crate::kept::Kept;
+use crate::inner::Inner;
 use crate::pass::Pass;
 use crate::tidying::tidy_after;
 use crate::views::keep_views;
@@ -52,11 +52,11 @@ fn has_changed(ended: &Result<Reply, Refusal>) -> bool
     }
 }
 
-impl Kept {
+impl Inner {
     // Advances the view that is furthest behind, in at most `turns` turns.
     fn keep(&mut self, alloc: Global, pass: &mut Pass, turns: u64)
         ensures keeps { KeepsViews Does self.old pass.old turns self.new pass.new }
-        ensures kept { IsKept self.old × IsKept self.new }
+        ensures kept { IsInner self.old × IsInner self.new }
     {
         let _kept = self.columns();
         for _ in 0..turns {
@@ -67,7 +67,7 @@ impl Kept {
         }
     }
 
-    /// Begins a call of a pass, as [`Kept::begin`] does. If the run ends it by a change, views are then kept up, in at
+    /// Begins a call of a pass, as [`Inner::begin`] does. If the run ends it by a change, views are then kept up, in at
     /// most `turns` turns. A turn that is refused changes nothing.
     pub fn change(
         &mut self,
@@ -80,7 +80,7 @@ impl Kept {
         ensures changes { IsChanged Does self.old pass.old request turns result self.new pass.new }
         ensures fully { ChangesFully self.old pass.old most result self.new pass.new }
         ensures limited { ChangeIsLimited result }
-        ensures kept { IsKept self.old × IsKept self.new }
+        ensures kept { IsInner self.old × IsInner self.new }
     {
         let seen = pass.seen();
         match self.begin(alloc, pass, request, most) {

@@ -1,7 +1,7 @@
 //! The access of one thread to a map that many threads share.
 
 ghost use Rattle.mt_shared.specs.Feeds.{CopiesSomewhere, FeedsSomewhere};
-ghost use Rattle.mt_shared.specs.Kept.{DoesSomewhere};
+ghost use Rattle.mt_shared.specs.Inner.{DoesSomewhere};
 ghost use Rattle.mt_shared.specs.Pages.{PagesSomewhere};
 ghost use Rattle.mt_shared.specs.Reads.{ReadsSomewhere};
 ghost use Rattle.mt_shared.specs.Tidies.{LooksSomewhere};
@@ -90,14 +90,14 @@ impl<'a, W: Wait> Shared for Door<'a, W> {
     // somewhere in the order in which the lock is held it was an event on what lay there
     ghost does = { λ _ p event outcome _ q. DoesSomewhere p event outcome q };
 
-    /// Holds the lock once, for one `Kept::event`.
+    /// Holds the lock once, for one `Inner::event`.
     fn event(&mut self, alloc: Global, pass: &mut Pass, event: &Event) -> Outcome {
         let index = self.index;
         let _turn = index.turn.take();
         index.kept.write(self.wait).event(alloc, pass, event)
     }
 
-    /// Holds the lock once, for one `Kept::begin`.
+    /// Holds the lock once, for one `Inner::begin`.
     fn begin(&mut self, alloc: Global, pass: &mut Pass, request: Request) -> Started {
         let index = self.index;
         let _turn = index.turn.take();
@@ -105,7 +105,7 @@ impl<'a, W: Wait> Shared for Door<'a, W> {
         kept.begin(alloc, pass, request, self.most)
     }
 
-    /// Holds the lock once, for one `Kept::change`.
+    /// Holds the lock once, for one `Inner::change`.
     fn change(&mut self, alloc: Global, pass: &mut Pass, request: Request, turns: u64) -> Changed {
         let index = self.index;
         let _turn = index.turn.take();
@@ -113,7 +113,7 @@ impl<'a, W: Wait> Shared for Door<'a, W> {
         kept.change(alloc, pass, request, self.most, turns)
     }
 
-    /// Holds the lock once, for one `Kept::go`.
+    /// Holds the lock once, for one `Inner::go`.
     fn go(&mut self, alloc: Global, pass: &mut Pass, call: CallNo) -> Outcome {
         let index = self.index;
         let _turn = index.turn.take();
@@ -124,7 +124,7 @@ impl<'a, W: Wait> Shared for Door<'a, W> {
     // somewhere in the order in which the lock is held it was read of what lay there
     ghost shows = { λ _ pass request result. ReadsSomewhere pass request result };
 
-    /// Holds the lock once, together with other reads, for one `Kept::read`.
+    /// Holds the lock once, together with other reads, for one `Inner::read`.
     fn read(
         &self,
         alloc: Global,
@@ -138,7 +138,7 @@ impl<'a, W: Wait> Shared for Door<'a, W> {
     // somewhere in the order in which the lock is held it was read of what lay there
     ghost pages = { λ _ pass view floor start limit result. PagesSomewhere pass view floor start limit result };
 
-    /// Holds the lock once, together with other reads, for one `Kept::page`.
+    /// Holds the lock once, together with other reads, for one `Inner::page`.
     fn page(
         &self,
         alloc: Global,
@@ -158,7 +158,7 @@ impl<'a, W: Wait> Shared for Door<'a, W> {
     // somewhere in the order in which the lock is held it was looked at what lay there
     ghost looks = { λ _ key empty. LooksSomewhere key empty };
 
-    /// Holds the lock once, together with other reads, for one `Kept::is_emptied`.
+    /// Holds the lock once, together with other reads, for one `Inner::is_emptied`.
     fn is_emptied(&self, key: &Key) -> bool {
         let index = self.index;
         index.kept.read(self.wait).is_emptied(key)

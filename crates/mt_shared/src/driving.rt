@@ -102,7 +102,7 @@ pub trait Shared {
     /// What a page at once of a pass gives, of what is shared: by the view, the floor, the first key and the limit.
     ghost pages: { Self → PassNo → ViewNo → ℕ → List ℕ → ℕ → Option (Result Page Refusal) → Type 0 };
 
-    /// Reads a page of a view at once, if it may, as `Kept::page` does. Makes no event.
+    /// Reads a page of a view at once, if it may, as `Inner::page` does. Makes no event.
     fn page(
         &self,
         alloc: Global,
@@ -119,7 +119,7 @@ pub trait Shared {
     /// What a look says of a key's border, of what is shared.
     ghost looks: { Self → List ℕ → Bool → Type 0 };
 
-    /// Returns whether tidies are to follow a remove of `key`, as `Kept::is_emptied` does. Makes no event.
+    /// Returns whether tidies are to follow a remove of `key`, as `Inner::is_emptied` does. Makes no event.
     fn is_emptied(&self, key: &Key) -> bool
         ensures looks { looks self.now key.now result };
 }

@@ -1,6 +1,6 @@
 //! A door that may keep the lock between calls, for a list of calls that one thread makes one after the other.
 
-ghost use Rattle.mt_shared.specs.Kept.{DoesSomewhere};
+ghost use Rattle.mt_shared.specs.Inner.{DoesSomewhere};
 ghost use Rattle.mt_shared.specs.Reads.{ReadsSomewhere};
 ghost use Rattle.mt_shared.specs.Pages.{PagesSomewhere};
 ghost use Rattle.mt_shared.specs.Tidies.{LooksSomewhere};
@@ -8,7 +8,7 @@ ghost use Rattle.mt_shared.specs.Tidies.{LooksSomewhere};
 use crate::changing::Changed;
 use crate::door::Door;
 use crate::driving::{Hold, Shared, Started};
-use crate::kept::Kept;
+use crate::inner::Inner;
 use crate::map::SharedMap;
 use crate::pass::Pass;
 use crate::turn::Taken;
@@ -39,9 +39,9 @@ pub struct HoldingDoor<'a, W> {
 #[derive(Drop)]
 enum Held<'a> {
     Nothing,
-    Reads(RwLockReadGuard<'a, Kept>),
+    Reads(RwLockReadGuard<'a, Inner>),
     // (the turn is given back after the lock)
-    Changes(RwLockWriteGuard<'a, Kept>, Taken<'a>),
+    Changes(RwLockWriteGuard<'a, Inner>, Taken<'a>),
 }
 
 // (how the lock is kept is no part of what contracts see)
@@ -89,7 +89,7 @@ impl<'a, W: Wait> Shared for HoldingDoor<'a, W> {
     // somewhere in the order in which the lock is held it was an event on what lay there
     ghost does = { λ _ p event outcome _ q. DoesSomewhere p event outcome q };
 
-    /// Makes one `Kept::event`, if the event frees nodes or advances the epoch and the lock is kept for changes; otherwise
+    /// Makes one `Inner::event`, if the event frees nodes or advances the epoch and the lock is kept for changes; otherwise
     /// releases it, and does what `Door::event` does.
     fn event(&mut self, alloc: Global, pass: &mut Pass, event: &Event) -> Outcome {
         if let (Held::Changes(kept, _), Event::Advance | Event::Collect) = (&mut self.held, event) {
@@ -99,7 +99,7 @@ impl<'a, W: Wait> Shared for HoldingDoor<'a, W> {
         self.door.event(alloc, pass, event)
     }
 
-    /// Makes one `Kept::begin`, if the request is a tidy and the lock is kept for changes; otherwise releases it, and does
+    /// Makes one `Inner::begin`, if the request is a tidy and the lock is kept for changes; otherwise releases it, and does
     /// what `Door::begin` does.
     fn begin(&mut self, alloc: Global, pass: &mut Pass, request: Request) -> Started {
         if let (Held::Changes(kept, _), Request::Tidy { .. }) = (&mut self.held, &request) {
@@ -113,7 +113,7 @@ impl<'a, W: Wait> Shared for HoldingDoor<'a, W> {
         self.door.begin(alloc, pass, request)
     }
 
-    /// Makes one `Kept::change`, if the lock is kept for changes; otherwise releases it, and does what
+    /// Makes one `Inner::change`, if the lock is kept for changes; otherwise releases it, and does what
     /// `Door::change` does.
     fn change(&mut self, alloc: Global, pass: &mut Pass, request: Request, turns: u64) -> Changed {
         if let Held::Changes(kept, _) = &mut self.held {
@@ -136,7 +136,7 @@ impl<'a, W: Wait> Shared for HoldingDoor<'a, W> {
     // somewhere in the order in which the lock is held it was read of what lay there
     ghost shows = { λ _ pass request result. ReadsSomewhere pass request result };
 
-    /// Makes one `Kept::read`, if the lock is kept; otherwise does what `Door::read` does.
+    /// Makes one `Inner::read`, if the lock is kept; otherwise does what `Door::read` does.
     fn read(
         &self,
         alloc: Global,
@@ -153,7 +153,7 @@ impl<'a, W: Wait> Shared for HoldingDoor<'a, W> {
     // somewhere in the order in which the lock is held it was read of what lay there
     ghost pages = { λ _ pass view floor start limit result. PagesSomewhere pass view floor start limit result };
 
-    /// Makes one `Kept::page`, if the lock is kept; otherwise does what `Door::page` does.
+    /// Makes one `Inner::page`, if the lock is kept; otherwise does what `Door::page` does.
     fn page(
         &self,
         alloc: Global,
@@ -173,7 +173,7 @@ impl<'a, W: Wait> Shared for HoldingDoor<'a, W> {
     // somewhere in the order in which the lock is held it was looked at what lay there
     ghost looks = { λ _ key empty. LooksSomewhere key empty };
 
-    /// Makes one `Kept::is_emptied`, if the lock is kept; otherwise does what `Door::is_emptied` does.
+    /// Makes one `Inner::is_emptied`, if the lock is kept; otherwise does what `Door::is_emptied` does.
     fn is_emptied(&self, key: &Key) -> bool {
         match &self.held {
             Held::Nothing => self.door.is_emptied(key),

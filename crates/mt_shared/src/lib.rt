@@ -1,15 +1,15 @@
-//! Many threads on one index: a lock around the machine and its books, passes by which callers make events, and calls
+//! Many threads on one index: a lock around the machine and its counters, passes by which callers make events, and calls
 //! that are driven to their end run by run.
 #![tactic(auto)]
 
 pub mod asking;
-pub mod book;
 pub mod changing;
 pub mod client;
+pub mod counters;
 pub mod door;
 pub mod driving;
 pub mod holding;
-pub mod kept;
+pub mod inner;
 pub mod lone;
 pub mod map;
 pub mod moment;

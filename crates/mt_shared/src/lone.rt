@@ -5,7 +5,7 @@ ghost use Rattle.mt_types.specs.Limited.{AnswerIsLimited, OutcomeIsLimited, Page
 ghost use Rattle.mt_types.specs.Limits.{open_fault};
 ghost use Rattle.mt_shared.specs.Passes.{IsNewPass};
 ghost use Rattle.mt_shared.specs.Traces.{IsNewTrace};
-ghost use Rattle.mt_shared.specs.Kept.{Does, IsKept, IsFresh, IsRefusedBy};
+ghost use Rattle.mt_shared.specs.Inner.{Does, IsInner, IsFresh, IsRefusedBy};
 ghost use Rattle.mt_shared.specs.Feeds.{Feeds, Copies};
 ghost use Rattle.mt_shared.specs.Changes.{ChangeIsLimited, IsChanged};
 ghost use Rattle.mt_shared.specs.Drives.{HasGone, IsStarted, StartIsLimited};
@@ -16,7 +16,7 @@ ghost use Rattle.mt_shared.specs.Passes.{IsTold};
 
 use crate::changing::Changed;
 use crate::driving::{Hold, Shared, Started};
-use crate::kept::Kept;
+use crate::inner::Inner;
 use crate::pass::Pass;
 use bytes::Bytes;
 use mt_index::options::Options;
@@ -32,16 +32,16 @@ use std::marker::Model;
 
 /// The machine of one caller. Its calls never wait for another thread.
 pub struct Lone {
-    kept: Kept,
+    kept: Inner,
 }
 
 impl Model for Lone {
     ghost use Rattle.std.specs.Coded.{codes};
     ghost use Rattle.mt_scan.specs.CursorCode.{place_code};
     ghost use Rattle.mt_view.specs.StateCode.{state_code};
-    ghost use Rattle.mt_shared.specs.Kept.{KeptView};
+    ghost use Rattle.mt_shared.specs.Inner.{InnerView};
 
-    ghost Value = { KeptView };
+    ghost Value = { InnerView };
 
     ghost coded = { Prim.hlevel (codes, place_code, state_code) };
 
@@ -65,9 +65,9 @@ impl Lone {
         ensures opened { IfOk result (λ r. IsFresh options 1 r.0) }
         ensures pass { IfOk result (λ r. IsNewPass false 1 r.1) }
         ensures trace { IfOk result (λ r. IsNewTrace false r.0.trace) }
-        ensures fault { IsRefusedBy (open_fault options.columns options.feed options.keep) result }
+        ensures fault { IsRefusedBy (open_fault options.columns options.log_capacity options.log_retention) result }
     {
-        let kept = Kept::open(alloc, options, 1, false)?;
+        let kept = Inner::open(alloc, options, 1, false)?;
         Ok((Lone { kept }, Pass::new(alloc, 1, false)))
     }
 
@@ -102,46 +102,46 @@ impl Shared for Lone {
 
     ghost does = { Does };
 
-    /// Does what `Kept::event` does.
+    /// Does what `Inner::event` does.
     fn event(&mut self, alloc: Global, pass: &mut Pass, event: &Event) -> Outcome
         ensures does { Does self.old pass.old event.now result self.new pass.new }
         ensures told { IsTold pass.old event.now result pass.new }
         ensures limited { OutcomeIsLimited result }
-        ensures kept { IsKept self.old × IsKept self.new }
+        ensures kept { IsInner self.old × IsInner self.new }
     {
         self.kept.event(alloc, pass, event)
     }
 
-    /// Does what `Kept::begin` does, without a limit of events.
+    /// Does what `Inner::begin` does, without a limit of events.
     fn begin(&mut self, alloc: Global, pass: &mut Pass, request: Request) -> Started
         ensures starts { IsStarted Does self.old pass.old request result self.new pass.new }
         ensures limited { StartIsLimited result }
-        ensures kept { IsKept self.old × IsKept self.new }
+        ensures kept { IsInner self.old × IsInner self.new }
     {
         self.kept.begin(alloc, pass, request, u64::MAX)
     }
 
-    /// Does what `Kept::change` does, without a limit of events.
+    /// Does what `Inner::change` does, without a limit of events.
     fn change(&mut self, alloc: Global, pass: &mut Pass, request: Request, turns: u64) -> Changed
         ensures changes { IsChanged Does self.old pass.old request turns result self.new pass.new }
         ensures limited { ChangeIsLimited result }
-        ensures kept { IsKept self.old × IsKept self.new }
+        ensures kept { IsInner self.old × IsInner self.new }
     {
         self.kept.change(alloc, pass, request, u64::MAX, turns)
     }
 
-    /// Does what `Kept::go` does, without a limit of events.
+    /// Does what `Inner::go` does, without a limit of events.
     fn go(&mut self, alloc: Global, pass: &mut Pass, call: CallNo) -> Outcome
         ensures goes { HasGone Does self.old pass.old call result self.new pass.new }
         ensures limited { OutcomeIsLimited result }
-        ensures kept { IsKept self.old × IsKept self.new }
+        ensures kept { IsInner self.old × IsInner self.new }
     {
         self.kept.go(alloc, pass, call, u64::MAX)
     }
 
     ghost shows = { ReadsNow };
 
-    /// Does what `Kept::read` does.
+    /// Does what `Inner::read` does.
     fn read(
         &self,
         alloc: Global,
@@ -151,14 +151,14 @@ impl Shared for Lone {
         ensures shows { ReadsNow self.now pass request.now result }
         ensures answer { IfSome result (λ read. IfOk read (λ now. IsReadAnswer now.1)) }
         ensures limited { IfSome result (λ read. IfOk read (λ now. AnswerIsLimited now.1)) }
-        ensures kept { IsKept self.now }
+        ensures kept { IsInner self.now }
     {
         self.kept.read(alloc, pass, request)
     }
 
     ghost pages = { PagesNow };
 
-    /// Does what `Kept::page` does.
+    /// Does what `Inner::page` does.
     fn page(
         &self,
         alloc: Global,
@@ -171,17 +171,17 @@ impl Shared for Lone {
         ensures pages { PagesNow self.now pass view floor start.now limit result }
         ensures floor { IfSome result (λ read. IfOk read (λ page. floor ≤ page.at)) }
         ensures limited { IfSome result (λ read. IfOk read PageIsLimited) }
-        ensures kept { IsKept self.now }
+        ensures kept { IsInner self.now }
     {
         self.kept.page(alloc, pass, view, floor, start, limit)
     }
 
     ghost looks = { Looks };
 
-    /// Does what `Kept::is_emptied` does.
+    /// Does what `Inner::is_emptied` does.
     fn is_emptied(&self, key: &Key) -> bool
         ensures looks { Looks self.now key.now result }
-        ensures kept { IsKept self.now }
+        ensures kept { IsInner self.now }
     {
         self.kept.is_emptied(key)
     }

@@ -1,11 +1,11 @@
-//! A map that many threads share: one lock around the machine and the books of its passes. Reads share the lock.
+//! A map that many threads share: one lock around the machine and the counters of its passes. Reads share the lock.
 
 ghost use Rattle.std.specs.Prelude.{◌≡◌, ◌⊎◌, true, false, IfOk, IfErr, All, length};
 ghost use Rattle.mt_shared.specs.Passes.{AreNewPasses, HasItsPart, events_by, commits_by};
 ghost use Rattle.mt_shared.specs.Traces.{IsLegalTrace, HaveHappened};
-ghost use Rattle.mt_shared.specs.Kept.{IsKept, IsRefusedBy, start_fault};
+ghost use Rattle.mt_shared.specs.Inner.{IsInner, IsRefusedBy, start_fault};
 
-use crate::kept::Kept;
+use crate::inner::Inner;
 use crate::pass::Pass;
 use crate::settling::Totals;
 use crate::trace::Entry;
@@ -23,7 +23,7 @@ pub struct SharedMap {
     columns: u64,
     // (a thread takes the turn before it asks for the lock alone)
     pub(crate) turn: Turn,
-    pub(crate) kept: RwLock<Kept>,
+    pub(crate) kept: RwLock<Inner>,
 }
 
 impl Model for SharedMap {
@@ -95,7 +95,7 @@ impl SharedMap {
         if let Some(refusal) = start_fault(options, passes) {
             return Err(refusal);
         }
-        let kept = Kept::open(alloc, options, passes as u16, traced)?;
+        let kept = Inner::open(alloc, options, passes as u16, traced)?;
         let passes = new_passes(alloc, passes as u16, traced)?;
         let index = SharedMap {
             columns: options.columns,
@@ -110,7 +110,7 @@ impl SharedMap {
     ///
     /// # Errors
     ///
-    /// `WrongPass` if a pass is missing or comes twice, or if its counts aren't those of its book. The index and the
+    /// `WrongPass` if a pass is missing or comes twice, or if its counts aren't those of its counters. The index and the
     /// passes are dropped in any case.
     pub fn close(self, passes: Vec<Pass>) -> Result<Totals, Refusal>
         ensures events { IfOk result (λ totals. totals.events ≡ events_by passes.items) }
@@ -118,7 +118,7 @@ impl SharedMap {
         ensures history { IfOk result (λ totals. HaveHappened self totals.events totals.commits) }
         ensures refused { IfErr result (λ refusal. refusal ≡ Refusal.WrongPass) }
     {
-        self.into_kept()?.settle(&passes)
+        self.into_guarded()?.settle(&passes)
     }
 
     /// Closes an index of [`SharedMap::record`], and returns the trace of all events that were made on it, in the order in
@@ -134,12 +134,12 @@ impl SharedMap {
         ensures count { IfOk result (λ trace. length trace.items ≡ events_by passes.items) }
         ensures refused { IfErr result (λ refusal. (refusal ≡ Refusal.WrongPass) ⊎ (refusal ≡ Refusal.NoMemory)) }
     {
-        self.into_kept()?.settle_trace(&passes)
+        self.into_guarded()?.settle_trace(&passes)
     }
 
     // Returns what the lock guards, if it has this index's number of columns.
-    fn into_kept(self) -> Result<Kept, Refusal>
-        ensures kept { IfOk result (λ kept. IsKept kept × (kept.machine.columns ≡ self)) }
+    fn into_guarded(self) -> Result<Inner, Refusal>
+        ensures kept { IfOk result (λ kept. IsInner kept × (kept.machine.columns ≡ self)) }
         ensures refused { IfErr result (λ refusal. refusal ≡ Refusal.WrongPass) }
     {
         let SharedMap {
@@ -159,7 +159,9 @@ impl SharedMap {
 fn start_fault(options: Options, passes: u64) -> Option<Refusal>
     ensures { result ≡ start_fault options passes }
 {
-    open_fault(options.columns, options.feed, options.keep).or_else(|| passes_fault(passes))
+    open_fault(options.columns, options.log_capacity, options.log_retention).or_else(
+        || passes_fault(passes),
+    )
 }
 
 // Returns `count` passes, numbered from 1.

@@ -6,7 +6,7 @@ ghost use Rattle.mt_index.specs.Alone.{IsQuiet};
 ghost use Rattle.mt_index.specs.Stands.{Stands};
 ghost use Rattle.mt_shared.specs.Moments.{machine_of};
 
-use crate::kept::Kept;
+use crate::inner::Inner;
 use mt_index::machine::Machine;
 use std::sync::RwLockReadGuard;
 
@@ -16,7 +16,7 @@ use std::sync::RwLockReadGuard;
 /// Before it is dropped, its thread must not wait for another thread, or use a door of the same index.
 #[derive(Drop)]
 pub struct Moment<'a> {
-    pub(crate) kept: RwLockReadGuard<'a, Kept>,
+    pub(crate) kept: RwLockReadGuard<'a, Inner>,
 }
 
 impl<'a> Moment<'a> {
@@ -32,7 +32,7 @@ impl<'a> Moment<'a> {
     }
 }
 
-impl Kept {
+impl Inner {
     // The machine, if no put, remove or tidy is open.
     fn quiet_machine(&self) -> Option<&Machine>
         ensures machine { IfSome result (λ machine. machine.now ≡ self.now.machine) }

@@ -2,10 +2,10 @@
 
 ghost use Rattle.std.specs.Prelude.{◌≤◌, ◌↔◌, IsTrue, IfOk, IfSome};
 ghost use Rattle.mt_types.specs.Limited.{PageIsLimited};
-ghost use Rattle.mt_shared.specs.Kept.{IsKept};
+ghost use Rattle.mt_shared.specs.Inner.{IsInner};
 ghost use Rattle.mt_shared.specs.Pages.{MayPage, PagesNow};
 
-use crate::kept::Kept;
+use crate::inner::Inner;
 use crate::trace::Trace;
 use bytes::Bytes;
 use mt_types::numbers::{PassNo, ViewNo};
@@ -13,8 +13,8 @@ use mt_types::refusal::Refusal;
 use mt_types::view::Page;
 use std::alloc::Global;
 
-impl Kept {
-    /// Reads a page of a view at once, as `Machine::page` does, if the pass has a book and no trace is kept. Returns
+impl Inner {
+    /// Reads a page of a view at once, as `Machine::page` does, if the pass has counters and no trace is kept. Returns
     /// `None` if the page may not be read at once. Makes no event, and changes nothing.
     ///
     /// Costs O(log n + k) for a page of k rows, which share the bytes of the view's.
@@ -34,7 +34,7 @@ impl Kept {
         ensures pages { PagesNow self.now pass view floor start.now limit result }
         ensures floor { IfSome result (λ read. IfOk read (λ page. floor ≤ page.at)) }
         ensures limited { IfSome result (λ read. IfOk read PageIsLimited) }
-        ensures kept { IsKept self.now }
+        ensures kept { IsInner self.now }
     {
         let _stands = self.machine.is_idle();
         if !self.may_page(pass) {
@@ -47,6 +47,6 @@ impl Kept {
     fn may_page(&self, pass: PassNo) -> bool
         ensures { IsTrue result ↔ MayPage self.now pass }
     {
-        self.has_book(pass) && matches!(self.trace, Trace::Off)
+        self.has_counters(pass) && matches!(self.trace, Trace::Off)
     }
 }

@@ -3,7 +3,7 @@
 ghost use Rattle.std.specs.Prelude.{◌≡◌, ◌+◌, ◌<◌, ◌≤◌, ◌^◌};
 ghost use Rattle.mt_shared.specs.Passes.{Counts, IsNewPass, pass_after};
 
-use crate::book::{commits_in, seen_in};
+use crate::counters::{commits_in, seen_in};
 use crate::trace::Trace;
 use mt_index::running::Run;
 use mt_types::event::{Event, Outcome};

@@ -5,10 +5,10 @@ ghost use Rattle.mt_types.specs.declared.event.Request.TheVariants.{Get, Range};
 ghost use Rattle.mt_types.specs.Limits.{request_fault};
 ghost use Rattle.mt_types.specs.Limited.{AnswerIsLimited};
 ghost use Rattle.mt_index.specs.Alone.{IsQuiet};
-ghost use Rattle.mt_shared.specs.Kept.{IsKept, IsRefusedBy};
+ghost use Rattle.mt_shared.specs.Inner.{IsInner, IsRefusedBy};
 ghost use Rattle.mt_shared.specs.Reads.{IsPlainNow, IsRead, IsReadAnswer, MayRead, ReadsNow};
 
-use crate::kept::Kept;
+use crate::inner::Inner;
 use crate::trace::Trace;
 use bytes::Bytes;
 use mt_index::machine::Machine;
@@ -92,8 +92,8 @@ pub fn is_read(request: &Request) -> bool
     matches!(request, Request::Get { .. } | Request::Range { .. })
 }
 
-impl Kept {
-    /// Answers a get or a range of a pass at once: from the rows as they are now, if the pass has a book, no put, remove or
+impl Inner {
+    /// Answers a get or a range of a pass at once: from the rows as they are now, if the pass has counters, no put, remove or
     /// tidy is open, and no trace is kept. Returns the number of commits and the answer. Returns `None` if the request is
     /// another one, or may not be answered at once. Makes no event, and changes nothing.
     ///
@@ -112,7 +112,7 @@ impl Kept {
         ensures reads { ReadsNow self.now pass request.now result }
         ensures answer { IfSome result (λ read. IfOk read (λ now. IsReadAnswer now.1)) }
         ensures limited { IfSome result (λ read. IfOk read (λ now. AnswerIsLimited now.1)) }
-        ensures kept { IsKept self.now }
+        ensures kept { IsInner self.now }
     {
         let at = self.machine.commits();
         if !is_read(request) || !self.may_read(pass) {
@@ -128,6 +128,6 @@ impl Kept {
     fn may_read(&self, pass: PassNo) -> bool
         ensures { IsTrue result ↔ MayRead self.now pass }
     {
-        self.has_book(pass) && self.machine.is_quiet() && matches!(self.trace, Trace::Off)
+        self.has_counters(pass) && self.machine.is_quiet() && matches!(self.trace, Trace::Off)
     }
 }

@@ -1,13 +1,13 @@
-//! The end of an index: the passes are compared with their books.
+//! The end of an index: the passes are compared with their counters.
 
 ghost use Rattle.std.specs.Prelude.{◌≡◌, ◌⊎◌, IfOk, IfErr, IsTrue, All, length};
 ghost use Rattle.mt_commit.specs.Log.{newest};
-ghost use Rattle.mt_shared.specs.Books.{booked_events, booked_commits};
+ghost use Rattle.mt_shared.specs.Counters.{counted_events, counted_commits};
 ghost use Rattle.mt_shared.specs.Passes.{HasItsPart, events_by, commits_by};
 ghost use Rattle.mt_shared.specs.Traces.{Keeps, IsLegalTrace, HaveHappened, part};
 
-use crate::book::Book;
-use crate::kept::{Kept, NOTHING};
+use crate::counters::Counters;
+use crate::inner::{Inner, NOTHING};
 use crate::pass::Pass;
 use crate::trace::{Entry, Trace, is_part};
 use mt_types::limits::MAX_PASSES;
@@ -22,8 +22,8 @@ pub struct Totals {
     pub commits: u64,
 }
 
-impl Kept {
-    /// Returns the totals, if `passes` are those of the books, each once, with the counts of their books. O(n) in the
+impl Inner {
+    /// Returns the totals, if `passes` are those of the counters, each once, with the counts of their counters. O(n) in the
     /// passes.
     ///
     /// # Errors
@@ -37,21 +37,21 @@ impl Kept {
         ensures history { IfOk result (λ totals. HaveHappened self.machine.columns totals.events totals.commits) }
         ensures refused { IfErr result (λ refusal. refusal ≡ Refusal.WrongPass) }
     {
-        let Kept {
+        let Inner {
             machine,
             events,
-            books,
+            counters,
             trace: _,
             tidies: _,
         } = self;
         let commits = machine.commits();
-        if !add_up(books, passes) {
+        if !add_up(counters, passes) {
             return Err(Refusal::WrongPass);
         }
         Ok(Totals { events, commits })
     }
 
-    /// Returns the trace of all events, if `passes` are those of the books, each once, with the counts of their books,
+    /// Returns the trace of all events, if `passes` are those of the counters, each once, with the counts of their counters,
     /// and if the own trace of each is exactly its part of this one. O(n) in the events, times the passes, with one
     /// comparison of each event.
     ///
@@ -64,14 +64,14 @@ impl Kept {
         ensures count { IfOk result (λ trace. length trace.items ≡ events_by passes.now) }
         ensures refused { IfErr result (λ refusal. (refusal ≡ Refusal.WrongPass) ⊎ (refusal ≡ Refusal.NoMemory)) }
     {
-        let Kept {
+        let Inner {
             machine: _,
             events: _,
-            books,
+            counters,
             trace,
             tidies: _,
         } = self;
-        if !add_up(books, passes) {
+        if !add_up(counters, passes) {
             return Err(Refusal::WrongPass);
         }
         let entries = kept_entries(trace)?;
@@ -106,38 +106,38 @@ fn has_part(pass: &Pass, entries: &[Entry]) -> Result<(), Refusal>
     }
 }
 
-// Whether `passes` are those of the books, each once, with the counts of their books. The book of each pass that was
-// met is replaced by that of a pass that has made no event. At the end each book must be such a book.
-fn add_up(mut books: Vec<Book>, passes: &[Pass]) -> bool
-    ensures events { IsTrue result → booked_events books.items ≡ events_by passes.now }
-    ensures commits { IsTrue result → booked_commits books.items ≡ commits_by passes.now }
+// Whether `passes` are those of the counters, each once, with the counts of their counters. The counters of each pass that was
+// met are replaced by those of a pass that has made no event. At the end all counters must be such.
+fn add_up(mut counters: Vec<Counters>, passes: &[Pass]) -> bool
+    ensures events { IsTrue result → counted_events counters.items ≡ events_by passes.now }
+    ensures commits { IsTrue result → counted_commits counters.items ≡ commits_by passes.now }
 {
-    if passes.len() != books.len() || passes.len() > MAX_PASSES as usize {
+    if passes.len() != counters.len() || passes.len() > MAX_PASSES as usize {
         return false;
     }
     let mut met = [false; MAX_PASSES as usize];
     for pass in passes {
         let number = pass.number().0 as usize;
-        if number == 0 || number > books.len() || met[number - 1] {
+        if number == 0 || number > counters.len() || met[number - 1] {
             return false;
         }
         met[number - 1] = true;
-        let book = books[number - 1];
-        if book.events != pass.events() || book.commits != pass.commits() {
+        let own = counters[number - 1];
+        if own.events != pass.events() || own.commits != pass.commits() {
             return false;
         }
-        books[number - 1] = NOTHING;
+        counters[number - 1] = NOTHING;
     }
-    are_blank(&books)
+    are_blank(&counters)
 }
 
-// Whether each is the book of a pass that has made no event.
-fn are_blank(books: &[Book]) -> bool
-    ensures events { IsTrue result → booked_events books.now ≡ 0 }
-    ensures commits { IsTrue result → booked_commits books.now ≡ 0 }
+// Whether each has the counters of a pass that has made no event.
+fn are_blank(counters: &[Counters]) -> bool
+    ensures events { IsTrue result → counted_events counters.now ≡ 0 }
+    ensures commits { IsTrue result → counted_commits counters.now ≡ 0 }
 {
-    for book in books {
-        if book.events != 0 || book.commits != 0 {
+    for own in counters {
+        if own.events != 0 || own.commits != 0 {
             return false;
         }
     }

@@ -2,11 +2,11 @@
 
 ghost use Rattle.std.specs.Prelude.{◌≡◌};
 ghost use Rattle.mt_index.specs.Alone.{IsQuiet};
-ghost use Rattle.mt_shared.specs.Kept.{IsKept};
+ghost use Rattle.mt_shared.specs.Inner.{IsInner};
 ghost use Rattle.mt_shared.specs.Tidies.{Frees, Looks, PurgesIfEmptied, TidiesAll, TidiesOnce, has_taken_out, takes_out};
 
 use crate::driving::{NoGate, Shared, drive};
-use crate::kept::Kept;
+use crate::inner::Inner;
 use crate::pass::Pass;
 use mt_types::copying::TryCopy;
 use mt_types::event::{Answer, Event, Reply, Request, TidyRule};
@@ -16,14 +16,14 @@ use mt_walk::is_emptied;
 use mt_walk::place::MAX_TIDIES;
 use std::alloc::Global;
 
-impl Kept {
+impl Inner {
     /// Returns whether tidies are to follow a remove of `key`: if they follow removes here, and the border of the key is
     /// empty. While a put, remove or tidy is open, the border isn't looked at, and counts as empty. Makes no event.
     ///
     /// Costs the visit of each node on the way to the key. Allocates nothing.
     pub fn is_emptied(&self, key: &Key) -> bool
         ensures looks { Looks self.now key.now result }
-        ensures kept { IsKept self.now }
+        ensures kept { IsInner self.now }
     {
         let _kept = self.columns();
         if !self.tidies {

@@ -145,7 +145,7 @@ fn a_page_of_a_recorded_map_is_an_event(rt: HostRuntime) -> Result<(), Fail> {
     Ok(())
 }
 
-// The pass is of another map, which has more passes: here it has no book.
+// The pass is of another map, which has more passes: here it has no counters.
 #[test]
 fn a_page_for_a_strange_pass(rt: HostRuntime) -> Result<(), Fail> {
     let alloc = rt.alloc();

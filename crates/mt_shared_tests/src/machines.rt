@@ -15,8 +15,8 @@ use std::test::Fail;
 
 const OPTIONS: Options = Options {
     columns: 1,
-    feed: 4096,
-    keep: 1,
+    log_capacity: 4096,
+    log_retention: 1,
     tidies: true,
 };
 

@@ -166,7 +166,7 @@ Blocks log blocked _ then = (then ≡ blocked) ⊎ (then ≡ Some (slowest log))
 
 -- who holds the log, how many deltas it may hold for the slowest, and how many it keeps for nobody
 abbrev pub bounds : LogView → List ℕ × ℕ × ℕ
-bounds log = (log.holders, log.feed, log.keep)
+bounds log = (log.holders, log.capacity, log.retention)
 
 -- what a step does to the rows and the log, by what it comes to
 abbrev pub Does : ℕ → List Arena → ArenaView → ArenaView → LogView → LogView → Request → Option ℕ → Progress → Option ℕ

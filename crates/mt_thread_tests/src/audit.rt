@@ -16,8 +16,8 @@ use std::sync::Wait;
 /// An index whose log keeps all commits of a test.
 pub(crate) const OPTIONS: Options = Options {
     columns: 1,
-    feed: 65_536,
-    keep: 65_536,
+    log_capacity: 65_536,
+    log_retention: 65_536,
     tidies: true,
 };
 

@@ -5,7 +5,7 @@ use Rattle.std.specs.Option.{option_or}
 use Rattle.std.specs.List.{list_any}
 use Rattle.std.specs.Ordering.{is_lt}
 use Rattle.mt_types.specs.Keys.{key_cmp}
-use Rattle.mt_types.specs.declared.limits.TheConstants.{MAX_KEY_BYTES, MAX_COLUMNS, MAX_COLUMN_BYTES, MAX_RANGE, MAX_FEED, MAX_KEEP, MAX_PASSES}
+use Rattle.mt_types.specs.declared.limits.TheConstants.{MAX_KEY_BYTES, MAX_COLUMNS, MAX_COLUMN_BYTES, MAX_RANGE, MAX_LOG_CAPACITY, MAX_LOG_RETENTION, MAX_PASSES}
 use Rattle.mt_types.specs.declared.event.Request.{Request}
 use Rattle.mt_types.specs.declared.event.Request.TheVariants.{Get, Put, PutIf, Remove, Range, Tidy, Build}
 use Rattle.mt_types.specs.declared.view.ViewSpec.{ViewSpec}
@@ -80,9 +80,9 @@ page_fault start limit = option_or (key_fault start) (limit_fault limit)
 
 -- the first limit that an index breaks which is to be opened with this number of columns and these bounds of its log
 abbrev pub open_fault : ℕ → ℕ → ℕ → Option Refusal
-open_fault columns feed keep =
+open_fault columns capacity retention =
     option_or (refused_if (not (is_within 1 MAX_COLUMNS columns)) BadColumn)
-    (refused_if (not (is_within 1 MAX_FEED feed && nat_le keep MAX_KEEP)) BadLimit)
+    (refused_if (not (is_within 1 MAX_LOG_CAPACITY capacity && nat_le retention MAX_LOG_RETENTION)) BadLimit)
 
 -- passes of an index, and readers of a published view, are from 1 to 255
 abbrev pub passes_fault : ℕ → Option Refusal

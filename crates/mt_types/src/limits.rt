@@ -1,6 +1,6 @@
 //! The limits of an index, each with the refusal that guards it, and the tests of requests and options against them.
-//! A call is tested when it begins, and its steps rely on that. `rowanspan_c` has tests of its own with the same
-//! results: it tests the bytes of a caller in C before it copies them.
+//! A call is tested when it begins, and its steps rely on that. `mt_map` has tests of its own with the same results: it
+//! tests borrowed bytes before it copies them.
 
 ghost use Rattle.std.specs.Prelude.{◌≡◌, ◌==◌, Some, nat_lt, length, map};
 ghost use Rattle.std.specs.List.{list_any};
@@ -27,10 +27,10 @@ pub const MAX_RANGE: u16 = 1000;
 
 /// The most commits that the log may be opened to hold for the slowest of its readers; the least is 1. Guarded by
 /// `BadLimit`.
-pub const MAX_FEED: u64 = 65_536;
+pub const MAX_LOG_CAPACITY: u64 = 65_536;
 
 /// The most commits that the log may be opened to keep for no reader. Guarded by `BadLimit`.
-pub const MAX_KEEP: u64 = 65_536;
+pub const MAX_LOG_RETENTION: u64 = 65_536;
 
 /// The most passes of an index, and the most readers of a published view; the least is 1. Guarded by `BadLimit`.
 pub const MAX_PASSES: u64 = 255;
@@ -222,15 +222,17 @@ pub fn page_fault(start: &[u8], limit: u16) -> Option<Refusal>
 }
 
 /// Returns the first limit that the options of an index break, if they break one: `BadColumn` for `columns`, the number
-/// of its columns, then `BadLimit` for `feed`, the most commits that its log holds for the slowest of its readers, or
-/// for `keep`, the number of commits that its log keeps for no reader.
-pub fn open_fault(columns: u64, feed: u64, keep: u64) -> Option<Refusal>
-    ensures { result ≡ open_fault columns feed keep }
+/// of its columns, then `BadLimit` for `capacity`, the most commits that its log holds for the slowest of its readers, or
+/// for `retention`, the number of commits that its log keeps for no reader.
+pub fn open_fault(columns: u64, capacity: u64, retention: u64) -> Option<Refusal>
+    ensures { result ≡ open_fault columns capacity retention }
 {
     if columns < 1 || columns > MAX_COLUMNS {
         Some(Refusal::BadColumn)
     } else {
-        (feed < 1 || feed > MAX_FEED || keep > MAX_KEEP).then_some(Refusal::BadLimit)
+        (capacity < 1 || capacity > MAX_LOG_CAPACITY || retention > MAX_LOG_RETENTION).then_some(
+            Refusal::BadLimit,
+        )
     }
 }
 

@@ -25,7 +25,7 @@ use Rattle.mt_write.specs.Runs.{Advances, HasRun, IsTrimmed, MayRun, RunStep, Ru
 -- ---- the log
 -- what trimming leaves is trimmed
 pub twice_trimmed : (log : LogView) → newest (trimmed log) ≡ newest log → IsTrimmed (trimmed log)
-twice_trimmed log same = ap (λ (n : ℕ). min (least n log.holders) (n - log.keep)) same
+twice_trimmed log same = ap (λ (n : ℕ). min (least n log.holders) (n - log.retention)) same
 
 -- a log that is trimmed is what trimming it leaves
 pub stays_trimmed : (log : LogView) → IsTrimmed log → log ≡ trimmed log
@@ -37,8 +37,8 @@ stays_trimmed log is =
 -- and so is one that has the same deltas, and that the same readers hold
 same_trimmed : (log left : LogView) → left.held_after ≡ log.held_after → left.deltas ≡ log.deltas → bounds left ≡ bounds log → IsTrimmed log → IsTrimmed left
 same_trimmed log left held deltas same is =
-    ap (λ (h : ℕ). min (least (h + length left.deltas) left.holders) (h + length left.deltas - left.keep)) held
-    ∙ ap (λ (ds : List Delta). min (least (log.held_after + length ds) left.holders) (log.held_after + length ds - left.keep)) deltas
+    ap (λ (h : ℕ). min (least (h + length left.deltas) left.holders) (h + length left.deltas - left.retention)) held
+    ∙ ap (λ (ds : List Delta). min (least (log.held_after + length ds) left.holders) (log.held_after + length ds - left.retention)) deltas
     ∙ ap (λ (b : List ℕ × ℕ × ℕ). min (least (newest log) b.0) (newest log - b.2)) same ∙ is ∙ sym held
 
 -- ---- a step

@@ -33,7 +33,7 @@ use Rattle.mt_write.specs.Follows.{FindsNone, TreeStep, WriteStep}
 
 -- the log holds no delta that is to be trimmed
 abbrev pub IsTrimmed : LogView → Type 0
-IsTrimmed log = min (slowest log) (newest log - log.keep) ≡ log.held_after
+IsTrimmed log = min (slowest log) (newest log - log.retention) ≡ log.held_after
 
 -- a put or remove on its way, with the tree and the log
 pub record WriteState : Type 0 where

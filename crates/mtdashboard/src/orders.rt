@@ -16,8 +16,8 @@ use std::sync::Wait;
 /// Rows of one column. The log keeps its last 1024 commits for one that follows: more than there are orders.
 pub(crate) const OPTIONS: Options = Options {
     columns: 1,
-    feed: 4096,
-    keep: 1024,
+    log_capacity: 4096,
+    log_retention: 1024,
     tidies: true,
 };
 

@@ -18,8 +18,8 @@ mtdrive_app = with_index_rules (new_app (codes "mtdrive"))
 -- the options that were found on a command line
 pub record AreFound (matches : ArgMatches) (options : Options) : Type 0 where
   pub columns : IsColumns 64 matches options.columns
-  pub feed : IsFeed matches options.feed
-  pub keep : IsKeep matches options.keep
+  pub feed : IsFeed matches options.log_capacity
+  pub keep : IsKeep matches options.log_retention
 
 -- the options that these words say: those that a parse of them finds
 abbrev pub AreSaid : List (List ℕ) → Options → Type 0
@@ -47,7 +47,7 @@ pub record Answered
   pub options : Options
   pub played : Result ℕ ScriptFault
   pub said : AreSaid words options
-  pub opened : IfSome (open_fault options.columns options.feed options.keep) (λ refusal. played ≡ Err (Start refusal))
-  pub ended : Ended options.columns options.keep played input unread old new
+  pub opened : IfSome (open_fault options.columns options.log_capacity options.log_retention) (λ refusal. played ≡ Err (Start refusal))
+  pub ended : Ended options.columns options.log_retention played input unread old new
   pub status : ending.status ≡ status_of played
   pub fault : ending.fault ≡ result_err played

@@ -56,8 +56,8 @@ fn options_of(matches: &ArgMatches<'_>) -> Options
 {
     Options {
         columns: columns(matches),
-        feed: feed(matches),
-        keep: keep(matches),
+        log_capacity: feed(matches),
+        log_retention: keep(matches),
         tidies: true,
     }
 }

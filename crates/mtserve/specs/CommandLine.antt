@@ -35,8 +35,8 @@ pub record AreFound (matches : ArgMatches) (settings : Settings) : Type 0 where
   pub forever : one_text (found_of matches) (codes "forever") ≡ Some (codes "true") → settings.forever ≡ true
   pub bounded : one_text (found_of matches) (codes "forever") ≡ Some (codes "false") → settings.forever ≡ false
   pub columns : IsColumns 64 matches settings.options.columns
-  pub feed : IsFeed matches settings.options.feed
-  pub keep : IsKeep matches settings.options.keep
+  pub feed : IsFeed matches settings.options.log_capacity
+  pub keep : IsKeep matches settings.options.log_retention
   pub untidied : one_text (found_of matches) (codes "no-tidies") ≡ Some (codes "true") → settings.options.tidies ≡ false
   pub tidied : one_text (found_of matches) (codes "no-tidies") ≡ Some (codes "false") → settings.options.tidies ≡ true
 

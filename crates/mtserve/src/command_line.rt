@@ -77,8 +77,8 @@ fn settings_of(matches: &ArgMatches<'_>) -> Settings
     Settings {
         options: Options {
             columns: columns(matches),
-            feed: feed(matches),
-            keep: keep(matches),
+            log_capacity: feed(matches),
+            log_retention: keep(matches),
             tidies: !matches.get_flag("no-tidies"),
         },
         port: number(matches, "port", 0),

@@ -123,12 +123,12 @@ opens_held held next s options is after =
 
 pub opens_done : (held next : Option MapView) (t : MapView) (options : Options) → held ≡ None → next ≡ Some t
     → IsOpened options t.machine × (t.tidies ≡ options.tidies)
-    → open_fault options.columns options.feed options.keep ≡ None → Opens held options next 0
+    → open_fault options.columns options.log_capacity options.log_retention ≡ None → Opens held options next 0
 opens_done held next t options is after opened fits =
     subst (λ (h : Option MapView). Opens h options next 0) (sym is) (inl (t, after, opened.0, opened.1, refl, fits))
 
 pub opens_not : (held next : Option MapView) (options : Options) (refusal : Refusal) (status : ℕ) → held ≡ None
-    → next ≡ None → IsCausedBy (open_fault options.columns options.feed options.keep) refusal
+    → next ≡ None → IsCausedBy (open_fault options.columns options.log_capacity options.log_retention) refusal
     → status ≡ refusal_number refusal → Opens held options next status
 opens_not held next options refusal status is after caused told =
     subst (λ (h : Option MapView). Opens h options next status) (sym is) (inr (refusal, caused, after, told))

@@ -61,8 +61,8 @@ abbrev pub Opens : Option MapView → Options → Option MapView → ℕ → Typ
 Opens (Some s) options next status = (next ≡ Some s) × (status ≡ HELD)
 Opens None options next status =
     ((t : MapView) × (next ≡ Some t) × IsOpened options t.machine × (t.tidies ≡ options.tidies) × (status ≡ DONE)
-    × (open_fault options.columns options.feed options.keep ≡ None))
-    ⊎ ((refusal : Refusal) × IsCausedBy (open_fault options.columns options.feed options.keep) refusal
+    × (open_fault options.columns options.log_capacity options.log_retention ≡ None))
+    ⊎ ((refusal : Refusal) × IsCausedBy (open_fault options.columns options.log_capacity options.log_retention) refusal
     × (next ≡ None) × (status ≡ refusal_number refusal))
 
 abbrev pub close_status : Option MapView → ℕ

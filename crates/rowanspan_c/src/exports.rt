@@ -34,10 +34,10 @@ pub extern "C" fn rowanspan_open(
     handle: &mut Handle,
     alloc: Global,
     columns: u64,
-    feed: u64,
-    keep: u64,
+    log_capacity: u64,
+    log_retention: u64,
 ) -> u16
-    ensures { Opens handle.old.held (record { columns = columns; feed = feed; keep = keep; tidies = true }) handle.new.held result }
+    ensures { Opens handle.old.held (record { columns = columns; log_capacity = log_capacity; log_retention = log_retention; tidies = true }) handle.new.held result }
 {
     if let Some(index) = handle.take(alloc) {
         handle.fill(index);
@@ -45,8 +45,8 @@ pub extern "C" fn rowanspan_open(
     }
     let options = Options {
         columns,
-        feed,
-        keep,
+        log_capacity,
+        log_retention,
         tidies: true,
     };
     match opened(alloc, options) {

@@ -46,8 +46,8 @@ fn may_move(handle: &Handle) {
 pub(crate) fn opened(alloc: Global, options: Options) -> Result<Box<Map>, Refusal>
     ensures opened { MatchResult result
         (λ index. IsOpened options index.value.machine × (index.value.tidies ≡ options.tidies))
-        (λ refusal. IsCausedBy (open_fault options.columns options.feed options.keep) refusal) }
-    ensures fits { OnOk result (open_fault options.columns options.feed options.keep ≡ None) }
+        (λ refusal. IsCausedBy (open_fault options.columns options.log_capacity options.log_retention) refusal) }
+    ensures fits { OnOk result (open_fault options.columns options.log_capacity options.log_retention ≡ None) }
 {
     let index = Map::open(alloc, options)?;
     Ok(Box::new(alloc, index)?)

@@ -6,7 +6,7 @@ use Rattle.mt_script.proofs.script.play.Given as goal
 
 abbrev pub invariant-loop-line : goal.invariant-loop-line
 invariant-loop-line g l = record {
-  playing : Playing l.initial.machine.columns l.initial.machine.log.keep (source_rest g.R.Read.remaining l.initial.reader) (g.W.Write.contents (sink_writer l.initial.writer)) l.bad l.machine (source_rest g.R.Read.remaining l.reader) (g.W.Write.contents (sink_writer l.writer));
+  playing : Playing l.initial.machine.columns l.initial.machine.log.retention (source_rest g.R.Read.remaining l.initial.reader) (g.W.Write.contents (sink_writer l.initial.writer)) l.bad l.machine (source_rest g.R.Read.remaining l.reader) (g.W.Write.contents (sink_writer l.writer));
   few : l.bad ≤ 18446744073709551615 - lines_left l.reader;
 }
 

@@ -14,7 +14,7 @@ returns-in-Ok-clause-answered g c =
     let old = g.W.Write.contents (sink_writer c.args.writer.now) in
     let new = g.W.Write.contents (sink_writer c.play.new.writer) in
     subst (λ (k : ℕ). IfOk c.play.result (λ bad. Played c.args.options.columns k input old bad new)) c.in-Ok.ensures.opened.1.1
-    (subst (λ (C : ℕ). IfOk c.play.result (λ bad. Played C c.in-Ok.machine.log.keep input old bad new)) c.in-Ok.ensures.opened.0 c.play.ensures.ok)
+    (subst (λ (C : ℕ). IfOk c.play.result (λ bad. Played C c.in-Ok.machine.log.retention input old bad new)) c.in-Ok.ensures.opened.0 c.play.ensures.ok)
 
 pub returns-in-Ok-clause-broke : goal.returns-in-Ok-clause-broke
 returns-in-Ok-clause-broke g c =
@@ -23,8 +23,8 @@ returns-in-Ok-clause-broke g c =
     let old = g.W.Write.contents (sink_writer c.args.writer.now) in
     let new = g.W.Write.contents (sink_writer c.play.new.writer) in
     subst (λ (k : ℕ). IfErr c.play.result (λ fault. Broke c.args.options.columns k fault input unread old new)) c.in-Ok.ensures.opened.1.1
-    (subst (λ (C : ℕ). IfErr c.play.result (λ fault. Broke C c.in-Ok.machine.log.keep fault input unread old new)) c.in-Ok.ensures.opened.0 c.play.ensures.err)
+    (subst (λ (C : ℕ). IfErr c.play.result (λ fault. Broke C c.in-Ok.machine.log.retention fault input unread old new)) c.in-Ok.ensures.opened.0 c.play.ensures.err)
 
 pub returns-in-Err-clause-broke : goal.returns-in-Err-clause-broke
-returns-in-Err-clause-broke g c = Broke-none c.start_fault.result c.args.options.columns c.args.options.keep (source_rest g.R.Read.remaining c.args.reader.now) (source_unread g.R.Read.remaining c.args.reader.now) (g.W.Write.contents (sink_writer c.args.writer.now))
+returns-in-Err-clause-broke g c = Broke-none c.start_fault.result c.args.options.columns c.args.options.log_retention (source_rest g.R.Read.remaining c.args.reader.now) (source_unread g.R.Read.remaining c.args.reader.now) (g.W.Write.contents (sink_writer c.args.writer.now))
     (λ read. start_not_read c.in-Err.refusal (sym c.start_fault.ensures ∙ read))

@@ -22,7 +22,7 @@ returns-in-Some c =
     record {
       collects = subst (λ (m : MachineView). Collects m (Freed c.collect.result) t) c.self.view_is collects;
       caused = subst (λ (m : MachineView). IsCaused m Collect (Freed c.collect.result) t) c.self.view_is (collects-caused s t h st (Freed c.collect.result) collects);
-      bounds = subst (λ (m : MachineView). HasBounds m.log.feed m.log.keep c.self.inside.log) c.self.view_is (refl, refl);
+      bounds = subst (λ (m : MachineView). HasBounds m.log.capacity m.log.retention c.self.inside.log) c.self.view_is (refl, refl);
     }
 
 pub returns-in-None : goal.returns-in-None

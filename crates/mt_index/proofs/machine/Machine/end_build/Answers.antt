@@ -40,6 +40,6 @@ returns-clause-ends c =
 
 pub returns-clause-bounds : goal.returns-clause-bounds
 returns-clause-bounds c =
-    subst (λ (s : MachineView). HasBounds s.log.feed s.log.keep c.trim.new.self) c.self.view_is
+    subst (λ (s : MachineView). HasBounds s.log.capacity s.log.retention c.trim.new.self) c.self.view_is
     (bounds_kept (seen c.self.inside.columns c.self.inside.epoch c.self.inside.tree c.self.inside.log c.self.inside.calls c.self.inside.views) (seen c.self.inside.columns c.self.inside.epoch c.self.inside.tree c.trim.new.self c.remove.new.self c.close_build-opened.new.views) c.args.number _ (ends_build (seen c.self.inside.columns c.self.inside.epoch c.self.inside.tree c.self.inside.log c.self.inside.calls c.self.inside.views) c.args.number c.in-Some.call.from c.in-Some.call c.in-Build.building c.finish.result c.close_build-opened.result c.close_build-opened.new.log c.trim.new.self c.remove.new.self c.close_build-opened.new.views (sym c.remove.ensures.value ∙ c.in-Some.is) c.in-Build.is (is_built_of (call_at c.args.number c.self.inside.calls.calls) c.in-Some.call c.in-Build.building (sym c.remove.ensures.value ∙ c.in-Some.is) c.in-Build.is (subst (λ (s : MachineView). IsBuiltCall (call_at c.args.number s.calls.calls)) (sym c.self.view_is) c.requires)) c.finish.ensures.state refl
     c.close_build-opened.ensures.number c.close_build-opened.ensures.unspent c.close_build-opened.ensures.log c.close_build-opened.ensures.views c.close_build-opened.ensures.err_log c.close_build-opened.ensures.err_views c.close_build-opened.ensures.why c.close_build-opened.ensures.sound c.trim.ensures.after c.remove.ensures.left))

@@ -14,7 +14,7 @@ invariant_of-result c = (
   [],
   subst (λ (v : ViewsView). Stands (seen c.args.options.columns 0 c.in_ok-open.field-0 c.open-2.result c.in_ok-new.field-0 v) []) (sym c.new-2.ensures)
       (subst (λ (k : CallsView). Stands (seen c.args.options.columns 0 c.in_ok-open.field-0 c.open-2.result k (record { built = 0; building = 0; views = [] })) []) (sym c.in_ok-new.ensures)
-      (opens-stands c.args.options.columns c.args.options.feed c.args.options.keep c.in_ok-open.field-0 c.open-2.result _ (opened_few c.args.options.columns c.args.options.feed c.args.options.keep (sym c.in_default.ensures)) (new_world c.in_ok-open.field-0 c.in_ok-open.ensures.new _ (c.in_ok-open.ensures.index c.in_ok-open.ensures.new) c.in_ok-open.ensures.empty) (new_untaken c.in_ok-open.field-0 c.in_ok-open.ensures.new _ _ (new_world c.in_ok-open.field-0 c.in_ok-open.ensures.new _ (c.in_ok-open.ensures.index c.in_ok-open.ensures.new) c.in_ok-open.ensures.empty)) (λ key row. c.in_ok-open.ensures.empty (place_of key) row) c.open-2.ensures.empty)),
+      (opens-stands c.args.options.columns c.args.options.log_capacity c.args.options.log_retention c.in_ok-open.field-0 c.open-2.result _ (opened_few c.args.options.columns c.args.options.log_capacity c.args.options.log_retention (sym c.in_default.ensures)) (new_world c.in_ok-open.field-0 c.in_ok-open.ensures.new _ (c.in_ok-open.ensures.index c.in_ok-open.ensures.new) c.in_ok-open.ensures.empty) (new_untaken c.in_ok-open.field-0 c.in_ok-open.ensures.new _ _ (new_world c.in_ok-open.field-0 c.in_ok-open.ensures.new _ (c.in_ok-open.ensures.index c.in_ok-open.ensures.new) c.in_ok-open.ensures.empty)) (λ key row. c.in_ok-open.ensures.empty (place_of key) row) c.open-2.ensures.empty)),
 )
 
 pub returns : goal.returns
@@ -23,9 +23,9 @@ returns c = record {
   idle = ap (λ (k : CallsView). k.calls) c.in_ok-new.ensures;
   opened = (
     refl,
-    (ap (λ (l : LogView). l.feed) c.open-2.ensures.empty, ap (λ (l : LogView). l.keep) c.open-2.ensures.empty),
+    (ap (λ (l : LogView). l.capacity) c.open-2.ensures.empty, ap (λ (l : LogView). l.retention) c.open-2.ensures.empty),
     subst (λ (v : ViewsView). Stands (seen c.args.options.columns 0 c.in_ok-open.field-0 c.open-2.result c.in_ok-new.field-0 v) []) (sym c.new-2.ensures)
         (subst (λ (k : CallsView). Stands (seen c.args.options.columns 0 c.in_ok-open.field-0 c.open-2.result k (record { built = 0; building = 0; views = [] })) []) (sym c.in_ok-new.ensures)
-        (opens-stands c.args.options.columns c.args.options.feed c.args.options.keep c.in_ok-open.field-0 c.open-2.result _ (opened_few c.args.options.columns c.args.options.feed c.args.options.keep (sym c.in_default.ensures)) (new_world c.in_ok-open.field-0 c.in_ok-open.ensures.new _ (c.in_ok-open.ensures.index c.in_ok-open.ensures.new) c.in_ok-open.ensures.empty) (new_untaken c.in_ok-open.field-0 c.in_ok-open.ensures.new _ _ (new_world c.in_ok-open.field-0 c.in_ok-open.ensures.new _ (c.in_ok-open.ensures.index c.in_ok-open.ensures.new) c.in_ok-open.ensures.empty)) (λ key row. c.in_ok-open.ensures.empty (place_of key) row) c.open-2.ensures.empty)),
+        (opens-stands c.args.options.columns c.args.options.log_capacity c.args.options.log_retention c.in_ok-open.field-0 c.open-2.result _ (opened_few c.args.options.columns c.args.options.log_capacity c.args.options.log_retention (sym c.in_default.ensures)) (new_world c.in_ok-open.field-0 c.in_ok-open.ensures.new _ (c.in_ok-open.ensures.index c.in_ok-open.ensures.new) c.in_ok-open.ensures.empty) (new_untaken c.in_ok-open.field-0 c.in_ok-open.ensures.new _ _ (new_world c.in_ok-open.field-0 c.in_ok-open.ensures.new _ (c.in_ok-open.ensures.index c.in_ok-open.ensures.new) c.in_ok-open.ensures.empty)) (λ key row. c.in_ok-open.ensures.empty (place_of key) row) c.open-2.ensures.empty)),
   );
 }

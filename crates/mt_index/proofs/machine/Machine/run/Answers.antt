@@ -23,7 +23,7 @@ loop-event-init c =
       );
       columns = c.in_ok-machine.ensures.opened.0;
       bounds = c.in_ok-machine.ensures.opened.1;
-      opened = no_fault _ _ c.in_ok-machine.machine (open_fault c.args.options.columns c.args.options.feed c.args.options.keep) c.in_ok-machine.ensures.fault;
+      opened = no_fault _ _ c.in_ok-machine.machine (open_fault c.args.options.columns c.args.options.log_capacity c.args.options.log_retention) c.in_ok-machine.ensures.fault;
     }
 
 -- the history grows by what happened

@@ -12,6 +12,6 @@ invariant-loop-event l = record {
   told : (h : History) × GoesOn [] (take l.event-index l.events) l.outcomes.items h × Stands l.machine h;
   happen : (opened : MachineView) × IsOpened l.fn.options opened × AllHappen opened (take l.event-index l.events) l.outcomes.items l.machine;
   columns : l.machine.columns ≡ l.fn.options.columns;
-  bounds : HasBounds l.fn.options.feed l.fn.options.keep l.machine.log;
-  opened : open_fault l.fn.options.columns l.fn.options.feed l.fn.options.keep ≡ None;
+  bounds : HasBounds l.fn.options.log_capacity l.fn.options.log_retention l.machine.log;
+  opened : open_fault l.fn.options.columns l.fn.options.log_capacity l.fn.options.log_retention ≡ None;
 }

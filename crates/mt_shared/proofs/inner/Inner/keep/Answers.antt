@@ -1,10 +1,10 @@
 use Rattle.std.proofs.Common.{arith, inl}
-use Rattle.mt_shared.specs.Kept.{Does}
+use Rattle.mt_shared.specs.Inner.{Does}
 use Rattle.mt_shared.specs.Turns.{furthest}
 use Rattle.mt_shared.proofs.ChangeLemmas.{turn_stops}
 use Rattle.mt_shared.proofs.ToldLemmas.{does_tell}
 use Rattle.mt_shared.proofs.TurnLemmas.{none_turned, turned_on, turns_spent}
-use Rattle.mt_shared.proofs.kept.Kept.keep.Goals as goal
+use Rattle.mt_shared.proofs.inner.Inner.keep.Goals as goal
 
 pub loop-init : goal.loop-init
 loop-init c = record {

@@ -3,7 +3,7 @@ use Rattle.mt_types.specs.declared.event.Event.TheVariants.{Begin}
 use Rattle.mt_types.specs.declared.numbers.PassNo.{PassNo}
 use Rattle.mt_shared.specs.Passes.{IsTold}
 use Rattle.mt_shared.proofs.ToldLemmas.{does_tell}
-use Rattle.mt_shared.proofs.kept.Kept.open_call.Goals as goal
+use Rattle.mt_shared.proofs.inner.Inner.open_call.Goals as goal
 
 pub returns-clause-told : goal.returns-clause-told
 returns-clause-told c =

@@ -7,12 +7,12 @@ use Rattle.mt_types.specs.declared.numbers.PassNo.{PassNo}
 use Rattle.mt_index.specs.Events.{GoesOnAtOnce}
 use Rattle.mt_index.proofs.MakesLemmas.{run_commits}
 use Rattle.mt_shared.specs.Drives.{HasGone}
-use Rattle.mt_shared.specs.Kept.{KeptView, IsKept, Does, has_book}
-use Rattle.mt_shared.proofs.KeptLemmas.{has_its_book}
+use Rattle.mt_shared.specs.Inner.{InnerView, IsInner, Does, has_counters}
+use Rattle.mt_shared.proofs.InnerLemmas.{has_its_counters}
 use Rattle.mt_shared.proofs.ToldLemmas.{does_tell}
-use Rattle.mt_shared.proofs.RunLemmas.{book_fits, gone_as_counted, gone_keep, goes_once, run_newest}
+use Rattle.mt_shared.proofs.RunLemmas.{counters_fits, gone_as_counted, gone_keep, goes_once, run_newest}
 use Rattle.mt_shared.proofs.RunCounts.{runs_fully, told_events}
-use Rattle.mt_shared.proofs.kept.Kept.go.Goals as goal
+use Rattle.mt_shared.proofs.inner.Inner.go.Goals as goal
 
 pub returns-then-is_traced-clause-goes : goal.returns-then-is_traced-clause-goes
 returns-then-is_traced-clause-goes c =
@@ -21,14 +21,14 @@ returns-then-is_traced-clause-goes c =
 
 pub count-requires-clause-there : goal.count-requires-clause-there
 count-requires-clause-there c =
-    let s : KeptView = record { machine = c.self.inside.machine; events = c.self.inside.events; books = c.self.inside.books.items; trace = c.self.inside.trace; tidies = c.self.inside.tidies } in
+    let s : InnerView = record { machine = c.self.inside.machine; events = c.self.inside.events; counters = c.self.inside.counters.items; trace = c.self.inside.trace; tidies = c.self.inside.tidies } in
     let right = rw (← c.self.view_is) at c.if-is_wrong.ensures in
-    subst (λ (m : PassNo). has_book m s.books ≡ true) c.number-number.ensures (has_its_book s c.number-number.result (Step c.args.call) right)
+    subst (λ (m : PassNo). has_counters m s.counters ≡ true) c.number-number.ensures (has_its_counters s c.number-number.result (Step c.args.call) right)
 
-pub count-requires-clause-book : goal.count-requires-clause-book
-count-requires-clause-book c = λ book at.
-    let s : KeptView = record { machine = c.self.inside.machine; events = c.self.inside.events; books = c.self.inside.books.items; trace = c.self.inside.trace; tidies = c.self.inside.tidies } in
-    let fits = book_fits s c.args.pass.now c.self.inside.books.items book c.self.invariant (count-requires-clause-there c) refl at in
+pub count-requires-clause-own : goal.count-requires-clause-own
+count-requires-clause-own c = λ own at.
+    let s : InnerView = record { machine = c.self.inside.machine; events = c.self.inside.events; counters = c.self.inside.counters.items; trace = c.self.inside.trace; tidies = c.self.inside.tidies } in
+    let fits = counters_fits s c.args.pass.now c.self.inside.counters.items own c.self.invariant (count-requires-clause-there c) refl at in
     let events = fits.0 in
     let commits = fits.1 in
     let here = rw (← c.self.view_is) at c.room-room.ensures.here in
@@ -45,26 +45,26 @@ count-requires-clause-commits c = run_commits c.self.inside.machine c.args.call 
 
 pub returns-clause-goes : goal.returns-clause-goes
 returns-clause-goes c =
-    let s : KeptView = record { machine = c.self.inside.machine; events = c.self.inside.events; books = c.self.inside.books.items; trace = c.self.inside.trace; tidies = c.self.inside.tidies } in
+    let s : InnerView = record { machine = c.self.inside.machine; events = c.self.inside.events; counters = c.self.inside.counters.items; trace = c.self.inside.trace; tidies = c.self.inside.tidies } in
     let right = rw (← c.self.view_is) at c.if-is_wrong.ensures in
     let off = (rw (← c.self.view_is) at c.if-is_traced.ensures).0 refl in
     let here = rw (← c.self.view_is) at c.room-room.ensures.here in
     let there = c.room-room.ensures.there in
     let most = c.go-run.ensures.most in
     let some = c.if-room-eq0.false in
-    let book = c.count.ensures.books in
-    subst (λ (o : Outcome). HasGone Does c.args.self.now c.args.pass.now c.args.call o (record { machine = c.go-run.new.self; events = c.count.new.events; books = c.count.new.books.items; trace = c.self.inside.trace; tidies = c.self.inside.tidies }) c.count.new.pass) (sym c.count.ensures.last)
-    (subst (λ (k : KeptView). HasGone Does k c.args.pass.now c.args.call c.go-run.result.last (record { machine = c.go-run.new.self; events = c.count.new.events; books = c.count.new.books.items; trace = c.self.inside.trace; tidies = c.self.inside.tidies }) c.count.new.pass) c.self.view_is
-    (gone_as_counted s c.args.pass.now c.count.new.pass c.args.call c.go-run.result c.go-run.new.self book.0 c.count.new.books.items c.count.new.events c.number-number.result c.self.invariant off c.number-number.ensures right
-    book.1 (omega (arith, here, most, some)) (omega (arith, there, most, some)) c.go-run.ensures.goes book.2 c.count.ensures.events c.count.ensures.pass))
+    let own = c.count.ensures.counters in
+    subst (λ (o : Outcome). HasGone Does c.args.self.now c.args.pass.now c.args.call o (record { machine = c.go-run.new.self; events = c.count.new.events; counters = c.count.new.counters.items; trace = c.self.inside.trace; tidies = c.self.inside.tidies }) c.count.new.pass) (sym c.count.ensures.last)
+    (subst (λ (k : InnerView). HasGone Does k c.args.pass.now c.args.call c.go-run.result.last (record { machine = c.go-run.new.self; events = c.count.new.events; counters = c.count.new.counters.items; trace = c.self.inside.trace; tidies = c.self.inside.tidies }) c.count.new.pass) c.self.view_is
+    (gone_as_counted s c.args.pass.now c.count.new.pass c.args.call c.go-run.result c.go-run.new.self own.0 c.count.new.counters.items c.count.new.events c.number-number.result c.self.invariant off c.number-number.ensures right
+    own.1 (omega (arith, here, most, some)) (omega (arith, there, most, some)) c.go-run.ensures.goes own.2 c.count.ensures.events c.count.ensures.pass))
 
 pub invariant_of-self : goal.invariant_of-self
 invariant_of-self c =
     gone_keep c.args.self.now c.args.pass.now c.args.call c.count.result _ c.count.new.pass
-    (subst IsKept c.self.view_is c.self.invariant) (returns-clause-goes c)
+    (subst IsInner c.self.view_is c.self.invariant) (returns-clause-goes c)
 
 pub returns-clause-kept : goal.returns-clause-kept
-returns-clause-kept c = (subst IsKept c.self.view_is c.self.invariant, invariant_of-self c)
+returns-clause-kept c = (subst IsInner c.self.view_is c.self.invariant, invariant_of-self c)
 
 pub returns-then-is_traced-clause-most : goal.returns-then-is_traced-clause-most
 returns-then-is_traced-clause-most c =

@@ -1,16 +1,16 @@
-//! The book of a pass, and what an outcome adds to it.
+//! The counters of a pass, and what an outcome adds to it.
 
 ghost use Rattle.std.specs.Prelude.{◌≡◌, ◌+◌, ◌<◌, ◌^◌, max};
 ghost use Rattle.mt_index.specs.Events.{commit_count};
 ghost use Rattle.mt_shared.specs.Passes.{seen_in};
-ghost use Rattle.mt_shared.specs.Books.{book_after, book_with};
+ghost use Rattle.mt_shared.specs.Counters.{counters_after, counters_with};
 
 use mt_index::running::Run;
 use mt_types::event::Outcome;
 
 /// What the index has noted of the events of a pass.
 #[derive(Debug, Clone, Copy, PartialEq, Eq)]
-pub struct Book {
+pub struct Counters {
     /// How many events the pass has made.
     pub events: u64,
     /// How many of these events were commits.
@@ -19,27 +19,27 @@ pub struct Book {
     pub seen: u64,
 }
 
-impl Book {
-    /// Returns the book with one more event, which has this outcome.
-    pub(crate) fn with(self, outcome: &Outcome) -> Book
+impl Counters {
+    /// Returns the counters with one more event, which has this outcome.
+    pub(crate) fn with(self, outcome: &Outcome) -> Counters
         requires events { self.events + 1 < 2 ^ 64 }
         requires commits { self.commits + commit_count outcome.now < 2 ^ 64 }
-        ensures { result ≡ book_with outcome.now self }
+        ensures { result ≡ counters_with outcome.now self }
     {
-        Book {
+        Counters {
             events: self.events + 1,
             commits: self.commits + commits_in(outcome),
             seen: self.seen.max(seen_in(outcome)),
         }
     }
 
-    /// Returns the book with the steps of a run more.
-    pub(crate) fn after(self, run: &Run) -> Book
+    /// Returns the counters with the steps of a run more.
+    pub(crate) fn after(self, run: &Run) -> Counters
         requires events { self.events + run.now.steps < 2 ^ 64 }
         requires commits { self.commits + run.now.commits < 2 ^ 64 }
-        ensures { result ≡ book_after run.now self }
+        ensures { result ≡ counters_after run.now self }
     {
-        Book {
+        Counters {
             events: self.events + run.steps,
             commits: self.commits + run.commits,
             seen: self.seen.max(seen_in(&run.last)),

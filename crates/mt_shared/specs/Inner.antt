@@ -18,36 +18,36 @@ use Rattle.mt_index.specs.declared.options.Options.{Options}
 use Rattle.mt_index.specs.Calls.{pass_at}
 use Rattle.mt_index.specs.Events.{GoesOnAtOnce, Makes}
 use Rattle.mt_index.specs.Stands.{MachineView, Stands, HasBounds}
-use Rattle.mt_shared.specs.declared.book.Book.{Book}
+use Rattle.mt_shared.specs.declared.counters.Counters.{Counters}
 use Rattle.mt_shared.specs.declared.trace.Trace.{Trace}
 use Rattle.mt_shared.specs.declared.trace.Trace.TheVariants.{Off}
 use Rattle.mt_shared.specs.declared.driving.Started.{Started}
 use Rattle.mt_shared.specs.declared.driving.Started.TheVariants.{Refused as RefusedStart, Begun, Ran}
 use Rattle.mt_shared.specs.Traces.{entry, Gains, IsTraceOf}
 use Rattle.mt_shared.specs.Passes.{PassView, Counts}
-use Rattle.mt_shared.specs.Books.{booked_events, booked_commits, book_with}
+use Rattle.mt_shared.specs.Counters.{counted_events, counted_commits, counters_with}
 
--- the machine, how many events were made, the book of each pass (that of pass n at n - 1), the trace of all events, and
+-- the machine, how many events were made, the counters of each pass (that of pass n at n - 1), the trace of all events, and
 -- whether tidies follow removes
-pub record KeptView : Type 0 where
+pub record InnerView : Type 0 where
   pub machine : MachineView
   pub events : ℕ
-  pub books : List Book
+  pub counters : List Counters
   pub trace : Trace
   pub tidies : Bool
 
 -- WHAT THE LOCK KEEPS
-pub record IsKept (s : KeptView) : Type 0 where
+pub record IsInner (s : InnerView) : Type 0 where
   -- there is a history at which the machine stands, of as many events as were made; a trace that is kept tells it
   pub stands : (h : History) × Stands s.machine h × (length h ≡ s.events) × IsTraceOf s.trace h
-  -- the books' events add up to those made, and their commits to the machine's
-  pub events : booked_events s.books ≡ s.events
-  pub commits : booked_commits s.books ≡ newest s.machine.log
-  -- no book has seen more than was committed
-  pub seen : All (λ (book : Book). book.seen ≤ newest s.machine.log) s.books
+  -- the counters' events add up to those made, and their commits to the machine's
+  pub events : counted_events s.counters ≡ s.events
+  pub commits : counted_commits s.counters ≡ newest s.machine.log
+  -- no counters have seen more than was committed
+  pub seen : All (λ (own : Counters). own.seen ≤ newest s.machine.log) s.counters
 
-abbrev pub has_book : PassNo → List Book → Bool
-has_book pass books = not (pass.0 == 0) && nat_le pass.0 (length books)
+abbrev pub has_counters : PassNo → List Counters → Bool
+has_counters pass counters = not (pass.0 == 0) && nat_le pass.0 (length counters)
 
 abbrev pub is_other : Option PassNo → PassNo → Bool
 is_other None pass = false
@@ -60,70 +60,70 @@ is_foreign m pass (Step call) = is_other (pass_at call.0 m.calls.calls) pass
 is_foreign m pass _ = false
 
 -- the event isn't one that this pass may make
-abbrev pub is_wrong : KeptView → PassNo → Event → Bool
-is_wrong s pass event = not (has_book pass s.books) || is_foreign s.machine pass event
+abbrev pub is_wrong : InnerView → PassNo → Event → Bool
+is_wrong s pass event = not (has_counters pass s.counters) || is_foreign s.machine pass event
 
 -- no more events can be counted
-abbrev pub is_spent : KeptView → PassView → Bool
+abbrev pub is_spent : InnerView → PassView → Bool
 is_spent s p = (s.events == greatest_number) || (p.events == greatest_number)
 
--- one event was made, by the machine, and is counted in the pass and in its book, and traced
-pub record IsMade (s : KeptView) (p : PassView) (event : Event) (outcome : Outcome) (t : KeptView)
+-- one event was made, by the machine, and is counted in the pass and in its counters, and traced
+pub record IsMade (s : InnerView) (p : PassView) (event : Event) (outcome : Outcome) (t : InnerView)
     (q : PassView) : Type 0 where
   pub makes : Makes s.machine event outcome t.machine
   pub events : t.events ≡ s.events + 1
-  pub book : Book
-  pub is_book : slice_index_or s.books (p.number.0 - 1) book ≡ book
-  pub books : t.books ≡ slice_set s.books (p.number.0 - 1) (book_with outcome book)
+  pub own : Counters
+  pub is_counters : slice_index_or s.counters (p.number.0 - 1) own ≡ own
+  pub counters : t.counters ≡ slice_set s.counters (p.number.0 - 1) (counters_with outcome own)
   pub trace : Gains s.trace (entry p.number event outcome ∷ []) t.trace
   pub counts : Counts p event outcome q
   pub tidies : t.tidies ≡ s.tidies
 
 -- none was made: refused so, and nothing has changed
-abbrev pub IsUnmade : Refusal → KeptView → PassView → Outcome → KeptView → PassView → Type 0
+abbrev pub IsUnmade : Refusal → InnerView → PassView → Outcome → InnerView → PassView → Type 0
 IsUnmade refusal s p outcome t q = (outcome ≡ Refused refusal) × (t ≡ s) × (q ≡ p)
 
 -- WHAT AN EVENT OF A PASS DOES: one event of the machine, unless it isn't this pass's to make, or no more can be
 -- counted
-abbrev pub Does : KeptView → PassView → Event → Outcome → KeptView → PassView → Type 0
+abbrev pub Does : InnerView → PassView → Event → Outcome → InnerView → PassView → Type 0
 Does s p event outcome t q =
     MatchBool (is_wrong s p.number event) (IsUnmade WrongPass s p outcome t q)
     (MatchBool (is_spent s p) (IsUnmade Spent s p outcome t q) (IsMade s p event outcome t q))
 
 -- A run whose call still continues at once has made all the events that it may, or no more can be counted. (If events
 -- are traced, a run is of one event.)
-abbrev pub RunsFully : KeptView → PassView → ℕ → Outcome → KeptView → PassView → Type 0
+abbrev pub RunsFully : InnerView → PassView → ℕ → Outcome → InnerView → PassView → Type 0
 RunsFully s p most last t q = s.trace ≡ Off → p.trace ≡ Off → GoesOnAtOnce last
     → (p.events + most ≤ q.events) ⊎ (is_spent t q ≡ true)
 
 -- and so has the run with which a call is started; a call is begun without a run only if no more events may be made
-abbrev pub StartsFully : KeptView → PassView → ℕ → Started → KeptView → PassView → Type 0
+abbrev pub StartsFully : InnerView → PassView → ℕ → Started → InnerView → PassView → Type 0
 StartsFully s p most (RefusedStart refusal) t q = Unit {0}
 StartsFully s p most (Begun call) t q = most ≤ 1
 StartsFully s p most (Ran call last) t q = RunsFully s p most last t q
 
 -- an event of a pass, on something that the lock keeps
 pub record DoesSomewhere (p : PassView) (event : Event) (outcome : Outcome) (q : PassView) : Type 0 where
-  pub before : KeptView
-  pub then : KeptView
-  pub kept : IsKept before
+  pub before : InnerView
+  pub then : InnerView
+  pub kept : IsInner before
   pub does : Does before p event outcome then q
-  pub keeps : IsKept then
+  pub keeps : IsInner then
 
 -- the first limit that these options break, or this number of passes
 abbrev pub start_fault : Options → ℕ → Option Refusal
-start_fault options passes = option_or (open_fault options.columns options.feed options.keep) (passes_fault passes)
+start_fault options passes = option_or (open_fault options.columns options.log_capacity options.log_retention) (passes_fault passes)
 
 -- a call is refused for exactly this fault; if there is none, it is refused only when out of memory
 abbrev pub IsRefusedBy : {T : Type 0} → Option Refusal → Result T Refusal → Type 0
 IsRefusedBy fault result =
     MatchOption fault (IfErr result (λ refusal. refusal ≡ NoMemory)) (λ refusal. result ≡ Err refusal)
 
--- a machine on which nothing has happened, opened with these options, with a book for each of this many passes
-pub record IsFresh (options : Options) (passes : ℕ) (s : KeptView) : Type 0 where
+-- a machine on which nothing has happened, opened with these options, with counters for each of this many passes
+pub record IsFresh (options : Options) (passes : ℕ) (s : InnerView) : Type 0 where
   pub columns : s.machine.columns ≡ options.columns
-  pub bounds : HasBounds options.feed options.keep s.machine.log
+  pub bounds : HasBounds options.log_capacity options.log_retention s.machine.log
   pub stands : Stands s.machine []
   pub events : s.events ≡ 0
-  pub books : length s.books ≡ passes
+  pub counters : length s.counters ≡ passes
   pub tidies : s.tidies ≡ options.tidies

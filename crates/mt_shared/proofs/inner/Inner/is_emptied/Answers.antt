@@ -2,7 +2,7 @@ use Rattle.std.proofs.Common.{rules, subst, sym}
 use Rattle.mt_steps.specs.Lone.{IsLoneTree}
 use Rattle.mt_index.specs.Alone.{IsQuiet}
 use Rattle.mt_index.proofs.QuietStands.{quiet_tree}
-use Rattle.mt_shared.proofs.kept.Kept.is_emptied.Goals as goal
+use Rattle.mt_shared.proofs.inner.Inner.is_emptied.Goals as goal
 
 pub is_emptied-requires : goal.is_emptied-requires
 is_emptied-requires c =
