@@ -17,7 +17,7 @@ from rowanspan.mirror.kinds import read_kind
 from rowanspan.mirror.pgoutput import UNCHANGED, Begin, Change, Commit, Relation, Truncate, read_message
 from rowanspan.mirror.rows import RowMapping
 from rowanspan.mirror.source import Group
-from rowanspan.mirror.table import COLUMNS, FIND, KEY, Table, find_table
+from rowanspan.mirror.table import DESCRIBE, Table, find_table
 from rowanspan.mirror.template import KeyTemplate
 
 MIDDLE = 2 ** 63
@@ -235,9 +235,8 @@ class Catalog:
 
     def ask(self, query: str, *_: Any) -> List[Tuple[Any, ...]]:
         return {"SHOW server_version_num": [(self.version,)], "SHOW wal_level": [(self.level,)],
-                FIND: [(7, self.identity, self.has_log, "public.o", self.has_parts)] if self.is_there else [],
-                COLUMNS: [(name, *kind) for name, kind in self.columns.items()],
-                KEY: [(name,) for name in self.key]}[query]
+                DESCRIBE: [(7, self.identity, self.has_log, "public.o", self.has_parts, name, *kind, name in self.key)
+                           for name, kind in self.columns.items()] if self.is_there else []}[query]
 
 
 class TableTest(unittest.TestCase):

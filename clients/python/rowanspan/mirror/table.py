@@ -18,16 +18,16 @@ OLDEST = 15
 # the types whose values have no exact sum, and more than one text for one value
 FLOATS = {700: "real", 701: "double precision"}
 
-FIND = """
+# a row for each column, or one without a column; in one query, so that the table can't be dropped between two
+DESCRIBE = """
 SELECT c.oid, c.relreplident, c.relkind = 'r' AND c.relpersistence = 'p', quote_ident(n.nspname) || '.' ||
-quote_ident(c.relname), c.relkind = 'p' OR EXISTS (SELECT 1 FROM pg_inherits i WHERE i.inhparent = c.oid)
-FROM pg_class c JOIN pg_namespace n ON n.oid = c.relnamespace WHERE c.oid = to_regclass(%s)"""
-COLUMNS = """
-SELECT attname, atttypid, atttypmod FROM pg_attribute WHERE attrelid = %s AND attnum > 0 AND NOT attisdropped
-ORDER BY attnum"""
-KEY = """
-SELECT a.attname FROM pg_index i JOIN pg_attribute a ON a.attrelid = i.indrelid AND a.attnum = ANY(i.indkey)
-WHERE i.indrelid = %s AND i.indimmediate AND CASE WHEN %s THEN i.indisreplident ELSE i.indisprimary END"""
+quote_ident(c.relname), c.relkind = 'p' OR EXISTS (SELECT 1 FROM pg_inherits i WHERE i.inhparent = c.oid),
+a.attname, a.atttypid, a.atttypmod,
+EXISTS (SELECT 1 FROM pg_index i WHERE i.indrelid = c.oid AND i.indimmediate AND a.attnum = ANY(i.indkey)
+AND CASE WHEN c.relreplident = 'i' THEN i.indisreplident ELSE i.indisprimary END)
+FROM pg_class c JOIN pg_namespace n ON n.oid = c.relnamespace
+LEFT JOIN pg_attribute a ON a.attrelid = c.oid AND a.attnum > 0 AND NOT a.attisdropped
+WHERE c.oid = to_regclass(%s) ORDER BY a.attnum"""
 
 
 @dataclass(frozen=True)
@@ -51,19 +51,20 @@ def quoted(name: str) -> str:
 def find_table(ask: Ask, name: str, mapping: RowMapping) -> Table:
     """The table of this name. Raises `BadMapping` if the mapping can't mirror it."""
     check_source(ask)
-    found = ask(FIND, name)
+    found = ask(DESCRIBE, name)
     if not found:
         raise BadMapping(f"there is no table {name}")
-    oid, identity, has_log, full_name, has_parts = found[0]
+    oid, identity, has_log, full_name, has_parts = found[0][:5]
     if has_parts:
         raise BadMapping(f"{full_name} has partitions, or tables that inherit from it: mirror each of those, with a "
                          "name and a prefix of its own")
     if not has_log:
         raise BadMapping(f"{full_name} has no log of its changes: a view, a temporary or an unlogged table can't be "
                          "mirrored")
-    types = {column: (kind, narrowed) for column, kind, narrowed in ask(COLUMNS, oid)}
+    columns = [row[5:] for row in found if row[5] is not None]
+    types = {column: (kind, narrowed) for column, kind, narrowed, _ in columns}
     check_columns(full_name, mapping, types)
-    unique = frozenset(row[0] for row in ask(KEY, oid, identity == "i"))
+    unique = frozenset(column for column, _, _, is_unique in columns if is_unique)
     check_key(full_name, mapping, unique, identity)
     needed: Dict[str, Type] = {column: kind for column, kind in types.items() if column in mapping.names}
     return Table(oid, full_name, identity == "f", needed)
