@@ -1,7 +1,7 @@
 //! Views in the machine: how a view is opened, advanced and read, while it holds the log from the number of commits at
 //! which it is.
 
-ghost use Rattle.std.specs.Prelude.{◌≡◌, ◌+◌, ◌<◌, ◌≤◌, ◌⊎◌, ◌↔◌, length, IfOk, IfErr, IsSome, IsTrue, OnOk, OnErr, MatchOption, Some, Err, true};
+ghost use Rattle.std.specs.Prelude.{◌≡◌, ◌+◌, ◌<◌, ◌≤◌, ◌⊎◌, ◌↔◌, length, IfOk, IfErr, IfSome, IsSome, IsTrue, OnOk, OnErr, MatchOption, Some, Err, true};
 ghost use Rattle.mt_promise.specs.History.{History, moment};
 ghost use Rattle.mt_commit.specs.Laws.{times_held};
 ghost use Rattle.mt_types.specs.Numbers.{greatest_number};
@@ -168,6 +168,16 @@ impl Machine {
         ensures { IsTrue result ↔ IsSome (meant_number self.now 0) }
     {
         self.views.meant(0).is_some()
+    }
+
+    /// Returns the state of a view: the number of commits at which it is, its rows, their count and their sums, of which
+    /// nothing is copied. Returns `None` if no view has this number. No event happens. O(log n) in the views.
+    pub fn view(&self, view: ViewNo) -> Option<&ViewState>
+        ensures view { result ≡ state_at view.0 self.now.views.views }
+        ensures exact { IfSome result
+            (λ state. (h : History) → Stands self.now h → CopiesView self.now.columns (moment h) view.0 state) }
+    {
+        self.views.get(view.0)
     }
 
     /// Returns the number of commits at which a view is, and a copy of its state. From there on a caller can advance

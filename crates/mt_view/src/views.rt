@@ -155,6 +155,13 @@ impl Views {
         }
     }
 
+    /// Returns the state of the view of this number, if there is one. O(log n) in the views.
+    pub fn get(&self, number: u64) -> Option<&ViewState>
+        ensures { result ≡ state_at number self.now.views }
+    {
+        self.views.get(&number)
+    }
+
     /// Advances a view by the delta of the next commit. O(log n) in the views and in the rows of this one. On an error
     /// nothing changes.
     ///
