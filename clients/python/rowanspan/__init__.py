@@ -15,18 +15,20 @@ Each change of a row is a commit: commits are numbered from 1 on, over all clien
 `Refused`; a connection that broke as a `ConnectionLost`; bytes that are no reply as a `BadReply`; an argument of a
 wrong type as a `TypeError`, before anything is sent.
 
-A client is one connection, for one thread at a time: give each thread its own. `__version__` is the package's version.
+A client is one connection, for one thread at a time. Threads can share a `Pool` of connections, and tasks of asyncio a
+client of `rowanspan.aio`. `__version__` is the package's version.
 """
 from __future__ import annotations
 
 from typing import TYPE_CHECKING
 
-from . import client, core, mapping, pipeline, wire
+from . import client, core, mapping, pipeline, pool, wire
 # (the names that each of them lists in its `__all__` are names of the package)
 from .client import *  # noqa: F401,F403
 from .core import *  # noqa: F401,F403
 from .mapping import *  # noqa: F401,F403
 from .pipeline import *  # noqa: F401,F403
+from .pool import *  # noqa: F401,F403
 from .wire import *  # noqa: F401,F403
 
 __all__ = ["Index"]
@@ -34,6 +36,7 @@ __all__ += client.__all__
 __all__ += core.__all__
 __all__ += mapping.__all__
 __all__ += pipeline.__all__
+__all__ += pool.__all__
 __all__ += wire.__all__
 
 if TYPE_CHECKING:

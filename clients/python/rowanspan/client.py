@@ -1,6 +1,8 @@
 """A connection to a server of Rowanspan: its calls, one by one or up to 64 in a frame."""
 from __future__ import annotations
 
+import abc
+import selectors
 import socket
 import struct
 from typing import Any, List, Optional, Sequence, TypeVar
@@ -12,7 +14,7 @@ from .pipeline import Pipeline
 from .wire import (MAX_REPLY_BODY, Build, Get, GetRange, Outcome, Put, PutIf, Query, Remove, Reply, Tidy, ViewDrop,
                    ViewRead, frame_version, read_replies, request_frame, spelled_query)
 
-__all__ = ["receive", "receive_body", "Client"]
+__all__ = ["receive", "receive_body", "Asker", "Client"]
 
 Value = TypeVar("Value")
 
@@ -39,6 +41,62 @@ def receive_body(connection: socket.socket) -> bytes:
     return receive(connection, length)
 
 
+# ---- calls as queries
+
+class Asker(RowMap):
+    """The calls of a map, each as a query to a server: what a connection and a pool of them share."""
+
+    @abc.abstractmethod
+    def exchange(self, queries: Sequence[Query[Any]], messages: Sequence[bytes]) -> List[Outcome]:
+        """Sends a frame of these queries, which are spelled as these messages, and reads the answers to them."""
+
+    def call(self, query: Query[Value]) -> Reply[Value]:
+        """Asks one query; returns its value, with the numbers of commits at its begin and end. Raises `Refused`."""
+        outcome = self.call_all([query])[0]
+        if isinstance(outcome, Refused):
+            raise outcome
+        return outcome
+
+    def call_all(self, queries: Sequence[Query[Any]]) -> List[Outcome]:
+        """Asks 1 to 64 queries in one frame, which the server does one after another. Returns for each its reply, or
+        the `Refused`, not raised."""
+        asked = list(queries)
+        return self.exchange(asked, [spelled_query(query) for query in asked])
+
+    def pipeline(self) -> Pipeline:
+        """A list of queries that are sent together."""
+        return Pipeline(self)
+
+    # -- the calls of a map
+
+    def _row(self, key: bytes, columns: Optional[Sequence[int]]) -> Optional[Row]:
+        return self.call(Get(key, () if columns is None else columns)).value
+
+    def put(self, key: bytes, sets: Sets) -> int:
+        return self.call(Put(key, sets)).value
+
+    def put_if(self, key: bytes, sets: Sets, version: int) -> int:
+        return self.call(PutIf(key, sets, version)).value
+
+    def remove(self, key: bytes) -> Optional[int]:
+        return self.call(Remove(key)).value
+
+    def first(self, start: bytes = b"", limit: int = MAX_LIMIT, columns: Optional[Sequence[int]] = None) -> Pairs:
+        return self.call(GetRange(start, limit, () if columns is None else columns)).value
+
+    def tidy(self, key: bytes) -> Tidied:
+        return self.call(Tidy(key)).value
+
+    def _build(self, spec: ViewSpec) -> ViewNo:
+        return self.call(Build(spec)).value
+
+    def _page(self, number: int, floor: int, start: bytes, limit: int) -> Page:
+        return self.call(ViewRead(number, floor, start, limit)).value
+
+    def _drop(self, number: int) -> None:
+        self.call(ViewDrop(number))
+
+
 # ---- the connection
 
 def check_address(port: Any, host: Any, timeout: Any) -> None:
@@ -52,7 +110,7 @@ def check_address(port: Any, host: Any, timeout: Any) -> None:
         raise TooLong(f"a timeout must be more than 0 seconds, or None to wait without end, not {timeout}")
 
 
-class Client(RowMap):
+class Client(Asker):
     """A connection to a server, for one thread at a time: give each thread its own.
 
     `timeout` is for how many seconds a connect, a send or a receive may wait (None: without end); one that waits longer
@@ -92,23 +150,9 @@ class Client(RowMap):
         if connection is not None:
             connection.close()
 
-    # -- calls
-
-    def call(self, query: Query[Value]) -> Reply[Value]:
-        """Asks one query; returns its value, with the numbers of commits at its begin and end. Raises `Refused`."""
-        outcome = self.call_all([query])[0]
-        if isinstance(outcome, Refused):
-            raise outcome
-        return outcome
-
-    def call_all(self, queries: Sequence[Query[Any]]) -> List[Outcome]:
-        """Asks 1 to 64 queries in one frame, which the server does one after another. Returns for each its reply, or
-        the `Refused`, not raised."""
-        asked = list(queries)
-        return self.exchange(asked, [spelled_query(query) for query in asked])
+    # -- frames
 
     def exchange(self, queries: Sequence[Query[Any]], messages: Sequence[bytes]) -> List[Outcome]:
-        """Sends a frame of these queries, which are spelled as these messages, and reads the answers to them."""
         connection, frame = self._connection, request_frame(messages, frame_version(queries))
         if connection is None:
             raise (ConnectionLost("the connection was lost before; make a new client") if self._is_lost
@@ -139,40 +183,22 @@ class Client(RowMap):
             self._lose()
             raise
 
+    @property
+    def is_lost(self) -> bool:
+        """Whether the connection has broken."""
+        return self._is_lost
+
+    def is_usable(self) -> bool:
+        """Whether the connection is there, so far as can be seen without asking: no end and no byte has come that
+        nobody asked for."""
+        connection = self._connection
+        if connection is None:
+            return False
+        with selectors.DefaultSelector() as selector:
+            selector.register(connection, selectors.EVENT_READ)
+            return not selector.select(0)
+
     def _lose(self) -> None:
         """Ends the connection after a fault."""
         self.close()
         self._is_lost = True
-
-    def pipeline(self) -> Pipeline:
-        """A list of queries that are sent together."""
-        return Pipeline(self)
-
-    # -- the calls of a map
-
-    def _row(self, key: bytes, columns: Optional[Sequence[int]]) -> Optional[Row]:
-        return self.call(Get(key, () if columns is None else columns)).value
-
-    def put(self, key: bytes, sets: Sets) -> int:
-        return self.call(Put(key, sets)).value
-
-    def put_if(self, key: bytes, sets: Sets, version: int) -> int:
-        return self.call(PutIf(key, sets, version)).value
-
-    def remove(self, key: bytes) -> Optional[int]:
-        return self.call(Remove(key)).value
-
-    def first(self, start: bytes = b"", limit: int = MAX_LIMIT, columns: Optional[Sequence[int]] = None) -> Pairs:
-        return self.call(GetRange(start, limit, () if columns is None else columns)).value
-
-    def tidy(self, key: bytes) -> Tidied:
-        return self.call(Tidy(key)).value
-
-    def _build(self, spec: ViewSpec) -> ViewNo:
-        return self.call(Build(spec)).value
-
-    def _page(self, number: int, floor: int, start: bytes, limit: int) -> Page:
-        return self.call(ViewRead(number, floor, start, limit)).value
-
-    def _drop(self, number: int) -> None:
-        self.call(ViewDrop(number))

@@ -9,7 +9,7 @@ from .wire import (MAX_QUERIES, MAX_REQUEST_BODY, Build, Get, GetRange, Outcome,
                    ViewDrop, ViewRead, spelled_query)
 
 if TYPE_CHECKING:
-    from .client import Client
+    from .client import Asker
 
 __all__ = ["Pending", "Pipeline"]
 
@@ -61,7 +61,7 @@ class Pipeline:
     clients' queries may come in between.
     """
 
-    def __init__(self, index: Client) -> None:
+    def __init__(self, index: Asker) -> None:
         self._index = index
         self._clear()
 

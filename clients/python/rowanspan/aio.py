@@ -1,0 +1,328 @@
+"""The client for asyncio: one connection, shared by any number of tasks.
+
+    from rowanspan import aio
+
+    async with aio.Client(7070) as index:
+        commit = await index.put(b"apple", b"red")
+        row = await index.get(b"apple")
+        async for key, row in index.range(prefix=b"a"):
+            print(key, row.columns)
+
+The methods have the names and the arguments of `rowanspan.Client`, as coroutines. What they raise is the same.
+"""
+from __future__ import annotations
+
+import asyncio
+from collections import deque
+from types import TracebackType
+from typing import Any, AsyncIterator, Awaitable, Callable, Deque, List, Optional, Sequence, Tuple, Type, TypeVar, Union, overload
+
+from .client import check_address
+from .core import (MAX_LIMIT, BadReply, Closed, ConnectionLost, NoSuchView, OtherVersion, Page, Pairs, Refused,
+                   RowanspanError, Row, Sets, Tidied, TooLong, ViewNo, ViewSpec, checked_count, checked_key,
+                   checked_number, checked_view, key_after, prefix_end)
+from .wire import (MAX_QUERIES, MAX_REPLY_BODY, MAX_REQUEST_BODY, Build, Get, GetRange, Outcome, Put, PutIf, Query,
+                   Remove, Reply, Tidy, ViewDrop, ViewRead, frame_version, read_replies, request_frame, spelled_query)
+
+__all__ = ["Client", "View"]
+
+Value = TypeVar("Value")
+Default = TypeVar("Default")
+RowPairs = AsyncIterator[Tuple[bytes, Row]]
+
+# how many frames are sent whose answers haven't come; further queries wait for their turn in the client
+MAX_SENT = 16
+# the most bytes of queries in a frame: the body has two bytes more
+MAX_MESSAGES = MAX_REQUEST_BODY - 2
+
+
+class Asked:
+    """A query that has no answer yet."""
+
+    def __init__(self, query: Query[Any], answer: asyncio.Future[Outcome]) -> None:
+        self.query, self.message, self.answer = query, spelled_query(query), answer
+        if len(self.message) > MAX_MESSAGES:
+            raise TooLong(f"a query has {len(self.message)} bytes")
+
+
+class Client:
+    """A connection to a server, for all tasks of one event loop.
+
+    Queries that tasks ask meanwhile go together, up to 64 in a frame, and are answered in the order in which they were
+    asked. So many tasks that ask little are as fast as a pipeline. Other clients' queries may come in between.
+
+    `timeout` is for how many seconds a call, or a connect, may wait (None: without end); after that the call raises
+    `asyncio.TimeoutError`. A call that was sent and is cancelled, or has timed out, may have been done; the answer is
+    dropped when it comes, and the other calls aren't affected. One that wasn't sent yet is never sent.
+
+    A client connects at the begin of its `async with` block, or by `connect`.
+    """
+
+    def __init__(self, port: int, host: str = "127.0.0.1", timeout: Optional[float] = None) -> None:
+        check_address(port, host, timeout)
+        self._port, self._host, self._timeout = port, host, timeout
+        self._writer: Optional[asyncio.StreamWriter] = None
+        self._reading: Optional[asyncio.Task[None]] = None
+        self._waiting: Deque[Asked] = deque()
+        self._sent: Deque[List[Asked]] = deque()
+        self._is_flushing = False
+        # why nothing can be asked
+        self._ended: Optional[RowanspanError] = Closed("the client hasn't connected")
+
+    def __repr__(self) -> str:
+        return f"<rowanspan.aio.Client {self._host}:{self._port}{'' if self._ended is None else ', closed'}>"
+
+    async def __aenter__(self) -> Client:
+        return await self.connect()
+
+    async def __aexit__(self, kind: Optional[Type[BaseException]], fault: Optional[BaseException],
+                        trace: Optional[TracebackType]) -> None:
+        await self.close()
+
+    async def connect(self) -> Client:
+        """Connects, and returns the client. Raises `ConnectionLost` if there is no server, or the timeout is over."""
+        if self._writer is not None:
+            return self
+        opening = asyncio.open_connection(self._host, self._port)
+        try:
+            reader, writer = await asyncio.wait_for(opening, self._timeout)
+        except (OSError, asyncio.TimeoutError, ValueError) as fault:
+            raise ConnectionLost(f"no connection to {self._host}, port {self._port}: {fault}") from fault
+        self._writer, self._ended = writer, None
+        self._reading = asyncio.ensure_future(self._read(reader))
+        return self
+
+    async def close(self) -> None:
+        """Ends the connection, and with it the server's session. Calls that have no answer raise `ConnectionLost`.
+        Views stay. A second close does nothing."""
+        reading, self._reading = self._reading, None
+        if self._ended is None:
+            self._end(Closed("the index is closed"), ConnectionLost("the client was closed"))
+        if reading is not None:
+            reading.cancel()
+            await asyncio.gather(reading, return_exceptions=True)
+
+    # -- calls
+
+    async def call(self, query: Query[Value]) -> Reply[Value]:
+        """Asks one query; returns its value, with the numbers of commits at its begin and end. Raises `Refused`."""
+        outcome = (await self.call_all([query]))[0]
+        if isinstance(outcome, Refused):
+            raise outcome
+        return outcome
+
+    async def call_all(self, queries: Sequence[Query[Any]]) -> List[Outcome]:
+        """Asks queries, any number of them, which the server does one after another. Returns for each its reply, or the
+        `Refused`, not raised."""
+        if self._ended is not None:
+            raise self._ended
+        loop = asyncio.get_running_loop()
+        asked = [Asked(query, loop.create_future()) for query in queries]
+        if not asked:
+            return []
+        self._waiting.extend(asked)
+        self._flush_soon()
+        answers = asyncio.gather(*(one.answer for one in asked))
+        return list(await asyncio.wait_for(answers, self._timeout))
+
+    # -- frames
+
+    def _flush_soon(self) -> None:
+        if not self._is_flushing:
+            self._is_flushing = True
+            asyncio.get_running_loop().call_soon(self._flush)
+
+    def _flush(self) -> None:
+        """Sends the queries that wait, as far as frames may be sent."""
+        self._is_flushing = False
+        while self._waiting and len(self._sent) < MAX_SENT and self._writer is not None:
+            frame = self._next_frame()
+            if frame:
+                self._sent.append(frame)
+                queries = [one.query for one in frame]
+                self._writer.write(request_frame([one.message for one in frame], frame_version(queries)))
+
+    def _next_frame(self) -> List[Asked]:
+        """Takes the first queries that wait, as many as fit in a frame, without those that nobody waits for."""
+        frame: List[Asked] = []
+        room = MAX_MESSAGES
+        while self._waiting and len(frame) < MAX_QUERIES and len(self._waiting[0].message) <= room:
+            one = self._waiting.popleft()
+            if not one.answer.done():
+                frame.append(one)
+                room -= len(one.message)
+        return frame
+
+    async def _read(self, reader: asyncio.StreamReader) -> None:
+        """Reads the answers, frame by frame, until the connection ends."""
+        try:
+            while True:
+                length = int.from_bytes(await reader.readexactly(4), "big")
+                if not 2 <= length <= MAX_REPLY_BODY or not self._sent:
+                    raise BadReply(f"a reply of {length} bytes came that nobody has asked for")
+                self._answer(await reader.readexactly(length))
+        except asyncio.IncompleteReadError:
+            self._end(ConnectionLost("the server ended the connection"))
+        except OSError as fault:
+            self._end(ConnectionLost(f"the connection broke: {fault}"))
+        except RowanspanError as fault:
+            self._end(fault)
+
+    def _answer(self, body: bytes) -> None:
+        """Answers the queries of the frame that was sent first."""
+        frame = self._sent[0]
+        outcomes = read_replies(body, [one.query for one in frame])
+        self._sent.popleft()
+        for one, outcome in zip(frame, outcomes):
+            if not one.answer.done():
+                one.answer.set_result(outcome)
+        self._flush()
+
+    def _end(self, later: RowanspanError, now: Optional[RowanspanError] = None) -> None:
+        """Ends the connection. Calls that have no answer raise `now`, and later ones `later`."""
+        self._ended = later
+        writer, self._writer = self._writer, None
+        if writer is not None:
+            writer.close()
+        open_calls = [one for frame in self._sent for one in frame] + list(self._waiting)
+        self._sent.clear()
+        self._waiting.clear()
+        for one in open_calls:
+            if not one.answer.done():
+                one.answer.set_exception(now or later)
+
+    # -- the calls of a map
+
+    @overload
+    async def get(self, key: bytes, default: None = None, columns: Optional[Sequence[int]] = None) -> Optional[Row]:
+        ...
+
+    @overload
+    async def get(self, key: bytes, default: Default, columns: Optional[Sequence[int]] = None) -> Union[Row, Default]:
+        ...
+
+    async def get(self, key: bytes, default: Any = None, columns: Optional[Sequence[int]] = None) -> Any:
+        """The row of a key, or `default` if it has none. `columns` are the numbers of those wanted, in this order; None
+        means all."""
+        row = (await self.call(Get(key, () if columns is None else columns))).value
+        return default if row is None else row
+
+    async def put(self, key: bytes, sets: Sets) -> int:
+        """Sets columns of a key's row, by their numbers; plain bytes are column 0. Returns the number of the commit."""
+        return (await self.call(Put(key, sets))).value
+
+    async def put_if(self, key: bytes, sets: Sets, version: int) -> int:
+        """Sets columns only if the key's row is of this version, or if `version` is 0 and it has none. Returns the
+        number of the commit. Otherwise raises `OtherVersion`, whose detail is the version that the row has."""
+        return (await self.call(PutIf(key, sets, version))).value
+
+    async def update(self, key: bytes, change: Callable[[Optional[Row]], Optional[Sets]]) -> Optional[int]:
+        """Changes a key's row by what it is: `change` gets the row (None: there is none), and returns the columns to
+        set (None: nothing is put). If another caller has changed the row meanwhile, it is called again. Returns the
+        number of the commit, or None if nothing was put."""
+        while True:
+            row = await self.get(key)
+            sets = change(row)
+            if sets is None:
+                return None
+            try:
+                return await self.put_if(key, sets, row.version if row else 0)
+            except OtherVersion:
+                pass
+
+    async def remove(self, key: bytes) -> Optional[int]:
+        """Removes a key's row. Returns the number of the commit, or None if there was no row."""
+        return (await self.call(Remove(key))).value
+
+    async def first(self, start: bytes = b"", limit: int = MAX_LIMIT,
+                    columns: Optional[Sequence[int]] = None) -> Pairs:
+        """The first rows from the key `start` on, in the order of their keys, 1 to 1000 of them at most, by one call."""
+        return (await self.call(GetRange(start, limit, () if columns is None else columns))).value
+
+    def range(self, start: bytes = b"", stop: Optional[bytes] = None, *, prefix: Optional[bytes] = None,
+              limit: Optional[int] = None, columns: Optional[Sequence[int]] = None) -> RowPairs:
+        """The rows from the key `start` on, before `stop`, whose keys begin with `prefix`, in the order of their keys,
+        at most `limit` of them: an asynchronous iterator, which reads by calls of `first`."""
+        front = b"" if prefix is None else checked_key(prefix, "a prefix")
+        begin = max(front, checked_key(start))
+        ends = [one for one in (prefix_end(front), stop) if one is not None]
+        most = None if limit is None else checked_count(limit, "a limit")
+        return scanned(lambda key, count: self.first(key, count, columns), begin, min(ends, default=None), most)
+
+    def items(self) -> RowPairs:
+        """All keys with their rows, in the order of the keys."""
+        return self.range()
+
+    async def tidy(self, key: bytes) -> Tidied:
+        """Takes out at most one node that is no longer wanted near the place of a key; returns which kind."""
+        return (await self.call(Tidy(key))).value
+
+    # -- views
+
+    async def build(self, spec: ViewSpec) -> View:
+        """Builds a view of a `Range` or a `Prefix`, which follows each change until it is dropped."""
+        return View(self, (await self.call(Build(spec))).value)
+
+    def view(self, number: int) -> View:
+        """The view of this number. Asks nothing: if there is no such view, its calls raise `NoSuchView`."""
+        return View(self, ViewNo(checked_view(number)))
+
+
+class View:
+    """A view of an index: the rows that pass its test, their count, and the sums of their columns. It ends by `drop`, or
+    at the end of its `async with` block."""
+
+    def __init__(self, index: Client, number: ViewNo) -> None:
+        self.index, self.number = index, number
+
+    def __repr__(self) -> str:
+        return f"<rowanspan.aio.View {self.number} of {self.index!r}>"
+
+    async def page(self, floor: int = 0, start: bytes = b"", limit: int = MAX_LIMIT) -> Page:
+        """Its count and sums, and its first rows from the key `start` on, 1 to 1000 of them at most, all at one commit.
+        `floor` is the number of commits that it has to show at least. If it doesn't yet, raises `Behind`: ask again."""
+        return (await self.index.call(ViewRead(self.number, floor, start, limit))).value
+
+    def rows(self, floor: int = 0, start: bytes = b"") -> RowPairs:
+        """Its rows from the key `start` on, page by page: an asynchronous iterator. Each page is exact at a commit of
+        its own."""
+        least = checked_number(floor, "a floor")
+
+        async def read(key: bytes, count: int) -> Pairs:
+            return (await self.page(least, key, count)).rows
+
+        return scanned(read, checked_key(start), None, None)
+
+    async def drop(self) -> None:
+        """Ends it. Its number isn't used again."""
+        await self.index.call(ViewDrop(self.number))
+
+    async def __aenter__(self) -> View:
+        return self
+
+    async def __aexit__(self, kind: Optional[Type[BaseException]], fault: Optional[BaseException],
+                        trace: Optional[TracebackType]) -> None:
+        try:
+            await self.drop()
+        except NoSuchView:
+            pass
+        except RowanspanError:
+            # if the block was left by an exception, that one is raised
+            if kind is None:
+                raise
+
+
+async def scanned(read: Callable[[bytes, int], Awaitable[Pairs]], start: bytes, stop: Optional[bytes],
+                  limit: Optional[int]) -> RowPairs:
+    """The rows from a key on, before `stop`, at most `limit`, by a coroutine that reads the first rows from a key on."""
+    at: Optional[bytes] = start
+    rest: Union[int, float] = float("inf") if limit is None else limit
+    while at is not None and (stop is None or at < stop) and rest > 0:
+        count = int(min(MAX_LIMIT, rest))
+        pairs = await read(at, count)
+        for key, row in pairs:
+            if stop is not None and key >= stop:
+                return
+            yield key, row
+        at = key_after(pairs[-1][0]) if len(pairs) == count else None
+        rest -= len(pairs)

@@ -1,0 +1,143 @@
+"""A pool: up to a number of connections to one server, for any number of threads."""
+from __future__ import annotations
+
+import socket
+import threading
+import time
+from typing import Any, List, Optional, Sequence, Tuple
+
+from .client import Asker, Client, check_address
+from .core import Closed, ConnectionLost, RowanspanError, checked_count
+from .wire import Get, GetRange, Outcome, Query, ViewRead, frame_version, request_frame
+
+__all__ = ["Busy", "Pool"]
+
+# after how many seconds without use it is looked whether a connection has ended
+QUIET_SECONDS = 0.5
+
+
+class Busy(RowanspanError, TimeoutError):
+    """All connections of a pool were in use for as long as the timeout. Nothing was done."""
+
+
+class Pool(Asker):
+    """Up to `size` connections to a server, with the calls of a `Client`, for any number of threads.
+
+        with Pool(7070, size=4) as index:
+            index.put(b"apple", b"red")
+
+    A call uses a connection that no other call uses. It opens one if there are fewer than `size`, and otherwise waits
+    for one: at most `timeout` seconds, and then raises `Busy`. `timeout` is also that of each connection.
+
+    A connection that broke is replaced. Gets, ranges and pages change nothing: if their connection breaks, they are
+    asked once more by a new one. A change is never asked twice: if its connection breaks, it raises `ConnectionLost`,
+    and it isn't known whether it was done. A connection that its server has ended while nobody used it, as at a restart,
+    is seen to have ended before it is used again.
+
+    The connections are opened when they are first needed. Two calls of one thread may use two connections: the second
+    sees what the first has changed, as that has ended before.
+    """
+
+    def __init__(self, port: int, host: str = "127.0.0.1", size: int = 8, timeout: Optional[float] = None) -> None:
+        check_address(port, host, timeout)
+        if checked_count(size, "a size") == 0:
+            raise ValueError("a pool has at least one connection")
+        self._port, self._host, self._size, self._timeout = port, host, size, timeout
+        # guards all below, and says when a connection was given back
+        self._changed = threading.Condition()
+        # those that no call uses, with the time of their last use; the one that was used last is the last
+        self._idle: List[Tuple[Client, float]] = []
+        self._in_use = 0
+        self._is_closed = False
+
+    def __repr__(self) -> str:
+        return f"<rowanspan.Pool {self._host}:{self._port}{', closed' if self._is_closed else ''}>"
+
+    def __enter__(self) -> Pool:
+        return self
+
+    def __exit__(self, *_: object) -> None:
+        self.close()
+
+    def close(self) -> None:
+        """Ends the connections: those in use when their calls end. Later calls raise `Closed`. Views stay."""
+        with self._changed:
+            self._is_closed = True
+            idle, self._idle = self._idle, []
+            self._changed.notify_all()
+        for client, _ in idle:
+            client.close()
+
+    def exchange(self, queries: Sequence[Query[Any]], messages: Sequence[bytes]) -> List[Outcome]:
+        # (what can't be sent is raised before a connection is used)
+        request_frame(messages, frame_version(queries))
+        client = self._take()
+        try:
+            return client.exchange(queries, messages)
+        except ConnectionLost as fault:
+            if isinstance(fault.__cause__, socket.timeout) or not all(map(changes_nothing, queries)):
+                raise
+        finally:
+            self._give_back(client)
+        client = self._take(is_new=True)
+        try:
+            return client.exchange(queries, messages)
+        finally:
+            self._give_back(client)
+
+    # -- connections
+
+    def _take(self, is_new: bool = False) -> Client:
+        """A connection for one call: one that isn't in use, unless it is to be a new one."""
+        client = self._reserve(is_new)
+        if client is not None:
+            return client
+        try:
+            return Client(self._port, self._host, self._timeout)
+        except BaseException:
+            self._release()
+            raise
+
+    def _reserve(self, is_new: bool) -> Optional[Client]:
+        """Waits until a connection may be used. Returns one that is idle, or None if it has to be opened."""
+        until = None if self._timeout is None else time.monotonic() + self._timeout
+        with self._changed:
+            while not self._is_closed:
+                if self._in_use < self._size:
+                    self._in_use += 1
+                    return self._unused(is_new)
+                if not self._changed.wait(None if until is None else until - time.monotonic()):
+                    raise Busy(f"all {self._size} connections were in use for {self._timeout} seconds")
+        raise Closed("the pool is closed")
+
+    def _unused(self, is_new: bool) -> Optional[Client]:
+        """An idle connection that hasn't ended, if there is one. Those that have ended are dropped; and also one that
+        could be used, if a new one is to be opened in its place."""
+        while self._idle:
+            client, used = self._idle.pop()
+            if not is_new and (time.monotonic() < used + QUIET_SECONDS or client.is_usable()):
+                return client
+            client.close()
+            if is_new:
+                break
+        return None
+
+    def _give_back(self, client: Client) -> None:
+        """After a call: the connection is idle again, unless it was lost or the pool was closed."""
+        with self._changed:
+            keeps = not client.is_lost and not self._is_closed
+            if keeps:
+                self._idle.append((client, time.monotonic()))
+        if not keeps:
+            client.close()
+        self._release()
+
+    def _release(self) -> None:
+        with self._changed:
+            self._in_use -= 1
+            self._changed.notify()
+
+
+def changes_nothing(query: Query[Any]) -> bool:
+    """Whether a query can be asked twice."""
+    return isinstance(query, (Get, GetRange, ViewRead))
