@@ -140,7 +140,8 @@ class ShellTest(unittest.TestCase):
         for wrong in ("x", "-1", "65536"):
             self.assertEqual(self.status_of(["-p", wrong, "get", "61", "all"]), 2)
         for words in (["-p", port, "--embedded"], ["-p", port, "--columns", "2"], ["--embedded", "--timeout", "1"],
-                      ["--embedded", "--host", "localhost"], ["--embedded", "--columns", "x"]):
+                      ["--embedded", "--host", "localhost"], ["--embedded", "--columns", "x"], ["--embedded", "--tls"],
+                      ["-p", port, "--ca", "/nowhere"]):
             with self.subTest(words=words):
                 self.assertEqual(self.status_of([*words, "get", "61", "all"]), 2)
         self.assertEqual(self.status_of(["-p", port, "get", "61", "all"]), 3)

@@ -15,7 +15,8 @@ from __future__ import annotations
 import asyncio
 from collections import deque
 from types import TracebackType
-from typing import Any, AsyncIterator, Awaitable, Callable, Deque, List, Optional, Sequence, Tuple, Type, TypeVar, Union, overload
+from typing import (TYPE_CHECKING, Any, AsyncIterator, Awaitable, Callable, Deque, List, Optional, Sequence, Tuple,
+                    Type, TypeVar, Union, overload)
 
 from .client import check_address
 from .core import (MAX_LIMIT, BadReply, Closed, ConnectionLost, NoSuchView, OtherVersion, Page, Pairs, Refused,
@@ -23,6 +24,9 @@ from .core import (MAX_LIMIT, BadReply, Closed, ConnectionLost, NoSuchView, Othe
                    checked_number, checked_view, key_after, prefix_end)
 from .wire import (MAX_QUERIES, MAX_REPLY_BODY, MAX_REQUEST_BODY, Build, Get, GetRange, Outcome, Put, PutIf, Query,
                    Remove, Reply, Tidy, ViewDrop, ViewRead, frame_version, read_replies, request_frame, spelled_query)
+
+if TYPE_CHECKING:
+    import ssl
 
 __all__ = ["Client", "View"]
 
@@ -55,12 +59,13 @@ class Client:
     `asyncio.TimeoutError`. A call that was sent and is cancelled, or has timed out, may have been done; the answer is
     dropped when it comes, and the other calls aren't affected. One that wasn't sent yet is never sent.
 
-    A client connects at the begin of its `async with` block, or by `connect`.
+    A client connects at the begin of its `async with` block, or by `connect`; by TLS if it is given a context for it.
     """
 
-    def __init__(self, port: int, host: str = "127.0.0.1", timeout: Optional[float] = None) -> None:
-        check_address(port, host, timeout)
-        self._port, self._host, self._timeout = port, host, timeout
+    def __init__(self, port: int, host: str = "127.0.0.1", timeout: Optional[float] = None,
+                 tls: Optional[ssl.SSLContext] = None) -> None:
+        check_address(port, host, timeout, tls)
+        self._port, self._host, self._timeout, self._tls = port, host, timeout, tls
         self._writer: Optional[asyncio.StreamWriter] = None
         self._reading: Optional[asyncio.Task[None]] = None
         self._waiting: Deque[Asked] = deque()
@@ -83,7 +88,7 @@ class Client:
         """Connects, and returns the client. Raises `ConnectionLost` if there is no server, or the timeout is over."""
         if self._writer is not None:
             return self
-        opening = asyncio.open_connection(self._host, self._port)
+        opening = asyncio.open_connection(self._host, self._port, ssl=self._tls)
         try:
             reader, writer = await asyncio.wait_for(opening, self._timeout)
         except (OSError, asyncio.TimeoutError, ValueError) as fault:

@@ -5,7 +5,7 @@ import abc
 import selectors
 import socket
 import struct
-from typing import Any, List, Optional, Sequence, TypeVar
+from typing import TYPE_CHECKING, Any, List, Optional, Sequence, TypeVar
 
 from .core import (MAX_LIMIT, BadReply, Closed, ConnectionLost, Page, Pairs, Refused, Row, Sets, Tidied, TooLong,
                    ViewNo, ViewSpec, checked_number)
@@ -13,6 +13,10 @@ from .mapping import RowMap
 from .pipeline import Pipeline
 from .wire import (MAX_REPLY_BODY, Build, Get, GetRange, Outcome, Put, PutIf, Query, Remove, Reply, Tidy, ViewDrop,
                    ViewRead, frame_version, read_replies, request_frame, spelled_query)
+
+if TYPE_CHECKING:
+    # (it takes long to import, and most clients don't need it)
+    import ssl
 
 __all__ = ["receive", "receive_body", "Asker", "Client"]
 
@@ -99,7 +103,7 @@ class Asker(RowMap):
 
 # ---- the connection
 
-def check_address(port: Any, host: Any, timeout: Any) -> None:
+def check_address(port: Any, host: Any, timeout: Any, tls: Any) -> None:
     """Raises TypeError if one of them is of a wrong type, and `TooLong` for a timeout that is no time to wait."""
     checked_number(port, "a port", 65535)
     if not isinstance(host, str):
@@ -108,27 +112,41 @@ def check_address(port: Any, host: Any, timeout: Any) -> None:
         raise TypeError(f"a timeout must be a number of seconds or None, not {type(timeout).__name__}")
     if timeout is not None and not 0 < timeout < float("inf"):
         raise TooLong(f"a timeout must be more than 0 seconds, or None to wait without end, not {timeout}")
+    if tls is not None and not hasattr(tls, "wrap_socket"):
+        raise TypeError(f"tls must be an ssl.SSLContext or None, not {type(tls).__name__}")
+
+
+def connected(port: int, host: str, timeout: Optional[float], tls: Optional[ssl.SSLContext]) -> socket.socket:
+    """A connection to a server, by TLS if there is a context for it. Raises OSError or ValueError."""
+    connection = socket.create_connection((host, port), timeout)
+    try:
+        connection.setsockopt(socket.IPPROTO_TCP, socket.TCP_NODELAY, 1)
+        return connection if tls is None else tls.wrap_socket(connection, server_hostname=host)
+    except BaseException:
+        connection.close()
+        raise
 
 
 class Client(Asker):
     """A connection to a server, for one thread at a time: give each thread its own.
 
     `timeout` is for how many seconds a connect, a send or a receive may wait (None: without end); one that waits longer
-    closes the connection. A server has as many workers as it serves connections at once: if all are busy, a call
+    closes the connection. `tls` is how a server behind a TLS proxy is spoken to, such as
+    `ssl.create_default_context()`. A server has as many workers as it serves connections at once: if all are busy, a call
     waits until another client has closed its connection.
 
     A call sends one frame and waits for its answer: one round trip. `range` makes as many calls as it needs, each of
     which returns up to 1000 rows. `pipeline` sends up to 64 queries in one frame.
     """
 
-    def __init__(self, port: int, host: str = "127.0.0.1", timeout: Optional[float] = None) -> None:
+    def __init__(self, port: int, host: str = "127.0.0.1", timeout: Optional[float] = None,
+                 tls: Optional[ssl.SSLContext] = None) -> None:
         self._connection: Optional[socket.socket] = None
         self._is_lost = False
-        check_address(port, host, timeout)
+        check_address(port, host, timeout, tls)
         self._address = f"{host}:{port}"
         try:
-            self._connection = socket.create_connection((host, port), timeout)
-            self._connection.setsockopt(socket.IPPROTO_TCP, socket.TCP_NODELAY, 1)
+            self._connection = connected(port, host, timeout, tls)
         except (OSError, OverflowError, ValueError) as fault:
             # (a ValueError: the host is no name that can be looked up)
             self.close()

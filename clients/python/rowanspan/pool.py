@@ -4,11 +4,14 @@ from __future__ import annotations
 import socket
 import threading
 import time
-from typing import Any, List, Optional, Sequence, Tuple
+from typing import TYPE_CHECKING, Any, List, Optional, Sequence, Tuple
 
 from .client import Asker, Client, check_address
 from .core import Closed, ConnectionLost, RowanspanError, checked_count
 from .wire import Get, GetRange, Outcome, Query, ViewRead, frame_version, request_frame
+
+if TYPE_CHECKING:
+    import ssl
 
 __all__ = ["Busy", "Pool"]
 
@@ -27,7 +30,8 @@ class Pool(Asker):
             index.put(b"apple", b"red")
 
     A call uses a connection that no other call uses. It opens one if there are fewer than `size`, and otherwise waits
-    for one: at most `timeout` seconds, and then raises `Busy`. `timeout` is also that of each connection.
+    for one: at most `timeout` seconds, and then raises `Busy`. `timeout` and `tls` are also those of each
+    connection.
 
     A connection that broke is replaced. Gets, ranges and pages change nothing: if their connection breaks, they are
     asked once more by a new one. A change is never asked twice: if its connection breaks, it raises `ConnectionLost`,
@@ -38,11 +42,12 @@ class Pool(Asker):
     sees what the first has changed, as that has ended before.
     """
 
-    def __init__(self, port: int, host: str = "127.0.0.1", size: int = 8, timeout: Optional[float] = None) -> None:
-        check_address(port, host, timeout)
+    def __init__(self, port: int, host: str = "127.0.0.1", size: int = 8, timeout: Optional[float] = None,
+                 tls: Optional[ssl.SSLContext] = None) -> None:
+        check_address(port, host, timeout, tls)
         if checked_count(size, "a size") == 0:
             raise ValueError("a pool has at least one connection")
-        self._port, self._host, self._size, self._timeout = port, host, size, timeout
+        self._port, self._host, self._size, self._timeout, self._tls = port, host, size, timeout, tls
         # guards all below, and says when a connection was given back
         self._changed = threading.Condition()
         # those that no call uses, with the time of their last use; the one that was used last is the last
@@ -93,7 +98,7 @@ class Pool(Asker):
         if client is not None:
             return client
         try:
-            return Client(self._port, self._host, self._timeout)
+            return Client(self._port, self._host, self._timeout, self._tls)
         except BaseException:
             self._release()
             raise

@@ -4,6 +4,7 @@ from __future__ import annotations
 import argparse
 import os
 import sys
+from pathlib import Path
 from typing import TYPE_CHECKING, Any, Callable, Iterable, List, Optional, Sequence
 
 from .client import Client
@@ -18,7 +19,7 @@ if TYPE_CHECKING:
     from .embedded import Index
 
 USES = """\
-rowan [-p PORT [--host HOST] [--timeout SECONDS] | --embedded [--columns N]] [--text] [WORD ..]
+rowan [-p PORT [--host HOST] [--timeout SECONDS] [--tls [--ca FILE]] | --embedded [--columns N]] [--text] [WORD ..]
        rowan serve [OPTION ..]
        rowan board -p PORT [OPTION ..]
        rowan mirror postgres | etcd -p PORT [OPTION ..]
@@ -93,6 +94,9 @@ def parser() -> argparse.ArgumentParser:
     made.add_argument("--host", help="the server's address (127.0.0.1)")
     made.add_argument("--timeout", type=seconds, metavar="SECONDS",
                       help="how long an answer of the server may take (without end)")
+    made.add_argument("--tls", action="store_true", help="speaks TLS, to a proxy in front of the server")
+    made.add_argument("--ca", type=Path, metavar="FILE",
+                      help="the certificates that a server's is signed by (those of the system); with --tls")
     made.add_argument("--embedded", action="store_true",
                       help="asks an index in this process, which is empty at first and ends with it")
     made.add_argument("--columns", type=int, metavar="N", help="how many columns the index of this process has (1)")
@@ -111,8 +115,10 @@ def parsed(words: Sequence[str]) -> argparse.Namespace:
     options = made.parse_args(words)
     if options.embedded == (options.port is not None):
         made.error("one of -p PORT and --embedded is needed")
-    if options.embedded and (options.host is not None or options.timeout is not None):
-        made.error("--host and --timeout are for a server")
+    if options.embedded and (options.host is not None or options.timeout is not None or options.tls):
+        made.error("--host, --timeout and --tls are for a server")
+    if options.ca is not None and not options.tls:
+        made.error("--ca is for --tls")
     if options.columns is not None and not options.embedded:
         made.error("--columns is for --embedded")
     return options
@@ -222,7 +228,12 @@ def answer_by_index(options: argparse.Namespace, lines: Iterable[str], notation:
 
 def answer_by_server(options: argparse.Namespace, lines: Iterable[str], notation: Notation) -> int:
     """Answers lines over a connection to a server; returns the status."""
-    with Client(options.port, options.host or "127.0.0.1", options.timeout) as index:
+    tls = None
+    if options.tls:
+        import ssl
+
+        tls = ssl.create_default_context(cafile=options.ca)
+    with Client(options.port, options.host or "127.0.0.1", options.timeout, tls) as index:
         return answer_all(lambda query: index.call_all([query])[0], lines, notation)
 
 

@@ -2,6 +2,7 @@
 //! which it is.
 
 ghost use Rattle.std.specs.Prelude.{◌≡◌, ◌+◌, ◌<◌, ◌≤◌, ◌⊎◌, ◌↔◌, length, IfOk, IfErr, IfSome, IsSome, IsTrue, OnOk, OnErr, MatchOption, Some, Err, true};
+ghost use Rattle.std.specs.Option.{option_copied};
 ghost use Rattle.mt_promise.specs.History.{History, moment};
 ghost use Rattle.mt_commit.specs.Laws.{times_held};
 ghost use Rattle.mt_types.specs.Numbers.{greatest_number};
@@ -173,8 +174,8 @@ impl Machine {
     /// Returns the state of a view: the number of commits at which it is, its rows, their count and their sums, of which
     /// nothing is copied. Returns `None` if no view has this number. No event happens. O(log n) in the views.
     pub fn view(&self, view: ViewNo) -> Option<&ViewState>
-        ensures view { result ≡ state_at view.0 self.now.views.views }
-        ensures exact { IfSome result
+        ensures view { option_copied result ≡ state_at view.0 self.now.views.views }
+        ensures exact { IfSome (option_copied result)
             (λ state. (h : History) → Stands self.now h → CopiesView self.now.columns (moment h) view.0 state) }
     {
         self.views.get(view.0)

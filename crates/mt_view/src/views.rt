@@ -1,7 +1,7 @@
 //! The views of an index, by their numbers, and the places that open builds keep among them.
 
 ghost use Rattle.std.specs.Prelude.{Some, ◌≡◌, ◌+◌, ◌-◌, ◌<◌, ◌≤◌, ◌⊎◌, ◌↔◌, ◌++◌, [], ◌∷◌, IfOk, IfErr, IsErrOf, IsSome, IsTrue, OnOk, OnErr};
-ghost use Rattle.std.specs.Option.{option_map};
+ghost use Rattle.std.specs.Option.{option_copied, option_map};
 ghost use Rattle.mt_types.specs.Numbers.{greatest_number};
 ghost use Rattle.mt_types.specs.declared.limits.TheConstants.{MAX_VIEWS};
 ghost use Rattle.mt_promise.specs.History.{StandingView, furthest, meant_view};
@@ -157,7 +157,7 @@ impl Views {
 
     /// Returns the state of the view of this number, if there is one. O(log n) in the views.
     pub fn get(&self, number: u64) -> Option<&ViewState>
-        ensures { result ≡ state_at number self.now.views }
+        ensures { option_copied result ≡ state_at number self.now.views }
     {
         self.views.get(&number)
     }
