@@ -92,8 +92,9 @@ impl Machine {
     ///
     /// # Errors
     ///
-    /// `BadColumn` unless `columns` is from 1 to `MAX_COLUMNS`; `BadLimit` unless `feed` is from 1 to `MAX_LOG_CAPACITY` and
-    /// `keep` is at most `MAX_LOG_RETENTION`; `NoMemory` if an allocation is refused. The first of these that applies.
+    /// `BadColumn` unless `columns` is from 1 to `MAX_COLUMNS`; `BadLimit` unless `log_capacity` is from 1 to
+    /// `MAX_LOG_CAPACITY` and `log_retention` is at most `MAX_LOG_RETENTION`; `NoMemory` if an allocation is refused. The
+    /// first of these that applies.
     pub fn open(alloc: Global, options: Options) -> Result<Machine, Refusal>
         ensures opened { IfOk result
             (λ machine. (machine.columns ≡ options.columns) × HasBounds options.log_capacity options.log_retention machine.log
