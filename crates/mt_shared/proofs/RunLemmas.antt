@@ -65,17 +65,17 @@ pass_with p events commits seen = record p { events = events; commits = commits;
 
 module _ (s : InnerView) (p : PassView) (there : has_counters p.number s.counters ≡ true) (within : p.number.0 - 1 < length s.counters) (off : p.trace ≡ Off) where
   right : (m : MachineView) (events : ℕ) (own : Counters) (e : Event) → is_foreign m p.number e ≡ false → is_wrong (now_kept s (p.number.0 - 1) m events own) p.number e ≡ false
-  right m events own e own =
+  right m events own e is_own =
       ap (λ n. not (not (eqb p.number.0 0) && leb p.number.0 n) || is_foreign m p.number e) (length-set s.counters (p.number.0 - 1) own)
-      ∙ ap (λ (b : Bool). not b || is_foreign m p.number e) there ∙ own
+      ∙ ap (λ (b : Bool). not b || is_foreign m p.number e) there ∙ is_own
 
   pub one_more : (m n : MachineView) (events : ℕ) (own : Counters) (made commits seen : ℕ) (e : Event) (o : Outcome) → is_foreign m p.number e ≡ false → (events ≡ greatest_number → ⊥) → (made ≡ greatest_number → ⊥) → Makes m e o n
       → Does (now_kept s (p.number.0 - 1) m events own) (pass_with p made commits seen) e o
       (now_kept s (p.number.0 - 1) n (events + 1) (counters_with o own)) (pass_with p (made + 1) (commits + commit_count o) (max seen (seen_in o)))
-  one_more m n events own made commits seen e o own more again makes =
+  one_more m n events own made commits seen e o is_own more again makes =
       let i = p.number.0 - 1 in
       does_make (now_kept s i m events own) (pass_with p made commits seen) e o (now_kept s i n (events + 1) (counters_with o own)) (pass_with p (made + 1) (commits + commit_count o) (max seen (seen_in o)))
-      (sym (right m events own e own)) (not_spent (now_kept s i m events own) (pass_with p made commits seen) more again) (record {
+      (sym (right m events own e is_own)) (not_spent (now_kept s i m events own) (pass_with p made commits seen) more again) (record {
         makes = makes;
         events = refl;
         own = own;
@@ -111,7 +111,7 @@ module _ (s : InnerView) (p : PassView) (there : has_counters p.number s.counter
     pub made_is : made_then ≡ made + length os
     pub commits_are : commits_then ≡ commits + sum_by commit_count os
     pub seen_is : seen_then ≡ seen
-    pub own : pass_at call.0 n.calls.calls ≡ pass_at call.0 m.calls.calls
+    pub is_own : pass_at call.0 n.calls.calls ≡ pass_at call.0 m.calls.calls
 
   shows_none : (o : Outcome) → GoesOnAtOnce o → seen_in o ≡ 0
   shows_none Moved on = refl
@@ -120,7 +120,7 @@ module _ (s : InnerView) (p : PassView) (there : has_counters p.number s.counter
 
   counted : (m n : MachineView) (call : CallNo) (events : ℕ) (own : Counters) (made commits seen : ℕ) (os : List Outcome) → is_other (pass_at call.0 m.calls.calls) p.number ≡ false → events + length os ≤ greatest_number → made + length os ≤ greatest_number
       → All GoesOnAtOnce os → MakesSteps m call os n → Counted m n call events own made commits seen os
-  counted m n call events own made commits seen [] own more again on same = record {
+  counted m n call events own made commits seen [] is_own more again on same = record {
     events_then = events;
     counters_then = own;
     made_then = made;
@@ -134,14 +134,14 @@ module _ (s : InnerView) (p : PassView) (there : has_counters p.number s.counter
     made_is = omega arith;
     commits_are = omega arith;
     seen_is = refl;
-    own = ap (λ (x : MachineView). pass_at call.0 x.calls.calls) same;
+    is_own = ap (λ (x : MachineView). pass_at call.0 x.calls.calls) same;
   }
-  counted m n call events own made commits seen (o ∷ os) own more again on (next, one, rest) =
+  counted m n call events own made commits seen (o ∷ os) is_own more again on (next, one, rest) =
       let goes = All-head GoesOnAtOnce o os on in
       let kept = pass-kept m next call o one goes in
       let none = shows_none o goes in
-      let first = one_more m next events own made commits seen (Step call) o own (λ e. omega (arith, e, more)) (λ e. omega (arith, e, again)) one in
-      let later = counted next n call (events + 1) (counters_with o own) (made + 1) (commits + commit_count o) (max seen (seen_in o)) os (ap (λ (x : _). is_other x p.number) kept ∙ own) (omega (arith, more)) (omega (arith, again)) (All-tail GoesOnAtOnce o os on) rest in
+      let first = one_more m next events own made commits seen (Step call) o is_own (λ e. omega (arith, e, more)) (λ e. omega (arith, e, again)) one in
+      let later = counted next n call (events + 1) (counters_with o own) (made + 1) (commits + commit_count o) (max seen (seen_in o)) os (ap (λ (x : _). is_other x p.number) kept ∙ is_own) (omega (arith, more)) (omega (arith, again)) (All-tail GoesOnAtOnce o os on) rest in
       let a = later.events_are in let b = later.counters_events in let c = later.counters_commits in let d = later.counters_seen in
       let e = later.made_is in let f = later.commits_are in let g = later.seen_is in
       let whole = sum_by-append commit_count (o ∷ []) os in
@@ -159,7 +159,7 @@ module _ (s : InnerView) (p : PassView) (there : has_counters p.number s.counter
         made_is = omega (arith, e);
         commits_are = omega (arith, f, whole);
         seen_is = omega (arith, g, none);
-        own = later.own ∙ kept;
+        is_own = later.is_own ∙ kept;
       }
 
   go_steps : (call : CallNo) (os : List Outcome) → All GoesOnAtOnce os → All (IsRunStep p.number call) (map (step_of call) os)
@@ -189,15 +189,15 @@ module _ (s : InnerView) (p : PassView) (there : has_counters p.number s.counter
   pub goes : (call : CallNo) (run : Run) (n : MachineView) (b : Counters) → IsInner s → s.trace ≡ Off → is_other (pass_at call.0 s.machine.calls.calls) p.number ≡ false → b ≡ get_or s.counters (p.number.0 - 1) b
       → s.events + run.steps < 2 ^ 64 → p.events + run.steps < 2 ^ 64 → GoesThrough s.machine call run n
       → HasGone Does s p call run.last (record { machine = n; events = s.events + run.steps; counters = set s.counters (p.number.0 - 1) (counters_after run b); trace = s.trace; tidies = s.tidies }) (pass_after run p)
-  goes call run n b k none own at here there' g =
+  goes call run n b k none is_own at here there' g =
       let i = p.number.0 - 1 in
       let many = g.many in
       let whole = g.commits in
-      let made = counted s.machine g.before call s.events b p.events p.commits p.seen g.outcomes own (omega (arith, here, many)) (omega (arith, there', many)) g.go_on g.steps in
+      let made = counted s.machine g.before call s.events b p.events p.commits p.seen g.outcomes is_own (omega (arith, here, many)) (omega (arith, there', many)) g.go_on g.steps in
       let a = made.events_are in let be = made.counters_events in let bc = made.counters_commits in let bs = made.counters_seen in
       let e = made.made_is in let f = made.commits_are in let x = made.seen_is in
       let runs = subst (λ (m : InnerView). Runs Does m p (map (step_of call) g.outcomes) (now_kept s i g.before made.events_then made.counters_then) (pass_with p made.made_then made.commits_then made.seen_then)) (same_kept b none at) made.runs in
-      let last = one_more g.before n made.events_then made.counters_then made.made_then made.commits_then made.seen_then (Step call) run.last (ap (λ (w : _). is_other w p.number) made.own ∙ own) (λ q. omega (arith, q, a, here, many)) (λ q. omega (arith, q, e, there', many)) g.last in
+      let last = one_more g.before n made.events_then made.counters_then made.made_then made.commits_then made.seen_then (Step call) run.last (ap (λ (w : _). is_other w p.number) made.is_own ∙ is_own) (λ q. omega (arith, q, a, here, many)) (λ q. omega (arith, q, e, there', many)) g.last in
       let then : InnerView = record { machine = n; events = s.events + run.steps; counters = set s.counters i (counters_after run b); trace = Off; tidies = s.tidies } in
       let is_then : now_kept s i n (made.events_then + 1) (counters_with run.last made.counters_then) ≡ then =
       ap (λ (v : ℕ). now_kept s i n v (counters_with run.last made.counters_then)) (omega (arith, a, many))
@@ -227,8 +227,8 @@ module _ (s : InnerView) (p : PassView) (there : has_counters p.number s.counter
       → Does s p (Begin p.number request) run.last (record { machine = n; events = s.events + 1; counters = set s.counters (p.number.0 - 1) (counters_after run b); trace = s.trace; tidies = s.tidies }) (pass_after run p)
   opens request run n b none at here there' one none_made zero makes =
       let i = p.number.0 - 1 in
-      let own : not (eqb p.number.0 p.number.0) ≡ false = ap not (eq-eqb p.number.0 p.number.0 refl) in
-      let made = one_more s.machine n s.events b p.events p.commits p.seen (Begin p.number request) run.last own (λ q. omega (arith, q, here)) (λ q. omega (arith, q, there')) makes in
+      let is_own : not (eqb p.number.0 p.number.0) ≡ false = ap not (eq-eqb p.number.0 p.number.0 refl) in
+      let made = one_more s.machine n s.events b p.events p.commits p.seen (Begin p.number request) run.last is_own (λ q. omega (arith, q, here)) (λ q. omega (arith, q, there')) makes in
       let is_then : now_kept s i n (s.events + 1) (counters_with run.last b) ≡ record { machine = n; events = s.events + 1; counters = set s.counters i (counters_after run b); trace = Off; tidies = s.tidies } =
       ap (λ (v : Counters). now_kept s i n (s.events + 1) v) (counters_is (counters_with run.last b) (counters_after run b) (omega (arith, one)) (omega (arith, none_made, zero)) refl) in
       let is_pass : pass_with p (p.events + 1) (p.commits + commit_count run.last) (max p.seen (seen_in run.last)) ≡ pass_after run p =
@@ -243,12 +243,12 @@ pub gone_as_counted : (s : InnerView) (p q : PassView) (call : CallNo) (run : Ru
     → b ≡ get_or s.counters (p.number.0 - 1) b → s.events + run.steps < 2 ^ 64 → p.events + run.steps < 2 ^ 64 → GoesThrough s.machine call run n → counters ≡ set s.counters (p.number.0 - 1) (counters_after run b) → events ≡ s.events + run.steps → q ≡ pass_after run p
     → HasGone Does s p call run.last (record { machine = n; events = events; counters = counters; trace = s.trace; tidies = s.tidies }) q
 gone_as_counted s p q call run n b counters events number k off same mine at here far went counters_are events_are pass_is' =
-    let own = subst (λ (m : PassNo). false ≡ is_wrong s m (Step call)) same mine in
-    let both = in_counters s p.number (Step call) own in
+    let is_own = subst (λ (m : PassNo). false ≡ is_wrong s m (Step call)) same mine in
+    let both = in_counters s p.number (Step call) is_own in
     subst (λ (e : ℕ). HasGone Does s p call run.last (record { machine = n; events = e; counters = counters; trace = s.trace; tidies = s.tidies }) q) (sym events_are)
     (subst (λ (bs : List Counters). HasGone Does s p call run.last (record { machine = n; events = s.events + run.steps; counters = bs; trace = s.trace; tidies = s.tidies }) q) (sym counters_are)
     (subst (λ (r : PassView). HasGone Does s p call run.last (record { machine = n; events = s.events + run.steps; counters = set s.counters (p.number.0 - 1) (counters_after run b); trace = s.trace; tidies = s.tidies }) r) (sym pass_is')
-    (goes s p (has_its_counters s p.number (Step call) own) both.0 off.1 call run n b k off.0 both.1 at here far went)))
+    (goes s p (has_its_counters s p.number (Step call) is_own) both.0 off.1 call run n b k off.0 both.1 at here far went)))
 
 pub gone_keep : (s : InnerView) (p : PassView) (call : CallNo) (o : Outcome) (t : InnerView) (q : PassView) → IsInner s → HasGone Does s p call o t q → IsInner t
 gone_keep s p call o t q k g = does_keep g.then g.between (Step call) o t q (runs_keep s p g.steps g.then g.between k g.runs) g.made
@@ -267,10 +267,10 @@ starts_own s p request call run begun n b k off there at here far makes went =
     let does : Does s p (Begin p.number request) (Call call) mid r = opens s p there within off.1 request first begun b off.0 at (omega (arith, here)) (omega (arith, far)) refl refl refl makes in
     let there_too = ap (λ n. not (eqb p.number.0 0) && leb p.number.0 n) (length-set s.counters i one) ∙ there in
     let (h, st, long, told) = k.stands in
-    let own = ap (λ (w : _). is_other w p.number) (begun_pass s.machine begun h p.number request call st makes) ∙ ap not (eq-eqb p.number.0 p.number.0 refl) in
+    let is_own = ap (λ (w : _). is_other w p.number) (begun_pass s.machine begun h p.number request call st makes) ∙ ap not (eq-eqb p.number.0 p.number.0 refl) in
     let kept = does_keep s p (Begin p.number request) (Call call) mid r k does in
     let gone : HasGone Does mid r call run.last (record { machine = n; events = s.events + 1 + run.steps; counters = set (set s.counters i one) i (counters_after run one); trace = s.trace; tidies = s.tidies }) (pass_after run r) =
-    goes mid r there_too (counters_within p.number mid.counters there_too) off.1 call run n one kept off.0 own (sym (get_or-set_same s.counters i one one within)) (omega (arith, here)) (omega (arith, far)) went in
+    goes mid r there_too (counters_within p.number mid.counters there_too) off.1 call run n one kept off.0 is_own (sym (get_or-set_same s.counters i one one within)) (omega (arith, here)) (omega (arith, far)) went in
     let then_is = set-set s.counters i one (counters_after run one) ∙ ap (set s.counters i)
     (counters_is s p there within off.1 (counters_after run one) (counters_after (record run { steps = run.steps + 1 }) b) (omega arith) (omega arith) (omega arith)) in
     let pass_then = pass_is s p there within off.1 (p.events + 1 + run.steps) (p.commits + 0 + run.commits) (max (max p.seen 0) (seen_in run.last)) (p.events + (run.steps + 1)) (p.commits + run.commits) (max p.seen (seen_in run.last)) (omega arith) (omega arith) (omega arith) in (
