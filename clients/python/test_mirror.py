@@ -6,16 +6,17 @@ import random
 import sys
 import unittest
 from dataclasses import replace
-from typing import Any, Dict, Iterator, List, Optional, Sequence
+from typing import Any, Dict, Iterator, List, Optional
 
 import rowanspan
-from rowanspan import Client, ConnectionLost, FeedFull, Put, PutIf, Remove, Row, mirror
+from rowanspan import Closed, ConnectionLost, FeedFull, Put, PutIf, Remove, Row, mirror
 from rowanspan.mirror import Position, State
 from rowanspan.mirror.errors import BadMapping, CopyAgain, NeedsDecision, Overtaken
 from rowanspan.mirror.following import follow
-from rowanspan.mirror.frames import CHANGES, change_frame, read_change_frame, spelled_change
+from rowanspan.mirror.frames import (CHANGES, FrameClient, change_frame, key_of_change, read_change_frame,
+                                     spelled_change)
 from rowanspan.mirror.place import position_key
-from rowanspan.mirror.source import Copy, Group, Sets, Source, Take
+from rowanspan.mirror.source import Copy, Group, Sets, Source, TakePuts
 from rowanspan.mirror.target import Keys, Target
 from stand_in import Options, PlainIndex, StandIn
 from stand_in_wire import spelled_refusal
@@ -54,29 +55,36 @@ class FrameTest(unittest.TestCase):
         """They are spelled as the client spells queries."""
         self.assertEqual(spelled_change(b"k", {0: b"v", 3: b""}), Put(b"k", {0: b"v", 3: b""}).spelled())
         self.assertEqual(spelled_change(b"k", None), Remove(b"k").spelled())
+        for sets in ({0: b"v"}, None):
+            self.assertEqual(key_of_change(spelled_change(b"k" * 300, sets)), b"k" * 300)
 
     def test_answers(self) -> None:
-        with StandIn() as server, Client(server.port, timeout=SECONDS) as index:
+        with StandIn() as server, FrameClient(server.port, timeout=SECONDS) as index:
             key, position = position_key("m"), a_position()
             puts = [spelled_change(b"%d" % number, {0: b"v"}) for number in range(CHANGES)]
             for changes, found in ((puts, 0), (puts, 1), ([spelled_change(b"9", None)] * 2, 64), ([], 127)):
-                (body,) = index.exchange_frames([change_frame(key, position, changes)])
-                written = read_change_frame(body, len(changes))
+                index.send_frame(change_frame(key, position, changes))
+                written = read_change_frame(index.receive_reply(), len(changes))
                 self.assertEqual((written.found, written.done, written.refused), (found, len(changes), None))
                 self.assertEqual(written.version, index[key].version)
             bad = [puts[0], spelled_change(b"k", {1: b"v"}), puts[1]]
-            (body,) = index.exchange_frames([change_frame(key, position, bad)])
-            written = read_change_frame(body, 3)
+            index.send_frame(change_frame(key, position, bad))
+            written = read_change_frame(index.receive_reply(), 3)
             self.assertEqual((written.done, type(written.refused)), (1, rowanspan.BadColumn))
 
     def test_lost_connections(self) -> None:
         with StandIn(Options(sessions=1)) as server:
-            index = Client(server.port, timeout=SECONDS)
-            with self.assertRaises(ConnectionLost):
-                index.exchange_frames([b"\0\0\0\2\1\0"])
-            with self.assertRaises(ConnectionLost):
-                index.exchange_frames([])
+            index = FrameClient(server.port, timeout=SECONDS)
+            index.send_frame(b"\0\0\0\2\1\0")
+            for call in (index.receive_reply, index.receive_reply, lambda: index.send_frame(b"\0\0\0\2\1\0")):
+                with self.assertRaises(ConnectionLost):
+                    call()
             index.close()
+        with StandIn() as server:
+            index = FrameClient(server.port, timeout=SECONDS)
+            index.close()
+            with self.assertRaises(Closed):
+                index.receive_reply()
 
 
 # ---- a source, and a client that dies
@@ -87,6 +95,17 @@ class Done(Exception):
 
 class Killed(Exception):
     """The mirror is to be over at once."""
+
+
+def copy_of(at: int, rows: Rows, many: int = 1) -> Copy:
+    """A copy of these rows, so many at a time."""
+    puts = [spelled_change(key, sets) for key, sets in rows.items()]
+
+    def take_all(take: TakePuts) -> None:
+        for begin in range(0, len(puts), many):
+            take(puts[begin:begin + many])
+
+    return Copy(at, take_all)
 
 
 class Fake(Source):
@@ -115,11 +134,7 @@ class Fake(Source):
     def copy(self) -> Copy:
         at = self._chance.randint(self.confirmed, len(self._history))
 
-        def rows(take: Take) -> None:
-            for key, sets in self.rows_at(at).items():
-                take(key, sets)
-
-        return Copy(at, rows)
+        return copy_of(at, self.rows_at(at), self._chance.randint(1, 200))
 
     def follow(self, start: int) -> Iterator[Group]:
         if start < self.kept_from:
@@ -141,7 +156,7 @@ class Fake(Source):
         pass
 
 
-class Dying(Client):
+class Dying(FrameClient):
     """A client whose process is killed after some frames: before a frame, after it, or with the frame still on its way
     to the server."""
 
@@ -151,12 +166,12 @@ class Dying(Client):
         # what was on its way
         self.late: List[bytes] = []
 
-    def exchange_frames(self, frames: Sequence[bytes]) -> List[bytes]:
+    def send_frame(self, frame: bytes) -> None:
         self._frames -= 1
         if self._frames < 0:
-            self.late = list(frames) if self._leaves else []
+            self.late = [frame] if self._leaves else []
             raise Killed()
-        return super().exchange_frames(frames)
+        super().send_frame(frame)
 
     def put_if(self, key: bytes, sets: Any, version: int) -> int:
         self._frames -= 1
@@ -168,7 +183,7 @@ class Dying(Client):
 class FollowTest(unittest.TestCase):
     def setUp(self) -> None:
         self.server = self.enter(StandIn(Options(columns=2, workers=8)))
-        self.index = self.enter(Client(self.server.port, timeout=SECONDS))
+        self.index = self.enter(FrameClient(self.server.port, timeout=SECONDS))
         self.said: List[str] = []
 
     def enter(self, context: Any) -> Any:
@@ -178,11 +193,11 @@ class FollowTest(unittest.TestCase):
     def rows(self) -> Dict[bytes, Sets]:
         return {key: dict(enumerate(row.columns)) for key, row in self.index.range(prefix=b"m/")}
 
-    def target(self, index: Client, **changed: Any) -> Target:
+    def target(self, index: FrameClient, **changed: Any) -> Target:
         given = {"name": "m", "owner": OWNER, "keys": Keys(b"m/"), "columns": 2, **changed}
         return Target(index, **given)
 
-    def run_once(self, source: Fake, index: Client) -> bool:
+    def run_once(self, source: Fake, index: FrameClient) -> bool:
         """Runs a mirror until it is killed, or has all; returns whether it has all."""
         try:
             with index:
@@ -215,8 +230,28 @@ class FollowTest(unittest.TestCase):
 
     def test_many_rows(self) -> None:
         source = Fake(random.Random(1), 2000, 1500)
-        self.assertTrue(self.run_once(source, Client(self.server.port, timeout=SECONDS)))
+        self.assertTrue(self.run_once(source, FrameClient(self.server.port, timeout=SECONDS)))
         self.assertEqual(self.rows(), source.rows_at(2000))
+
+    def test_stale_rows(self) -> None:
+        """A copy removes what was written before it, and no other, also if it has to begin again."""
+        rows: Rows = {b"m/%d" % number: {0: b"x"} for number in range(CHANGES * 40)}
+        target = self.target(self.index)
+
+        def broken_off(take: TakePuts) -> None:
+            take([spelled_change(key, sets) for key, sets in rows.items()])
+            raise CopyAgain("once more")
+
+        for stale in (b"m/stale", b"m/1"):
+            self.index.put(stale, b"old")
+            target.find(0.0)
+            target.begin_copy()
+            with self.assertRaisesRegex(CopyAgain, "once more"):
+                target.copy(Copy(2, broken_off))
+            target.begin_copy()
+            rows = dict(list(rows.items())[1:])
+            self.assertEqual(target.copy(copy_of(3, rows)), len(rows))
+            self.assertEqual(list(self.rows()), sorted(rows))
 
     def test_a_full_log(self) -> None:
         """Refusals that pass change nothing."""
@@ -250,7 +285,7 @@ class FollowTest(unittest.TestCase):
                     break
                 if not dead.late:
                     continue
-                living = Client(self.server.port, timeout=SECONDS)
+                living = FrameClient(self.server.port, timeout=SECONDS)
                 with living:
                     target = self.target(living)
                     found = target.find(0.0)
@@ -258,7 +293,8 @@ class FollowTest(unittest.TestCase):
                         continue
                     target.move(next(source.follow(found.at), Group(found.at)))
                     self.want_exact(source)
-                    self.index.exchange_frames(dead.late)
+                    self.index.send_frame(dead.late[0])
+                    self.index.receive_reply()
                     met += 1
                     self.assertIsNot(self.want_exact(source), State.EXACT)
                     with self.assertRaisesRegex(CopyAgain, "came late"):
@@ -267,11 +303,11 @@ class FollowTest(unittest.TestCase):
         self.assertGreater(met, 10)
 
     def test_two_mirrors(self) -> None:
-        one, other = (self.enter(Client(self.server.port, timeout=SECONDS)) for _ in range(2))
+        one, other = (self.enter(FrameClient(self.server.port, timeout=SECONDS)) for _ in range(2))
         first = self.target(one)
         self.assertIsNone(first.find(0.0))
         first.begin_copy()
-        first.copy(Copy(3, lambda take: take(b"m/a", {0: b"3"})))
+        first.copy(copy_of(3, {b"m/a": {0: b"3"}}))
         second = self.target(other)
         self.assertEqual(getattr(second.find(0.0), "at", None), 3)
         first.move(Group(4, {b"m/a": {0: b"4"}}))
@@ -287,10 +323,10 @@ class FollowTest(unittest.TestCase):
 
     def test_an_earlier_mirror_that_goes_on(self) -> None:
         """A mirror that is overtaken looks again, and gives up if that doesn't end."""
-        first = self.target(self.enter(Client(self.server.port, timeout=SECONDS)))
+        first = self.target(self.enter(FrameClient(self.server.port, timeout=SECONDS)))
         first.find(0.0)
         first.begin_copy()
-        first.copy(Copy(0, lambda take: None))
+        first.copy(copy_of(0, {}))
         source = Fake(random.Random(1), 50, 5)
 
         def moved(*_: Any) -> None:
@@ -307,7 +343,7 @@ class FollowTest(unittest.TestCase):
         target = self.target(self.index)
         target.find(0.0)
         target.begin_copy()
-        target.copy(Copy(3, lambda take: None))
+        target.copy(copy_of(3, {}))
         self.index.remove(position_key("m"))
         with self.assertRaisesRegex(CopyAgain, "was removed"):
             target.move(Group(4, {b"m/a": {0: b"4"}}))
@@ -317,7 +353,7 @@ class FollowTest(unittest.TestCase):
         target = self.target(self.index, keys=Keys(b"m/", b"m/2", b"m/4"))
         target.find(0.0)
         target.begin_copy()
-        target.copy(Copy(3, lambda take: [take(b"m/%d" % number, {0: b"x"}) for number in range(6)] and None))
+        target.copy(copy_of(3, {b"m/%d" % number: {0: b"x"} for number in range(6)}))
         target.move(Group(4, {b"m/1": None, b"m/2": None, b"m/5": {0: b"y"}}))
         self.assertEqual(list(self.rows()), [b"m/1", b"m/3"])
         target.move(Group(5, {b"m/2": {0: b"z"}}, True))

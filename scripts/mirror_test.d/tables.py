@@ -28,8 +28,8 @@ def wait_for(is_so: Callable[[], bool]) -> None:
 class Tables:
     """The source, the server, and tables `t1`, `t2`, .., each with a mirror of its own."""
 
-    def __init__(self, postgres: Postgres, server: Server) -> None:
-        self.postgres, self.server = postgres, server
+    def __init__(self, postgres: Postgres, server: Server, seed: int) -> None:
+        self.postgres, self.server, self.seed = postgres, server, seed
         self.index = server.index()
         self.sql = postgres.connected().cursor()
         self._count = 0

@@ -6,11 +6,11 @@ import re
 import sys
 from typing import List, Optional, Sequence
 
-from ..client import Client
 from ..core import RowanspanError
 from ..shell import port, seconds
 from .errors import BadMapping, NeedsDecision, SourceLost
 from .following import follow
+from .frames import FrameClient
 from .place import NAME, owner_of
 from .rows import RowMapping
 from .source import Source
@@ -122,7 +122,7 @@ def run(options: argparse.Namespace) -> None:
         owner = owner_of(source.identity, *words_of(options))
         high: Optional[bytes] = None if options.high is None else options.high.encode()
         columns = len(options.column) if options.kind == "postgres" else max(1, len(options.column))
-        with Client(options.port, options.host, options.timeout) as index:
+        with FrameClient(options.port, options.host, options.timeout) as index:
             target = Target(index, options.name, owner, Keys(source.prefix, options.low.encode(), high), columns)
             follow(source, target, options.settle, complain)
     finally:

@@ -15,8 +15,9 @@ from urllib.parse import urlsplit
 
 from ..core import prefix_end
 from .errors import BadMapping, BadRow, CopyAgain, NeedsDecision, SourceLost
+from .frames import spelled_change
 from .rows import Column, read_columns
-from .source import Changes, Copy, Group, Sets, Source, Take
+from .source import Changes, Copy, Group, Sets, Source, TakePuts
 from .template import checked_key_bytes
 
 __all__ = ["EtcdSource", "Events", "value_reader"]
@@ -207,17 +208,15 @@ class EtcdSource(Source):
         revision = int(self._ask({**self._range, "count_only": True})["header"]["revision"])
         return Copy(revision, lambda take: self._copy_rows(revision, take))
 
-    def _copy_rows(self, revision: int, take: Take) -> None:
+    def _copy_rows(self, revision: int, take: TakePuts) -> None:
         query: Dict[str, Any] = {**self._range, "revision": revision, "limit": ROWS}
         while True:
             said = self._ask(query)
-            key = b""
-            for pair in said.get("kvs", ()):
-                key = b64decode(pair["key"])
-                take(checked_key_bytes(key), self._read_value(b64decode(pair.get("value", ""))))
+            pairs = [(b64decode(pair["key"]), b64decode(pair.get("value", ""))) for pair in said.get("kvs", ())]
+            take([spelled_change(checked_key_bytes(key), self._read_value(value)) for key, value in pairs])
             if not said.get("more"):
                 return
-            query["key"] = in_base64(key + b"\0")
+            query["key"] = in_base64(pairs[-1][0] + b"\0")
 
     def follow(self, start: int) -> Iterator[Group]:
         reached = int(self._ask({**self._range, "count_only": True})["header"]["revision"])

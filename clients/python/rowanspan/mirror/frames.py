@@ -1,14 +1,16 @@
 """The frames by which a mirror writes: each says first, in the position row, that the rows aren't exact."""
 from __future__ import annotations
 
-from typing import Any, List, NamedTuple, Optional, Sequence
+import socket
+from typing import Any, Callable, List, NamedTuple, Optional, Sequence, TypeVar
 
-from ..core import Refused, Row
+from ..client import Client, receive_body
+from ..core import Closed, ConnectionLost, Refused, Row
 from ..wire import AnswerKind, Get, Put, Query, Remove, Reply, read_replies, request_frame
 from .place import Position
 from .source import Sets
 
-__all__ = ["CHANGES", "Written", "spelled_change", "change_frame", "read_change_frame"]
+__all__ = ["CHANGES", "FrameClient", "Written", "spelled_change", "key_of_change", "change_frame", "read_change_frame"]
 
 # how many changes a frame has room for: after the get and the put of the position row
 CHANGES = 62
@@ -16,6 +18,37 @@ CHANGES = 62
 COMMITTED_BYTES = 25
 # at which byte the one column of the position row begins in the body of a reply
 COLUMN_AT = 29
+
+Value = TypeVar("Value")
+
+
+class FrameClient(Client):
+    """A client that may send frames before it has received the replies to earlier ones."""
+
+    def __enter__(self) -> FrameClient:
+        return self
+
+    def send_frame(self, frame: bytes) -> None:
+        """Sends a whole frame. The replies that weren't received have to be short, such as those to puts: while they
+        aren't read, the server waits for room for them. Raises `ConnectionLost`."""
+        self._guarded(lambda connection: connection.sendall(frame))
+
+    def receive_reply(self) -> bytes:
+        """The body of the reply to the first frame whose reply wasn't received yet. Raises `ConnectionLost`."""
+        return self._guarded(receive_body)
+
+    def _guarded(self, work: Callable[[socket.socket], Value]) -> Value:
+        """Works with the connection, which is lost after a fault."""
+        connection = self._connection
+        if connection is None:
+            raise ConnectionLost("the connection was lost before") if self._is_lost else Closed("the index is closed")
+        try:
+            return work(connection)
+        except BaseException as fault:
+            self._lose()
+            if isinstance(fault, OSError) and not isinstance(fault, ConnectionLost):
+                raise ConnectionLost(f"the connection broke: {fault}") from fault
+            raise
 
 
 class Written(NamedTuple):
@@ -38,6 +71,11 @@ def spelled_change(key: bytes, sets: Optional[Sets]) -> bytes:
         return b"\3" + head
     columns = [bytes((number, len(value))) + value for number, value in sets.items()]
     return b"\2" + head + bytes((len(sets),)) + b"".join(columns)
+
+
+def key_of_change(change: bytes) -> bytes:
+    """The key of a put or a remove that is spelled."""
+    return change[3:3 + int.from_bytes(change[1:3], "big")]
 
 
 def change_frame(key: bytes, position: Position, changes: Sequence[bytes]) -> bytes:

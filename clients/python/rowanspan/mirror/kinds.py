@@ -3,7 +3,7 @@ from __future__ import annotations
 
 import re
 from dataclasses import dataclass
-from decimal import Decimal
+from decimal import MAX_EMAX, MAX_PREC, MIN_EMIN, Context, Decimal
 from typing import Callable
 
 from .errors import BadMapping, BadRow
@@ -13,6 +13,8 @@ __all__ = ["MAX_COLUMN_BYTES", "MIDDLE", "Kind", "read_kind", "signed"]
 MAX_COLUMN_BYTES = 64
 # what is added to a number with a sign, so that its bytes are in the order of the numbers
 MIDDLE = 1 << 63
+# rounds no number
+EXACT = Context(prec=MAX_PREC, Emax=MAX_EMAX, Emin=MIN_EMIN)
 
 
 @dataclass(frozen=True)
@@ -46,7 +48,7 @@ def signed(number: int) -> bytes:
 
 def scaled(text: str, places: int) -> int:
     """A decimal number times ten to the power of `places`. Raises `BadRow` if it has more decimal places."""
-    number = Decimal(text).scaleb(places)
+    number = Decimal(text).scaleb(places, EXACT)
     if not number.is_finite():
         raise ValueError(text)
     if number != number.to_integral_value():

@@ -8,12 +8,13 @@ from contextlib import contextmanager
 from typing import TYPE_CHECKING, Any, Iterator, List, NamedTuple, Optional, Tuple
 
 from . import pgoutput
+from .copying import copy_rows
 from .errors import BadMapping, CopyAgain, NeedsDecision, SourceLost
 from .grouping import OLD, Grouping
 from .place import NAME
 from .reading import lsn
 from .rows import RowMapping
-from .source import Copy, Group, Source, Take
+from .source import Copy, Group, Source, TakePuts
 from .table import find_table, quoted
 
 # the types are checked alike with psycopg2, without it, and without its stubs
@@ -34,7 +35,6 @@ FILE_PATIENCE = 2.0
 SPELLING = {"client_encoding": "utf8",
             "options": "-c datestyle=ISO -c intervalstyle=postgres -c timezone=UTC -c extra_float_digits=3 "
                        "-c row_security=off"}
-ESCAPES = {"b": "\b", "f": "\f", "n": "\n", "r": "\r", "t": "\t", "v": "\v"}
 
 SLOT = """
 SELECT wal_status, confirmed_flush_lsn, pg_current_wal_flush_lsn() FROM pg_replication_slots WHERE slot_name = %s"""
@@ -56,19 +56,6 @@ def source_faults() -> Iterator[None]:
         text = str(fault).strip()
         is_lost = fault.pgcode is None or isinstance(fault, psycopg2.OperationalError)
         raise (SourceLost if is_lost else NeedsDecision)(f"the source: {text}") from fault
-
-
-def unescaped(found: re.Match[str]) -> str:
-    return ESCAPES.get(found[1], found[1])
-
-
-def copied_values(line: bytes) -> List[Optional[str]]:
-    """A row of the text format of COPY."""
-    text = line.decode()
-    values = text[:-1].split("\t")
-    if "\\" not in text:
-        return list(values)
-    return [None if value == "\\N" else re.sub(r"\\(.)", unescaped, value) for value in values]
 
 
 class Stamp(NamedTuple):
@@ -147,17 +134,7 @@ class PostgresSource(Source):
         self._ask(f'DROP PUBLICATION IF EXISTS "{self._publication}"')
         self._ask(f'CREATE PUBLICATION "{self._publication}" FOR TABLE {self._table.name}{columns}')
 
-    def _copy_rows(self, snapshot: str, take: Take) -> None:
-        names, key_of, sets_of = self._mapping.names, self._mapping.key_of, self._mapping.sets_of
-
-        class Lines:
-            """What psycopg2 writes the copy to, a row in each call."""
-
-            def write(self, line: bytes) -> int:
-                row = dict(zip(names, copied_values(line)))
-                take(key_of(row), sets_of(row))
-                return len(line)
-
+    def _copy_rows(self, snapshot: str, take: TakePuts) -> None:
         with source_faults():
             copying = psycopg2.connect(self._dsn, **SPELLING)
             try:
@@ -165,8 +142,7 @@ class PostgresSource(Source):
                 with copying.cursor() as cursor:
                     cursor.execute("SET TRANSACTION SNAPSHOT %s", (snapshot,))
                     self._keep_file(cursor)
-                    columns = ", ".join(map(quoted, names))
-                    cursor.copy_expert(f"COPY (SELECT {columns} FROM {self._table.name}) TO STDOUT", Lines())
+                    copy_rows(cursor, self._table, self._mapping, take)
             finally:
                 copying.close()
 

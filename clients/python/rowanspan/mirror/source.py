@@ -3,15 +3,16 @@ from __future__ import annotations
 
 import abc
 from dataclasses import dataclass, field
-from typing import Callable, Dict, Iterator, Optional
+from typing import Callable, Dict, Iterator, List, Optional
 
-__all__ = ["Sets", "Changes", "Take", "Group", "Copy", "Source"]
+__all__ = ["Sets", "Changes", "TakePuts", "Group", "Copy", "Source"]
 
 # the columns of a row by their numbers
 Sets = Dict[int, bytes]
 # what became of keys; None: the row was removed
 Changes = Dict[bytes, Optional[Sets]]
-Take = Callable[[bytes, Sets], None]
+# takes some puts that are spelled, each of another key
+TakePuts = Callable[[List[bytes]], None]
 
 
 @dataclass(frozen=True)
@@ -38,10 +39,10 @@ class Group:
 
 @dataclass(frozen=True)
 class Copy:
-    """All rows at position `at`: `rows` calls a function with the key and the columns of each."""
+    """All rows at position `at`: `rows` calls a function with the puts of all of them, some at a time."""
 
     at: int
-    rows: Callable[[Take], None]
+    rows: Callable[[TakePuts], None]
 
 
 class Source(abc.ABC):

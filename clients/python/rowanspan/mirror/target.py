@@ -9,21 +9,22 @@ from __future__ import annotations
 
 import os
 import time
+from collections import deque
 from dataclasses import dataclass, replace
-from typing import Iterator, List, Optional, Sequence
+from typing import Deque, Iterator, List, Optional, Sequence
 
-from ..client import Client
 from ..core import BadColumn, FeedFull, OtherVersion
+from ..mapping import RowPairs
 from ..wire import Get
 from .errors import BadMapping, CopyAgain, NeedsDecision, Overtaken
-from .frames import CHANGES, change_frame, read_change_frame, spelled_change
+from .frames import CHANGES, FrameClient, change_frame, key_of_change, read_change_frame, spelled_change
 from .place import RESERVED, Position, State, position_key
-from .source import Changes, Copy, Group, Sets
+from .source import Copy, Group
 
 __all__ = ["Keys", "Target"]
 
-# how many frames of a copy are on their way at once
-AHEAD = 8
+# how many frames of a copy are on their way at once: the server has work while this process has none
+AHEAD = 32
 # how often the position row is looked at before it is said that another mirror writes it
 LOOKS = 25
 # how long it waits after the log of the server was full
@@ -42,6 +43,12 @@ class Keys:
         assert isinstance(key, bytes)
         return self.low <= key and (self.high is None or key < self.high)
 
+    def those_of(self, changes: List[bytes]) -> List[bytes]:
+        """The changes that are of these keys."""
+        if not self.low and self.high is None:
+            return changes
+        return [change for change in changes if key_of_change(change) in self]
+
 
 class Target:
     """A mirror's rows in a server. Nothing else may write the keys that it owns.
@@ -49,13 +56,15 @@ class Target:
     Its calls raise `NeedsDecision`, `CopyAgain`, `Overtaken`, and what a client raises.
     """
 
-    def __init__(self, index: Client, name: str, owner: bytes, keys: Keys, columns: int) -> None:
+    def __init__(self, index: FrameClient, name: str, owner: bytes, keys: Keys, columns: int) -> None:
         self._index, self._name, self._keys = index, name, keys
         self._key = position_key(name)
         self._position = Position(State.COPYING, 0, 0, owner, os.urandom(8), keys.prefix)
         # the run that wrote the position row before this one
         self._before = b""
         self._has_written = False
+        # the changes of the frames that have no reply yet, in the order of the frames
+        self._waiting: Deque[Sequence[bytes]] = deque()
         self._check_columns(columns)
         self._check_prefixes()
 
@@ -155,7 +164,7 @@ class Target:
         if group.clears:
             changes = {**{key: None for key in self.keys() if key not in changes}, **changes}
         until = max(group.at, self._position.until)
-        held = self._spelled(changes)
+        held = self._keys.those_of([spelled_change(key, sets) for key, sets in changes.items()])
         if held:
             self._mark(State.MOVING, self.at, until)
             # (one frame at a time, so that a mirror that is killed has left at most one)
@@ -164,63 +173,74 @@ class Target:
 
     def copy(self, copy: Copy) -> int:
         """Puts the rows of a copy, and removes all others of this mirror's keys; returns how many rows there are.
-        Before it `begin_copy` has to be called. The keys are held in memory meanwhile."""
-        seen, held = set(), []
+        Before it `begin_copy` has to be called."""
+        begun, had_rows, count = self._position.version, any(True for _ in self._rows()), 0
+        held: List[bytes] = []
 
-        def take(key: bytes, sets: Sets) -> None:
-            if key in self._keys:
-                seen.add(key)
-                held.append(spelled_change(key, sets))
-                if len(held) == AHEAD * CHANGES:
-                    self._write(held, AHEAD)
-                    held.clear()
+        def take(puts: List[bytes]) -> None:
+            nonlocal count, held
+            own = self._keys.those_of(puts)
+            count += len(own)
+            held += own
+            whole = len(held) // CHANGES * CHANGES
+            self._send(held[:whole], AHEAD)
+            held = held[whole:]
 
         copy.rows(take)
         self._write(held, AHEAD)
-        self._write([spelled_change(key, None) for key in self.keys() if key not in seen], AHEAD)
+        if had_rows:
+            # (each row of the copy has a later version than what was written before the first of them)
+            stale = [key for key, row in self._rows() if row.version <= begun]
+            self._write([spelled_change(key, None) for key in stale], AHEAD)
         self._mark(State.EXACT, copy.at, copy.at)
-        return len(seen)
+        return count
 
     def begin_copy(self) -> None:
-        """Says that nothing is promised of the rows from now on."""
+        """Says that nothing is promised of the rows from now on. A copy before it may have broken off."""
+        self._await(0)
         self._mark(State.COPYING, 0, 0)
 
     def keys(self) -> Iterator[bytes]:
         """The keys of this mirror's rows in the server."""
-        keys = self._keys
-        for key, _ in self._index.range(max(keys.low, keys.prefix), keys.high, prefix=keys.prefix, columns=(0,)):
-            yield key
+        return (key for key, _ in self._rows())
 
-    def _spelled(self, changes: Changes) -> List[bytes]:
-        return [spelled_change(key, sets) for key, sets in changes.items() if key in self._keys]
+    def _rows(self) -> RowPairs:
+        keys = self._keys
+        return self._index.range(max(keys.low, keys.prefix), keys.high, prefix=keys.prefix, columns=(0,))
 
     # -- frames
 
     def _write(self, changes: Sequence[bytes], ahead: int) -> None:
-        """Makes any number of changes in their order, so many frames at a time. If the log of the server is full, all
-        from the refused change on are made again: they are absolute, so the result is right."""
-        done = 0
-        while done < len(changes):
-            reached = self._write_some(changes, done, ahead)
-            if reached is None:
-                time.sleep(PAUSE)
-            else:
-                done = reached
+        """Makes any number of changes, and waits until all are made."""
+        self._send(changes, ahead)
+        self._await(0)
 
-    def _write_some(self, changes: Sequence[bytes], begin: int, ahead: int) -> Optional[int]:
-        """Makes some changes from a place on; returns the place after them, None if none was made."""
-        places = range(begin, min(len(changes), begin + ahead * CHANGES), CHANGES)
-        parts = [changes[place:place + CHANGES] for place in places]
-        bodies = self._index.exchange_frames([change_frame(self._key, self._position, part) for part in parts])
-        end, refused = begin, None
-        for part, body in zip(parts, bodies):
-            written = read_change_frame(body, len(part))
+    def _send(self, changes: Sequence[bytes], ahead: int) -> None:
+        """Sends any number of changes in their order, so that at most so many frames have no reply."""
+        for begin in range(0, len(changes), CHANGES):
+            self._await(ahead - 1)
+            self._send_frame(changes[begin:begin + CHANGES])
+
+    def _send_frame(self, changes: Sequence[bytes]) -> None:
+        self._index.send_frame(change_frame(self._key, self._position, changes))
+        self._waiting.append(changes)
+
+    def _await(self, most: int) -> None:
+        """Waits until at most so many frames have no reply. If the log of the server was full, those changes of a
+        frame that weren't made are sent again, after the frames that are on their way: so for the order of the changes
+        there may be one."""
+        while len(self._waiting) > most:
+            changes = self._waiting.popleft()
+            written = read_change_frame(self._index.receive_reply(), len(changes))
             if written.found is not None and written.found != self._position.version:
+                while self._waiting:
+                    self._waiting.popleft()
+                    self._index.receive_reply()
                 self._met(self._read())
             if written.version is not None:
                 self._position = replace(self._position, version=written.version)
-            if refused is None:
-                end, refused = end + written.done, written.refused
-        if refused is not None and not isinstance(refused, FeedFull):
-            raise refused
-        return end if end > begin else None
+            if written.refused is not None:
+                if not isinstance(written.refused, FeedFull):
+                    raise written.refused
+                time.sleep(PAUSE)
+                self._send_frame(changes[written.done:])

@@ -52,6 +52,8 @@ class Part:
     """A column of the source in a key, and the text after it."""
 
     name: str
+    # none, `int`, or the number of digits
+    kind: Optional[str]
     spell: Spell
     seam: bytes
 
@@ -79,7 +81,7 @@ class KeyTemplate:
             is_last = place + 3 == len(pieces)
             if kind is None and not is_last and not seam.startswith("/"):
                 raise BadMapping(f"'{{{name}}}' in a key has to be followed by '/', or two rows could have one key")
-            parts.append(Part(name, read_spelling(kind), seam.encode()))
+            parts.append(Part(name, kind, read_spelling(kind), seam.encode()))
         return KeyTemplate(pieces[0].encode(), tuple(parts))
 
     @property
