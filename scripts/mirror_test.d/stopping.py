@@ -4,7 +4,7 @@ from __future__ import annotations
 import os
 import signal
 from dataclasses import replace
-from typing import Callable, Dict
+from typing import Callable, Dict, List
 
 # (it puts the package on the path)
 from running import SECONDS, Mirror, Server, rows_of, want, want_same
@@ -12,6 +12,7 @@ from tables import Tables, wait_for
 
 from rowanspan import Prefix, mirror
 from rowanspan.mirror.errors import CopyAgain
+from rowanspan.mirror.frames import spelled_change
 from rowanspan.mirror.place import position_key
 from rowanspan.mirror.rows import RowMapping
 
@@ -84,25 +85,49 @@ def tables_that_are_rewritten(tables: Tables) -> None:
         want_same("the sum after a change while the mirror was away", found.page.sums[0], 24)
 
 
+def tables_that_are_truncated_and_rewritten(tables: Tables) -> None:
+    """The same beside a TRUNCATE in the same transaction, and columns that are made again under their names."""
+    fill = "TRUNCATE T; INSERT INTO T VALUES ('1', 5, 'x'), ('2', 6, 'y'); "
+    for change, wanted in (
+            (fill + "ALTER TABLE T ALTER a TYPE numeric USING a * 2", [10, 12, "x", "y"]),
+            (fill + "SAVEPOINT s; ALTER TABLE T ALTER a TYPE numeric USING a * 3; RELEASE s; ALTER TABLE T SET "
+             "(fillfactor = 90)", [15, 18, "x", "y"]),
+            ("ALTER TABLE T DROP COLUMN b, ADD COLUMN b text DEFAULT 'z'", [5, 6, "z", "z"]),
+            ("ALTER TABLE T RENAME b TO c; ALTER TABLE T ADD COLUMN b text DEFAULT 'z'", [5, 6, "z", "z"])):
+        for is_away in (False, True):
+            with tables.table("FULL") as it:
+                if is_away:
+                    it.mirror.kill()
+                it.change(f"BEGIN; {change}; COMMIT")
+                if is_away:
+                    it.mirror.start()
+                it.reach()
+                it.want_rows(("1", wanted[0], wanted[2]), ("2", wanted[1], wanted[3]))
+                want_same("copies", it.mirror.said().count("was rewritten"), 1)
+
+
 def a_table_that_is_rewritten_in_the_copy(tables: Tables) -> None:
-    """A snapshot is of no use after a TRUNCATE, which it doesn't see. Other changes after it aren't in the copy."""
+    """A snapshot is of no use after a TRUNCATE, which it doesn't see, or with other columns. Other changes after it
+    aren't in the copy."""
     from rowanspan.mirror.postgres import PostgresSource
 
     with tables.table() as it:
         mapping = RowMapping.read("x/{id}", ["a"])
         source = PostgresSource(tables.postgres.dsn, it.name, mapping, "during")
-        copied: Dict[bytes, object] = {}
+        copied: List[bytes] = []
+        for change in ("TRUNCATE T; INSERT INTO T VALUES ('3', 9, '')",
+                       "ALTER TABLE T RENAME a TO c; ALTER TABLE T ADD COLUMN a numeric DEFAULT 9"):
+            copy = source.copy()
+            it.change(change)
+            try:
+                copy.rows(copied.extend)
+                want(False, f"the copy has {copied}")
+            except CopyAgain as fault:
+                want("was rewritten during the copy" in str(fault), str(fault))
         copy = source.copy()
-        it.change("BEGIN; TRUNCATE T; INSERT INTO T VALUES ('3', 9, ''); COMMIT")
-        try:
-            copy.rows(copied.__setitem__)
-            want(False, f"the copy has {copied}")
-        except CopyAgain as fault:
-            want("was rewritten during the copy" in str(fault), str(fault))
-        copy = source.copy()
-        it.change("UPDATE T SET a = 1; INSERT INTO T VALUES ('4', 1, '')")
-        copy.rows(copied.__setitem__)
-        want_same("the copy", copied, {b"x/3": {0: b"\x09"}})
+        it.change("UPDATE T SET a = 1; INSERT INTO T(id, a) VALUES ('4', 1)")
+        copy.rows(copied.extend)
+        want_same("the copy", copied, [spelled_change(b"x/3", {0: b"\x09"})])
         source.close()
 
 
@@ -242,6 +267,7 @@ def a_server_that_ends(tables: Tables) -> None:
 CASES: Dict[str, Callable[[Tables], None]] = {
     "truncate": truncate, "values that do not fit": values_that_do_not_fit, "columns that change": columns_that_change,
     "types that change": types_that_change, "tables that are rewritten": tables_that_are_rewritten,
+    "tables that are truncated and rewritten at once": tables_that_are_truncated_and_rewritten,
     "a table that is rewritten in the copy": a_table_that_is_rewritten_in_the_copy,
     "tables that go": tables_that_go, "two mirrors of one name": two_of_one_name,
     "a server that ends": a_server_that_ends, "slots that go": slots_that_go,

@@ -29,8 +29,6 @@ __all__ = ["PostgresSource"]
 
 # seconds: how long a message is waited for; between two looks at the table; until a slot in use is given up
 REST, CHECK_EVERY, SLOT_PATIENCE = 0.5, 1.0, 10.0
-# and for how long the mirror waits for the TRUNCATE that may have replaced the table's file
-FILE_PATIENCE = 2.0
 # the copy and the slot have to spell values alike
 SPELLING = {"client_encoding": "utf8",
             "options": "-c datestyle=ISO -c intervalstyle=postgres -c timezone=UTC -c extra_float_digits=3 "
@@ -43,7 +41,10 @@ DROP_SLOT = "SELECT pg_drop_replication_slot(slot_name) FROM pg_replication_slot
 STAMP = """
 SELECT c.relfilenode, c.xmin::text::bigint, c.relreplident,
 EXISTS (SELECT 1 FROM pg_publication_rel r JOIN pg_publication p ON p.oid = r.prpubid WHERE p.pubname = %s AND
-r.prrelid = c.oid) FROM pg_class c WHERE c.oid = %s AND NOT EXISTS (SELECT 1 FROM {table} WHERE false)"""
+r.prrelid = c.oid), (SELECT ARRAY[string_agg(a.attnum::text, ' ' ORDER BY a.attname),
+string_agg(a.xmin::text, ' ' ORDER BY a.attname)] FROM pg_attribute a WHERE a.attrelid = c.oid AND a.attname = ANY(%s))
+FROM pg_class c WHERE c.oid = %s AND NOT EXISTS (SELECT 1 FROM {table} WHERE false)"""
+FLUSHED = "SELECT pg_current_wal_flush_lsn() - '0/0'"
 NOTED = "SELECT obj_description(oid, 'pg_publication') FROM pg_publication WHERE pubname = %s"
 
 
@@ -66,6 +67,15 @@ class Stamp(NamedTuple):
     changed_by: int
     identity: str
     is_published: bool
+    # the numbers of the columns that are needed, which others of their names don't have
+    columns: str
+    # the transactions that last changed what the catalog has of each of them, as a change of its type does
+    columns_by: str
+
+    @property
+    def noted(self) -> str:
+        """What the next run has to find again."""
+        return f"file {self.file}, columns {self.columns}"
 
 
 class PostgresSource(Source):
@@ -88,7 +98,7 @@ class PostgresSource(Source):
             self._sql.autocommit = True
             self._table = find_table(self._ask, table, mapping)
             self._named = table
-            self._stamp, self._puzzled = self._read_stamp(), 0.0
+            self._stamp, self._awaited = self._read_stamp(), (0, 0)
 
     def close(self) -> None:
         self._close_stream()
@@ -119,7 +129,7 @@ class PostgresSource(Source):
         with source_faults():
             self._drop_slot()
             self._publish()
-            self._stamp, self._puzzled = self._read_stamp(), 0.0
+            self._stamp, self._awaited = self._read_stamp(), (0, 0)
             self._note()
             self._connect()
             self._stream.execute(f'CREATE_REPLICATION_SLOT "{self._slot}" LOGICAL pgoutput EXPORT_SNAPSHOT')
@@ -147,12 +157,10 @@ class PostgresSource(Source):
                 copying.close()
 
     def _keep_file(self, cursor: Any) -> None:
-        """Keeps the table's file as it is until the end of the transaction. Raises `CopyAgain` if it is another than
-        before the snapshot: a snapshot doesn't have the rows that a TRUNCATE after it has removed."""
+        """Keeps the table's file and columns as they are until the end of the transaction. Raises `CopyAgain` if they
+        are others than before the snapshot: a snapshot doesn't have the rows that a TRUNCATE after it has removed."""
         cursor.execute(f"LOCK TABLE {self._table.name} IN ACCESS SHARE MODE")
-        # (this function says what is so now, not in the snapshot, and waits for nobody)
-        cursor.execute("SELECT pg_relation_filenode(%s)", (self._table.oid,))
-        if cursor.fetchone()[0] != self._stamp.file:
+        if self._read_stamp().noted != self._stamp.noted:
             raise CopyAgain(f"the table {self._table.name} was rewritten during the copy")
 
     # -- the slot
@@ -213,36 +221,52 @@ class PostgresSource(Source):
     def _read_stamp(self) -> Stamp:
         query = STAMP.format(table=self._table.name.replace("%", "%%"))
         try:
-            found = self._ask(query, self._publication, self._table.oid)
+            found = self._ask(query, self._publication, self._mapping.names, self._table.oid)
         except psycopg2.errors.UndefinedTable:
             found = []
         # (there is none if the table is gone, also if another has its name)
-        return Stamp(*found[0]) if found else Stamp(0, 0, "", False)
+        return Stamp(*found[0][:4], *found[0][4]) if found else Stamp(0, 0, "", False, "", "")
 
     def _note(self) -> None:
-        """Notes the table's file, for the next run: in the comment of the publication."""
-        self._ask(f"COMMENT ON PUBLICATION \"{self._publication}\" IS 'file {self._stamp.file}'")
+        """Notes the table's file and columns, for the next run: in the comment of the publication."""
+        self._ask(f"COMMENT ON PUBLICATION \"{self._publication}\" IS '{self._stamp.noted}'")
 
     def _check_noted(self) -> None:
-        """Raises `CopyAgain` if the table's file isn't the one that the run before noted."""
-        if self._ask(NOTED, self._publication) != [(f"file {self._stamp.file}",)]:
+        """Raises `CopyAgain` if the table's file or columns aren't those that the run before noted."""
+        if self._ask(NOTED, self._publication) != [(self._stamp.noted,)]:
             raise CopyAgain(f"the table {self._table.name} was rewritten while the mirror was away")
 
-    def _may_pass(self, truncated_by: Optional[int]) -> bool:
-        """Whether no row has changed without a message up to now: so a position may be called exact. If the table has
-        another file, the message of a TRUNCATE is waited for. Raises `CopyAgain` if none comes."""
+    def _may_pass(self, at: int, truncated_by: Optional[int]) -> bool:
+        """Whether no row has changed without a message up to now: so position `at` may be called exact. If the table
+        has another file, it waits for the message of a TRUNCATE. Raises `CopyAgain` if none has come."""
         stamp = self._read_stamp()
         if stamp != self._stamp:
             self._check_table()
-            if stamp.file != self._stamp.file and stamp.changed_by != truncated_by:
-                self._puzzled = self._puzzled or time.monotonic()
-                if time.monotonic() > self._puzzled + FILE_PATIENCE:
-                    raise CopyAgain(f"the table {self._table.name} was rewritten")
+            if self._is_rewritten(stamp, at, truncated_by):
+                raise CopyAgain(f"the table {self._table.name} was rewritten")
+            if self._awaited[0]:
                 return False
             self._stamp = stamp
             self._note()
-        self._puzzled = 0.0
         return True
+
+    def _is_rewritten(self, stamp: Stamp, at: int, truncated_by: Optional[int]) -> bool:
+        """Whether values have changed without a message, as far as it is known at a position. If it isn't known yet,
+        it says in `_awaited` until where the message of a TRUNCATE is awaited."""
+        awaited, self._awaited = self._awaited, (0, 0)
+        if stamp.columns != self._stamp.columns:
+            return True
+        if stamp.file == self._stamp.file:
+            return False
+        if stamp.columns_by != self._stamp.columns_by:
+            # (a transaction can truncate the table, fill it, and then change a type)
+            return True
+        if stamp.changed_by == truncated_by:
+            return False
+        # (a new file is flushed to the log before it is seen)
+        until = awaited[1] if awaited[0] == stamp.changed_by else int(self._ask(FLUSHED)[0][0])
+        self._awaited = stamp.changed_by, until
+        return at >= until
 
     def _check_table(self) -> None:
         """Raises if the table isn't what it was. If it is dropped, or leaves its publication, its changes aren't sent
@@ -270,7 +294,7 @@ class PostgresSource(Source):
                 group = self._next(grouping)
                 if group is not None:
                     kept = group if kept is None else kept.then(group)
-                if kept is not None and self._may_pass(grouping.truncated_by):
+                if kept is not None and self._may_pass(kept.at, grouping.truncated_by):
                     at = kept.at
                     yield kept
                     kept = None
