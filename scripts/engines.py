@@ -20,7 +20,9 @@ TOP = Path(__file__).resolve().parent.parent
 ROWAN = TOP / "clients" / "python" / "rowan"
 # the packages of Debian
 PACKAGES = {"PostgreSQL": "postgresql", "psycopg2": "python3-psycopg2", "etcd": "etcd-server"}
-SECONDS = 60.0
+SECONDS = 240.0
+# how often an engine is started, if another program takes the port that was free
+STARTS = 3
 SYSTEM_PYTHON = "/usr/bin/python3"
 
 
@@ -118,6 +120,16 @@ class Engine:
                     raise Failed(f"{self.name} isn't ready: {fault}\n{self.log()[-2000:]}") from fault
                 time.sleep(0.05)
 
+    def start_at_any_port(self, begin: Callable[[], None]) -> None:
+        """Starts the program by this function; if that fails, at another port."""
+        for left in reversed(range(STARTS)):
+            try:
+                return begin()
+            except Failed:
+                if left == 0:
+                    raise
+                self.port = free_port()
+
     def log(self) -> str:
         return (self.folder / "log").read_text(errors="replace")
 
@@ -150,7 +162,7 @@ class Postgres(Engine):
         try:
             self.run([find("initdb") or "initdb", "-D", str(self.folder / "data"), "-A", "trust", "-U", "postgres",
                       "--no-sync", "-E", "UTF8", "--locale", "C"])
-            self.begin()
+            self.start_at_any_port(self.begin)
         except BaseException:
             self.__exit__(None, None, None)
             raise
@@ -186,17 +198,21 @@ class Etcd(Engine):
         return f"http://127.0.0.1:{self.port}"
 
     def __enter__(self) -> Etcd:
-        peer = f"http://127.0.0.1:{free_port()}"
         try:
-            self.start([find("etcd") or "etcd", "--data-dir", str(self.folder / "data"),
-                        "--listen-client-urls", self.url, "--advertise-client-urls", self.url,
-                        "--listen-peer-urls", peer,
-                        "--initial-advertise-peer-urls", peer, "--initial-cluster", f"default={peer}"],
-                       lambda: self.ask("kv/range", {"key": "YQ=="}))
+            self.start_at_any_port(self.begin)
         except BaseException:
             self.__exit__(None, None, None)
             raise
         return self
+
+    def begin(self) -> None:
+        """Starts it without data."""
+        peer = f"http://127.0.0.1:{free_port()}"
+        shutil.rmtree(self.folder / "data", ignore_errors=True)
+        self.start([find("etcd") or "etcd", "--data-dir", str(self.folder / "data"),
+                    "--listen-client-urls", self.url, "--advertise-client-urls", self.url, "--listen-peer-urls", peer,
+                    "--initial-advertise-peer-urls", peer, "--initial-cluster", f"default={peer}"],
+                   lambda: self.ask("kv/range", {"key": "YQ=="}))
 
     def ask(self, path: str, query: Dict[str, Any]) -> Dict[str, Any]:
         """Asks its gateway."""

@@ -21,7 +21,7 @@ from rowanspan.mirror.target import Keys, Target
 from stand_in import Options, PlainIndex, StandIn
 from stand_in_wire import spelled_refusal
 
-SECONDS = 20.0
+SECONDS = 120.0
 OWNER = b"o" * 16
 Rows = Dict[bytes, Sets]
 

@@ -18,8 +18,9 @@ from rowanspan import Page, Prefix, mirror
 Bank = Union[PostgresBank, EtcdBank]
 # how often a source loses what a killed mirror would need next
 LOSES = 0.06
-# how often it is waited before a kill that the mirror has all (on a slow machine it would never end a copy)
-REACHES = 0.3
+# how often it is waited before a kill that the mirror has all, and how many kills there are without it at most: on a
+# slow machine the mirror would never end a copy, and the readers wait for that
+REACHES, WITHOUT = 0.3, 5
 # for how many seconds it runs after the last kill
 LAST = 2.0
 
@@ -116,12 +117,14 @@ def totals_of(page: Page, bank: Bank) -> Totals:
 def killed(server: Server, bank: Bank, kills: int, seed: int, rate: float) -> str:
     """Kills a mirror so often, then compares all rows, and all positions that were called exact; says what was met."""
     chance, name = random.Random(seed), f"bank_{'sql' if bank.columns > 1 else 'etcd'}"
-    begun, lost = time.monotonic(), 0
+    begun, lost, without = time.monotonic(), 0, 0
     with Mirror(server.port, name, bank.words) as copied, Readers(server, bank, name, rate) as readers, \
             server.index() as index:
         for _ in range(kills):
-            if chance.random() < REACHES:
+            without += 1
+            if chance.random() < REACHES or without > WITHOUT:
                 copied.reach(index, bank.now())
+                without = 0
             time.sleep(chance.choice((chance.uniform(0.0, 0.6), chance.uniform(0.4, 1.6))))
             copied.want_running()
             readers.want_right(copied)

@@ -17,7 +17,8 @@ for folder in (CLIENTS, TOP / "scripts"):
 
 from rowanspan import Client, mirror  # noqa: E402
 
-SECONDS = 60.0
+# only a case that fails waits so long, however slow the machine is
+SECONDS = 240.0
 
 
 class Failed(Exception):
@@ -97,10 +98,10 @@ class Mirror:
         self.process.kill()
         self.process.wait()
 
-    def status(self, seconds: float = 30.0) -> Optional[int]:
+    def status(self) -> Optional[int]:
         """The status with which it ended; None if it runs on."""
         try:
-            return self.process.wait(seconds)
+            return self.process.wait(SECONDS)
         except subprocess.TimeoutExpired:
             return None
 

@@ -184,12 +184,18 @@ def slots_that_go(tables: Tables) -> None:
         it.mirror.kill()
         tables.run("ALTER SYSTEM SET max_slot_wal_keep_size = '1MB'", "SELECT pg_reload_conf()",
                    f"DELETE FROM {it.name} WHERE id = '2'")
-        for _ in range(3):
-            tables.run("SELECT pg_logical_emit_message(false, 'rowan', repeat('x', 200000)) FROM "
-                       "generate_series(1, 100)", "SELECT pg_switch_wal()", "CHECKPOINT")
+        wait_for(lambda: is_given_up(tables, slot))
         tables.run("ALTER SYSTEM RESET max_slot_wal_keep_size", "SELECT pg_reload_conf()")
         it.starts_again("is lost: the source kept no more of its log")
         it.want_rows(("1", 77, "x"))
+
+
+def is_given_up(tables: Tables, slot: str) -> bool:
+    """Whether the source has given up a slot. It is called until the source has more log than it may keep."""
+    tables.run("SELECT pg_logical_emit_message(false, 'rowan', repeat('x', 200000)) FROM generate_series(1, 100)",
+               "SELECT pg_switch_wal()", "CHECKPOINT",
+               f"SELECT wal_status FROM pg_replication_slots WHERE slot_name = '{slot}'")
+    return bool(tables.sql.fetchone()[0] == "lost")
 
 
 def is_active(tables: Tables, slot: str) -> bool:
@@ -209,9 +215,12 @@ def drop(tables: Tables, slot: str) -> bool:
 
 def two_of_one_name(tables: Tables) -> None:
     """The second finds the slot in use; the first continues."""
-    with tables.table() as it, Mirror(tables.server.port, it.mirror.name, it.mirror.words) as second:
-        want_same(f"status ({second.said()!r})", second.status(), 1)
-        want("in use: another mirror runs under this name" in second.said(), second.said())
+    with tables.table() as it:
+        # (it has the slot only after the copy)
+        wait_for(lambda: is_active(tables, f"rowan_{it.mirror.name}"))
+        with Mirror(tables.server.port, it.mirror.name, it.mirror.words) as second:
+            want_same(f"status ({second.said()!r})", second.status(), 1)
+            want("in use: another mirror runs under this name" in second.said(), second.said())
         it.change("UPDATE T SET a = 9 WHERE id = '1'")
         it.reach()
         it.want_rows(("1", 9, "x"), ("2", 6, "y"))
