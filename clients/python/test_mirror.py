@@ -14,7 +14,7 @@ from rowanspan.mirror import Position, State
 from rowanspan.mirror.errors import BadMapping, CopyAgain, NeedsDecision, Overtaken
 from rowanspan.mirror.following import follow
 from rowanspan.mirror.frames import (CHANGES, FrameClient, change_frame, key_of_change, read_change_frame,
-                                     spelled_change)
+                                     spelled_change, spelled_mark)
 from rowanspan.mirror.place import position_key
 from rowanspan.mirror.source import Copy, Group, Sets, Source, TakePuts
 from rowanspan.mirror.target import Keys, Target
@@ -60,15 +60,16 @@ class FrameTest(unittest.TestCase):
 
     def test_answers(self) -> None:
         with StandIn() as server, FrameClient(server.port, timeout=SECONDS) as index:
-            key, position = position_key("m"), a_position()
+            key = position_key("m")
+            mark = spelled_mark(key, a_position())
             puts = [spelled_change(b"%d" % number, {0: b"v"}) for number in range(CHANGES)]
             for changes, found in ((puts, 0), (puts, 1), ([spelled_change(b"9", None)] * 2, 64), ([], 127)):
-                index.send_frame(change_frame(key, position, changes))
+                index.send_frame(change_frame(mark, changes))
                 written = read_change_frame(index.receive_reply(), len(changes))
                 self.assertEqual((written.found, written.done, written.refused), (found, len(changes), None))
                 self.assertEqual(written.version, index[key].version)
             bad = [puts[0], spelled_change(b"k", {1: b"v"}), puts[1]]
-            index.send_frame(change_frame(key, position, bad))
+            index.send_frame(change_frame(mark, bad))
             written = read_change_frame(index.receive_reply(), 3)
             self.assertEqual((written.done, type(written.refused)), (1, rowanspan.BadColumn))
 

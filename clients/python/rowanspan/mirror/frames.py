@@ -6,11 +6,12 @@ from typing import Any, Callable, List, NamedTuple, Optional, Sequence, TypeVar
 
 from ..client import Client, receive_body
 from ..core import Closed, ConnectionLost, Refused, Row
-from ..wire import AnswerKind, Get, Put, Query, Remove, Reply, read_replies, request_frame
+from ..wire import AnswerKind, Get, Put, Query, Remove, Reply, read_replies
 from .place import Position
 from .source import Sets
 
-__all__ = ["CHANGES", "FrameClient", "Written", "spelled_change", "key_of_change", "change_frame", "read_change_frame"]
+__all__ = ["CHANGES", "FrameClient", "Written", "spelled_change", "key_of_change", "change_frame", "spelled_mark",
+           "read_change_frame"]
 
 # how many changes a frame has room for: after the get and the put of the position row
 CHANGES = 62
@@ -78,10 +79,16 @@ def key_of_change(change: bytes) -> bytes:
     return change[3:3 + int.from_bytes(change[1:3], "big")]
 
 
-def change_frame(key: bytes, position: Position, changes: Sequence[bytes]) -> bytes:
-    """A frame that reads the position row, writes it, and makes these changes. The server does it without another
-    commit in between; but nothing depends on that if only one mirror has this name."""
-    return request_frame([Get(key, (0,)).spelled(), Put(key, {0: position.spelled()}).spelled(), *changes])
+def change_frame(mark: bytes, changes: Sequence[bytes]) -> bytes:
+    """A frame that reads the position row, writes it, as `spelled_mark` has it, and makes these changes. The server
+    does it without another commit in between; but nothing depends on that if only one mirror has this name."""
+    body = b"".join((bytes((1, len(changes) + 2)), mark, *changes))
+    return len(body).to_bytes(4, "big") + body
+
+
+def spelled_mark(key: bytes, position: Position) -> bytes:
+    """The two queries that a frame of changes begins with."""
+    return Get(key, (0,)).spelled() + Put(key, {0: position.spelled()}).spelled()
 
 
 def read_change_frame(body: bytes, count: int) -> Written:

@@ -17,7 +17,7 @@ from ..core import BadColumn, FeedFull, OtherVersion
 from ..mapping import RowPairs
 from ..wire import Get
 from .errors import BadMapping, CopyAgain, NeedsDecision, Overtaken
-from .frames import CHANGES, FrameClient, change_frame, key_of_change, read_change_frame, spelled_change
+from .frames import CHANGES, FrameClient, change_frame, key_of_change, read_change_frame, spelled_change, spelled_mark
 from .place import RESERVED, Position, State, position_key
 from .source import Copy, Group
 
@@ -60,6 +60,8 @@ class Target:
         self._index, self._name, self._keys = index, name, keys
         self._key = position_key(name)
         self._position = Position(State.COPYING, 0, 0, owner, os.urandom(8), keys.prefix)
+        # the version of the position row that this run knows, and what a frame of changes begins with
+        self._version, self._head = 0, b""
         # the run that wrote the position row before this one
         self._before = b""
         self._has_written = False
@@ -110,8 +112,7 @@ class Target:
         """Takes over from the run that wrote this position row."""
         if found is None:
             return None
-        self._before = found.writer
-        self._position = replace(self._position, version=found.version)
+        self._before, self._version = found.writer, found.version
         if found.owner != self._position.owner:
             return None
         self._position = replace(self._position, state=found.state, at=found.at, until=found.until)
@@ -126,12 +127,12 @@ class Target:
         """Raises if the position row isn't the one that this run wrote last, or the server is lost. It costs one round
         trip."""
         found = self._read()
-        if (0 if found is None else found.version) != self._position.version:
+        if (0 if found is None else found.version) != self._version:
             self._met(found)
 
     def _met(self, found: Optional[Position]) -> None:
         """Raises for a position row that another has written."""
-        self._position = replace(self._position, version=0 if found is None else found.version)
+        self._version = 0 if found is None else found.version
         if found is None:
             raise CopyAgain("the position row was removed")
         if found.writer != self._before:
@@ -145,8 +146,8 @@ class Target:
         wanted = replace(self._position, state=state, at=at, until=until)
         while True:
             try:
-                version = self._index.put_if(self._key, wanted.spelled(), self._position.version)
-                self._position, self._has_written = replace(wanted, version=version), True
+                self._version = self._index.put_if(self._key, wanted.spelled(), self._version)
+                self._position, self._head, self._has_written = wanted, spelled_mark(self._key, wanted), True
                 return
             except FeedFull:
                 time.sleep(PAUSE)
@@ -174,7 +175,7 @@ class Target:
     def copy(self, copy: Copy) -> int:
         """Puts the rows of a copy, and removes all others of this mirror's keys; returns how many rows there are.
         Before it `begin_copy` has to be called."""
-        begun, had_rows, count = self._position.version, any(True for _ in self._rows()), 0
+        begun, had_rows, count = self._version, any(True for _ in self._rows()), 0
         held: List[bytes] = []
 
         def take(puts: List[bytes]) -> None:
@@ -222,7 +223,7 @@ class Target:
             self._send_frame(changes[begin:begin + CHANGES])
 
     def _send_frame(self, changes: Sequence[bytes]) -> None:
-        self._index.send_frame(change_frame(self._key, self._position, changes))
+        self._index.send_frame(change_frame(self._head, changes))
         self._waiting.append(changes)
 
     def _await(self, most: int) -> None:
@@ -232,13 +233,13 @@ class Target:
         while len(self._waiting) > most:
             changes = self._waiting.popleft()
             written = read_change_frame(self._index.receive_reply(), len(changes))
-            if written.found is not None and written.found != self._position.version:
+            if written.found is not None and written.found != self._version:
                 while self._waiting:
                     self._waiting.popleft()
                     self._index.receive_reply()
                 self._met(self._read())
             if written.version is not None:
-                self._position = replace(self._position, version=written.version)
+                self._version = written.version
             if written.refused is not None:
                 if not isinstance(written.refused, FeedFull):
                     raise written.refused
