@@ -120,13 +120,14 @@ def before_the_copy(tables: Tables) -> None:
     tables.run("CREATE TABLE bare(id int, a int)", "CREATE TABLE late(id int PRIMARY KEY DEFERRABLE, a int)",
                "CREATE TABLE fit(id int, state text, a int, f float8, PRIMARY KEY (id))",
                "CREATE TABLE parted(id int PRIMARY KEY, a int) PARTITION BY RANGE (id)",
-               "CREATE UNLOGGED TABLE quick(id int PRIMARY KEY, a int)", "CREATE VIEW seen AS SELECT * FROM fit")
+               "CREATE UNLOGGED TABLE quick(id int PRIMARY KEY, a int)", "CREATE VIEW seen AS SELECT * FROM fit",
+               "CREATE TABLE made(id int PRIMARY KEY, a int, b int GENERATED ALWAYS AS (a + 1) STORED)")
     words = tables.words
     for why, given in (
             ("no table", words("nothing", "r/{id}")), ("no primary key", words("bare", "r/{id}")),
             ("checked at once", words("late", "r/{id}")), ("no column", words("fit", "r/{id}", "nothing:uint")),
-            ("could have one key", words("fit", "r/{state}")), ("begin with text", words("fit", "{id}")),
-            ("followed by '/'", words("fit", "r/{state}{id}")),
+            ("GENERATED", words("made", "r/{id}", "b")), ("could have one key", words("fit", "r/{state}")),
+            ("begin with text", words("fit", "{id}")), ("followed by '/'", words("fit", "r/{state}{id}")),
             ("no kind of column", words("fit", "r/{id}", "a:float")),
             ("double precision", words("fit", "r/{id}", "f:dec2")), ("17 columns", words("fit", "r/{id}", *["a"] * 17)),
             ("--columns 5", words("fit", "r/{id}", *["a"] * 5)), ("has partitions", words("parted", "r/{id}")),

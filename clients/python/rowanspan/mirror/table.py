@@ -26,7 +26,7 @@ a.attname, a.atttypid, a.atttypmod,
 EXISTS (SELECT 1 FROM pg_index i WHERE i.indrelid = c.oid AND i.indimmediate AND a.attnum = ANY(i.indkey)
 AND CASE WHEN c.relreplident = 'i' THEN i.indisreplident ELSE i.indisprimary END)
 FROM pg_class c JOIN pg_namespace n ON n.oid = c.relnamespace
-LEFT JOIN pg_attribute a ON a.attrelid = c.oid AND a.attnum > 0 AND NOT a.attisdropped
+LEFT JOIN pg_attribute a ON a.attrelid = c.oid AND a.attnum > 0 AND NOT a.attisdropped AND a.attgenerated = ''
 WHERE c.oid = to_regclass(%s) ORDER BY a.attnum"""
 
 
@@ -80,7 +80,7 @@ def check_source(ask: Ask) -> None:
 def check_columns(table: str, mapping: RowMapping, types: Mapping[str, Type]) -> None:
     for name in mapping.names:
         if name not in types:
-            raise BadMapping(f"{table} has no column {name}")
+            raise BadMapping(f"{table} has no column {name}, or it is GENERATED, and PostgreSQL doesn't send it")
     summed = [column.name for column in mapping.columns if column.kind.is_number]
     for name in [*mapping.key.names, *summed]:
         kind = FLOATS.get(types[name][0])
