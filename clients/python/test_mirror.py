@@ -9,12 +9,12 @@ from dataclasses import replace
 from typing import Any, Dict, Iterator, List, Optional
 
 import rowanspan
-from rowanspan import Closed, ConnectionLost, FeedFull, Put, PutIf, Remove, Row, mirror
+from rowanspan import BadReply, Closed, ConnectionLost, FeedFull, Put, PutIf, Remove, Row, mirror
 from rowanspan.mirror import Position, State
 from rowanspan.mirror.errors import BadMapping, CopyAgain, NeedsDecision, Overtaken
 from rowanspan.mirror.following import follow
 from rowanspan.mirror.frames import (CHANGES, FrameClient, change_frame, key_of_change, read_change_frame,
-                                     spelled_change, spelled_mark)
+                                     read_versions, spelled_change, spelled_mark)
 from rowanspan.mirror.place import position_key
 from rowanspan.mirror.source import Copy, Group, Sets, Source, TakePuts
 from rowanspan.mirror.target import Keys, Target
@@ -73,6 +73,23 @@ class FrameTest(unittest.TestCase):
             written = read_change_frame(index.receive_reply(), 3)
             self.assertEqual((written.done, type(written.refused)), (1, rowanspan.BadColumn))
 
+    def test_versions(self) -> None:
+        with StandIn(Options(columns=2)) as server, FrameClient(server.port, timeout=SECONDS) as index:
+            for number in range(2500):
+                index.put(b"%04d" % number, {0: b"x" * (number % 65), 1: b"y"})
+            rows = [(key, row.version) for key, row in index.items()]
+            for start, end, wanted in ((b"", None, rows), (b"0010", b"1001", rows[10:1001]), (b"9", None, []),
+                                       (b"1500", None, rows[1500:]), (b"2499", b"2499", [])):
+                self.assertEqual(list(index.versions(start, end)), wanted)
+
+    def test_bad_versions(self) -> None:
+        row = b"\0\1k" + (7).to_bytes(8, "big") + b"\1\1v"
+        whole = b"\1\1\4" + bytes(16) + b"\0\1" + row
+        self.assertEqual(read_versions(whole), [(b"k", 7)])
+        for body in (whole[:-1], whole + b"x", whole[:-2], whole[:20] + b"\2" + row, b"\1\1\0\5" + bytes(8), b""):
+            with self.assertRaises(BadReply):
+                read_versions(body)
+
     def test_lost_connections(self) -> None:
         with StandIn(Options(sessions=1)) as server:
             index = FrameClient(server.port, timeout=SECONDS)
@@ -81,8 +98,7 @@ class FrameTest(unittest.TestCase):
                 with self.assertRaises(ConnectionLost):
                     call()
             index.close()
-        with StandIn() as server:
-            index = FrameClient(server.port, timeout=SECONDS)
+        with StandIn() as server, FrameClient(server.port, timeout=SECONDS) as index:
             index.close()
             with self.assertRaises(Closed):
                 index.receive_reply()

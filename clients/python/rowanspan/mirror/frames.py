@@ -2,16 +2,16 @@
 from __future__ import annotations
 
 import socket
-from typing import Any, Callable, List, NamedTuple, Optional, Sequence, TypeVar
+from typing import Any, Callable, Iterator, List, NamedTuple, Optional, Sequence, Tuple, TypeVar
 
 from ..client import Client, receive_body
-from ..core import Closed, ConnectionLost, Refused, Row
-from ..wire import AnswerKind, Get, Put, Query, Remove, Reply, read_replies
+from ..core import MAX_LIMIT, BadReply, Closed, ConnectionLost, Refused, Row, key_after
+from ..wire import AnswerKind, Get, GetRange, Put, Query, Remove, Reply, read_replies, request_frame
 from .place import Position
 from .source import Sets
 
 __all__ = ["CHANGES", "FrameClient", "Written", "spelled_change", "key_of_change", "change_frame", "spelled_mark",
-           "read_change_frame"]
+           "read_change_frame", "read_versions"]
 
 # how many changes a frame has room for: after the get and the put of the position row
 CHANGES = 62
@@ -19,6 +19,8 @@ CHANGES = 62
 COMMITTED_BYTES = 25
 # at which byte the one column of the position row begins in the body of a reply
 COLUMN_AT = 29
+# and at which one the rows begin in the body of a reply to a range
+ROWS_AT = 21
 
 Value = TypeVar("Value")
 
@@ -37,6 +39,19 @@ class FrameClient(Client):
     def receive_reply(self) -> bytes:
         """The body of the reply to the first frame whose reply wasn't received yet. Raises `ConnectionLost`."""
         return self._guarded(receive_body)
+
+    def versions(self, start: bytes, end: Optional[bytes]) -> Iterator[Tuple[bytes, int]]:
+        """The keys from `start` on, before `end`, and the versions of their rows, by calls of 1000 rows. It is what
+        `range` returns, but for the columns, in a fraction of the time."""
+        begin: Optional[bytes] = start
+        while begin is not None:
+            self.send_frame(request_frame([GetRange(begin, MAX_LIMIT, (0,)).spelled()]))
+            found = read_versions(self.receive_reply())
+            for key, version in found:
+                if end is not None and key >= end:
+                    return
+                yield key, version
+            begin = key_after(found[-1][0]) if len(found) == MAX_LIMIT else None
 
     def _guarded(self, work: Callable[[socket.socket], Value]) -> Value:
         """Works with the connection, which is lost after a fault."""
@@ -89,6 +104,24 @@ def change_frame(mark: bytes, changes: Sequence[bytes]) -> bytes:
 def spelled_mark(key: bytes, position: Position) -> bytes:
     """The two queries that a frame of changes begins with."""
     return Get(key, (0,)).spelled() + Put(key, {0: position.spelled()}).spelled()
+
+
+def read_versions(body: bytes) -> List[Tuple[bytes, int]]:
+    """The keys of an answer to a range of one column, and the versions of their rows. Raises `BadReply`."""
+    if body[:3] != bytes((1, 1, AnswerKind.ROWS)):
+        raise BadReply(f"a range was answered by {body[:12]!r}")
+    made, at = [], ROWS_AT
+    try:
+        for _ in range(int.from_bytes(body[ROWS_AT - 2:ROWS_AT], "big")):
+            end = at + 2 + (body[at] << 8 | body[at + 1])
+            made.append((body[at + 2:end], int.from_bytes(body[end:end + 8], "big")))
+            # (after the version there are how many columns come, the length of the one, and its bytes)
+            at = end + 10 + body[end + 9]
+    except IndexError:
+        at = -1
+    if at != len(body):
+        raise BadReply("a range was answered by rows that aren't whole")
+    return made
 
 
 def read_change_frame(body: bytes, count: int) -> Written:

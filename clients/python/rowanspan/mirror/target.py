@@ -11,10 +11,9 @@ import os
 import time
 from collections import deque
 from dataclasses import dataclass, replace
-from typing import Deque, Iterator, List, Optional, Sequence
+from typing import Deque, Iterator, List, Optional, Sequence, Tuple
 
-from ..core import BadColumn, FeedFull, OtherVersion
-from ..mapping import RowPairs
+from ..core import BadColumn, FeedFull, OtherVersion, prefix_end
 from ..wire import Get
 from .errors import BadMapping, CopyAgain, NeedsDecision, Overtaken
 from .frames import CHANGES, FrameClient, change_frame, key_of_change, read_change_frame, spelled_change, spelled_mark
@@ -163,7 +162,7 @@ class Target:
         newer than the position, and it isn't called exact."""
         changes = group.changes
         if group.clears:
-            changes = {**{key: None for key in self.keys() if key not in changes}, **changes}
+            changes = {**{key: None for key, _ in self._rows() if key not in changes}, **changes}
         until = max(group.at, self._position.until)
         held = self._keys.those_of([spelled_change(key, sets) for key, sets in changes.items()])
         if held:
@@ -191,7 +190,7 @@ class Target:
         self._write(held, AHEAD)
         if had_rows:
             # (each row of the copy has a later version than what was written before the first of them)
-            stale = [key for key, row in self._rows() if row.version <= begun]
+            stale = [key for key, version in self._rows() if version <= begun]
             self._write([spelled_change(key, None) for key in stale], AHEAD)
         self._mark(State.EXACT, copy.at, copy.at)
         return count
@@ -201,13 +200,11 @@ class Target:
         self._await(0)
         self._mark(State.COPYING, 0, 0)
 
-    def keys(self) -> Iterator[bytes]:
-        """The keys of this mirror's rows in the server."""
-        return (key for key, _ in self._rows())
-
-    def _rows(self) -> RowPairs:
+    def _rows(self) -> Iterator[Tuple[bytes, int]]:
+        """The keys of this mirror's rows in the server, and the versions of the rows."""
         keys = self._keys
-        return self._index.range(max(keys.low, keys.prefix), keys.high, prefix=keys.prefix, columns=(0,))
+        ends = [end for end in (keys.high, prefix_end(keys.prefix)) if end is not None]
+        return self._index.versions(max(keys.low, keys.prefix), min(ends, default=None))
 
     # -- frames
 
