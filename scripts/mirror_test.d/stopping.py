@@ -3,8 +3,9 @@ from __future__ import annotations
 
 import os
 import signal
+import threading
 from dataclasses import replace
-from typing import Callable, Dict, List
+from typing import Any, Callable, Dict, List
 
 # (it puts the package on the path)
 from running import SECONDS, Mirror, Server, rows_of, want, want_same
@@ -128,7 +129,50 @@ def a_table_that_is_rewritten_in_the_copy(tables: Tables) -> None:
         it.change("UPDATE T SET a = 1; INSERT INTO T(id, a) VALUES ('4', 1)")
         copy.rows(copied.extend)
         want_same("the copy", copied, [spelled_change(b"x/3", {0: b"\x09"})])
+        copy, copied = source.copy(), []
+        waiting = Waiting(tables, f"TRUNCATE {it.name}")
+        ask = source._ask
+
+        def asked(query: str, *values: Any) -> Any:
+            waiting.begin()
+            return ask(query, *values)
+
+        source._ask = asked  # type: ignore[method-assign]
+        copy.rows(copied.extend)
+        want_same("the copy before a change", len(copied), 2)
+        waiting.end()
         source.close()
+
+
+class Waiting:
+    """A change that waits for a lock, in another thread."""
+
+    def __init__(self, tables: Tables, change: str) -> None:
+        self._tables, self._change = tables, change
+        self._thread = threading.Thread(target=self._run, daemon=True)
+        self._faults: List[str] = []
+
+    def _run(self) -> None:
+        try:
+            with self._tables.postgres.connected().cursor() as sql:
+                sql.execute(f"SET lock_timeout = '{SECONDS / 4:.0f}s'")
+                sql.execute(self._change)
+        except Exception as fault:
+            self._faults.append(str(fault))
+
+    def begin(self) -> None:
+        if not self._thread.is_alive():
+            self._thread.start()
+            wait_for(lambda: waits(self._tables))
+
+    def end(self) -> None:
+        self._thread.join(SECONDS)
+        want(not self._faults and not self._thread.is_alive(), f"it waits: {self._faults}")
+
+
+def waits(tables: Tables) -> bool:
+    tables.run("SELECT count(*) FROM pg_locks WHERE NOT granted")
+    return bool(tables.sql.fetchone()[0])
 
 
 def tables_that_go(tables: Tables) -> None:

@@ -50,12 +50,11 @@ class SpelledPuts:
         self.left_out = 0
         self._is_begun = False
 
-    def write(self, row: bytes) -> int:
+    def write(self, row: bytes) -> None:
         held = self._held
         held.append(row)
         if len(held) == CHANGES:
             self.end()
-        return len(row)
 
     def end(self) -> None:
         """Takes the puts that are held."""
@@ -79,12 +78,11 @@ class CopiedValues:
         self._mapping, self._names, self._take = mapping, mapping.names, take
         self._held: List[bytes] = []
 
-    def write(self, line: bytes) -> int:
+    def write(self, line: bytes) -> None:
         row = dict(zip(self._names, copied_values(line)))
         self._held.append(spelled_change(self._mapping.key_of(row), self._mapping.sets_of(row)))
         if len(self._held) == CHANGES:
             self.end()
-        return len(line)
 
     def end(self) -> None:
         """Takes the puts that are held."""

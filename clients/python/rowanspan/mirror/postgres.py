@@ -37,13 +37,15 @@ SPELLING = {"client_encoding": "utf8",
 SLOT = """
 SELECT wal_status, confirmed_flush_lsn, pg_current_wal_flush_lsn() FROM pg_replication_slots WHERE slot_name = %s"""
 DROP_SLOT = "SELECT pg_drop_replication_slot(slot_name) FROM pg_replication_slots WHERE slot_name = %s"
-# what changes if rows change without a message. (It names the table, so it waits for a change of its definition.)
+# what changes if rows change without a message
 STAMP = """
 SELECT c.relfilenode, c.xmin::text::bigint, c.relreplident,
 EXISTS (SELECT 1 FROM pg_publication_rel r JOIN pg_publication p ON p.oid = r.prpubid WHERE p.pubname = %s AND
 r.prrelid = c.oid), (SELECT ARRAY[string_agg(a.attnum::text, ' ' ORDER BY a.attname),
 string_agg(a.xmin::text, ' ' ORDER BY a.attname)] FROM pg_attribute a WHERE a.attrelid = c.oid AND a.attname = ANY(%s))
-FROM pg_class c WHERE c.oid = %s AND NOT EXISTS (SELECT 1 FROM {table} WHERE false)"""
+FROM pg_class c WHERE c.oid = %s"""
+# (a query that names the table waits for a change of its definition)
+WAITS = " AND NOT EXISTS (SELECT 1 FROM {table} WHERE false)"
 FLUSHED = "SELECT pg_current_wal_flush_lsn() - '0/0'"
 NOTED = "SELECT obj_description(oid, 'pg_publication') FROM pg_publication WHERE pubname = %s"
 
@@ -160,7 +162,8 @@ class PostgresSource(Source):
         """Keeps the table's file and columns as they are until the end of the transaction. Raises `CopyAgain` if they
         are others than before the snapshot: a snapshot doesn't have the rows that a TRUNCATE after it has removed."""
         cursor.execute(f"LOCK TABLE {self._table.name} IN ACCESS SHARE MODE")
-        if self._read_stamp().noted != self._stamp.noted:
+        # (a change may wait for this lock now, so that it can't be waited for)
+        if self._read_stamp(waits=False).noted != self._stamp.noted:
             raise CopyAgain(f"the table {self._table.name} was rewritten during the copy")
 
     # -- the slot
@@ -218,8 +221,8 @@ class PostgresSource(Source):
             except psycopg2.errors.UndefinedObject:
                 raise CopyAgain(f"the slot {self._slot} is gone") from None
 
-    def _read_stamp(self) -> Stamp:
-        query = STAMP.format(table=self._table.name.replace("%", "%%"))
+    def _read_stamp(self, waits: bool = True) -> Stamp:
+        query = STAMP + WAITS.format(table=self._table.name.replace("%", "%%")) if waits else STAMP
         try:
             found = self._ask(query, self._publication, self._mapping.names, self._table.oid)
         except psycopg2.errors.UndefinedTable:
