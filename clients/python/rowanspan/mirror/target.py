@@ -23,7 +23,7 @@ from .source import Copy, Group
 __all__ = ["Keys", "Target"]
 
 # how many frames of a copy are on their way at once: the server has work while this process has none
-AHEAD = 32
+AHEAD = 16
 # how often the position row is looked at before it is said that another mirror writes it
 LOOKS = 25
 # how long it waits after the log of the server was full
