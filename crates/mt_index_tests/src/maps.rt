@@ -1,15 +1,14 @@
 //! A map by example: its rows, its walks, its ranges, its views and its tidies.
 
-use bytes::Bytes;
+use mt_asked::borrowed::{Set, Spec, Test};
+use mt_asked::bounds::Bounds;
 use mt_index::options::Options;
-use mt_map::borrowed::{Set, Spec, Test};
 use mt_map::map::Map;
 use mt_types::event::TidyRule;
-use mt_types::items::Items;
 use mt_types::numbers::ViewNo;
 use mt_types::refusal::Refusal;
-use mt_types::row::Sets;
 use std::alloc::Global;
+use std::ops::Bound;
 use std::test::Fail;
 
 // Keys in their order. Three share their first eight bytes, so that they are in a layer of their own.
@@ -21,11 +20,6 @@ const KEYS: [&[u8]; 6] = [
     b"apricots/b",
     b"pear",
 ];
-
-fn sets(alloc: Global, value: &'static [u8]) -> Result<Sets, Refusal> {
-    let set = (0, Bytes::from_static(value));
-    Ok(Items::from_vec(Vec::from_array(alloc, [set])?))
-}
 
 // A map whose log keeps the last eight commits.
 fn open(alloc: Global) -> Result<Map, Refusal> {
@@ -77,19 +71,6 @@ fn conditional_puts_of_a_map(rt: HostRuntime) -> Result<(), Fail> {
     assert_eq!(rt; map.put_if(b"pear", &[], 0), Err(Refusal::OtherVersion(1)));
     assert_eq!(rt; map.put_if(b"pear", &[], 1), Ok(2));
     assert_eq!(rt; seen(&map, b"pear"), Ok(Some((2, 5))));
-    Ok(())
-}
-
-#[test]
-fn owned_changes_of_a_map(rt: HostRuntime) -> Result<(), Fail> {
-    let alloc = rt.alloc();
-    let mut map = open(alloc)?;
-    let put = map.put_owned(Bytes::from_static(b"pear"), sets(alloc, b"first")?);
-    assert_eq!(rt; put, Ok(1));
-    let put = map.put_if_owned(Bytes::from_static(b"pear"), sets(alloc, b"late")?, 0);
-    assert_eq!(rt; put, Err(Refusal::OtherVersion(1)));
-    assert_eq!(rt; seen(&map, b"pear"), Ok(Some((1, 5))));
-    assert_eq!(rt; map.remove_owned(Bytes::from_static(b"pear")), Ok(Some(2)));
     Ok(())
 }
 
@@ -177,6 +158,42 @@ fn walks_of_a_map(rt: HostRuntime) -> Result<(), Fail> {
     Ok(())
 }
 
+// How many rows of a map are within bounds, and the last of their keys is this one.
+fn within(map: &Map, bounds: Bounds<'_>, last: &[u8]) -> Result<(usize, bool), Refusal> {
+    let mut rows = map.range(bounds)?;
+    let mut is_last = false;
+    for count in 0..KEYS.len() {
+        if rows.next()?.is_none() {
+            return Ok((count, is_last));
+        }
+        is_last = rows.key() == last;
+    }
+    Ok((KEYS.len(), is_last))
+}
+
+#[test]
+fn bounds_of_a_map(rt: HostRuntime) -> Result<(), Fail> {
+    let map = filled(rt.alloc())?;
+    let (apple, apricots) = (b"apple".as_slice(), b"apricots".as_slice());
+    let pear = b"pear".as_slice();
+    let first = (Bound::Unbounded, Bound::Excluded(apricots));
+    assert_eq!(rt; within(&map, first, apple), Ok((2, true)));
+    let closed = (Bound::Included(apple), Bound::Included(apricots));
+    assert_eq!(rt; within(&map, closed, apricots), Ok((2, true)));
+    let open = (Bound::Excluded(apricots), Bound::Excluded(pear));
+    assert_eq!(rt; within(&map, open, b"apricots/b"), Ok((2, true)));
+    let absent = (Bound::Excluded(b"b".as_slice()), Bound::Unbounded);
+    assert_eq!(rt; within(&map, absent, pear), Ok((1, true)));
+    let none = (Bound::Excluded(pear), Bound::Included(apple));
+    assert_eq!(rt; within(&map, none, pear), Ok((0, false)));
+    let long = [7; 1025];
+    assert!(rt;
+        map.range((Bound::Excluded(&long), Bound::Unbounded))
+            .is_err()
+    );
+    Ok(())
+}
+
 #[test]
 fn first_of_a_map(rt: HostRuntime) -> Result<(), Fail> {
     let mut map = filled(rt.alloc())?;
@@ -229,8 +246,11 @@ fn views_of_a_map(rt: HostRuntime) -> Result<(), Fail> {
     assert_eq!(rt; map.keep_views(10), Ok(1));
     assert_eq!(rt; map.apply(view), Ok(None));
     assert_eq!(rt; page(&map, view, 7), Ok((7, 4, 3)));
+    let state = map.view(view).ok_or("view")?;
+    assert_eq!(rt; (state.at(), state.count()), (7, 4));
     assert_eq!(rt; map.drop_view(view), Ok(()));
     assert_eq!(rt; map.drop_view(view), Err(Refusal::NoSuchView));
+    assert!(rt; map.view(view).is_none());
     Ok(())
 }
 

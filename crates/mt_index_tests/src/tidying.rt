@@ -1,11 +1,10 @@
 //! Memory that comes back: the nodes of a map after removes, by example.
 
 use bytes::Bytes;
+use mt_asked::borrowed::{Spec, Test};
 use mt_index::options::Options;
-use mt_map::borrowed::{Spec, Test};
 use mt_map::map::Map;
 use mt_types::event::TidyRule;
-use mt_types::items::Items;
 use mt_types::numbers::ViewNo;
 use mt_types::refusal::Refusal;
 use std::alloc::Global;
@@ -36,7 +35,7 @@ fn key(alloc: Global, shape: Shape, number: u64) -> Result<Bytes, Refusal> {
 fn filled(alloc: Global, options: Options, shape: Shape, many: u64) -> Result<Map, Refusal> {
     let mut map = Map::open(alloc, options)?;
     for number in 0..many {
-        let _ = map.put_owned(key(alloc, shape, number)?, Items::new(alloc))?;
+        let _ = map.put(&key(alloc, shape, number)?, &[])?;
     }
     Ok(map)
 }
@@ -52,7 +51,7 @@ fn emptied(
 ) -> Result<usize, Refusal> {
     for count in 0..many {
         let number = count.wrapping_mul(step) % many;
-        if map.remove_owned(key(alloc, shape, number)?)?.is_none() {
+        if map.remove(&key(alloc, shape, number)?)?.is_none() {
             return Err(Refusal::Behind(number));
         }
     }
@@ -96,8 +95,8 @@ fn window_keeps_its_nodes(rt: HostRuntime) -> Result<(), Fail> {
     let mut map = filled(alloc, Options::default(), Shape::Short, 200)?;
     let nodes = map.nodes();
     for number in 0..3000 {
-        let _ = map.put_owned(key(alloc, Shape::Short, number + 200)?, Items::new(alloc))?;
-        let _ = map.remove_owned(key(alloc, Shape::Short, number)?)?;
+        let _ = map.put(&key(alloc, Shape::Short, number + 200)?, &[])?;
+        let _ = map.remove(&key(alloc, Shape::Short, number)?)?;
     }
     assert!(rt; map.nodes() <= nodes + 8);
     assert_eq!(rt; map.commits(), 6200);
@@ -110,7 +109,7 @@ fn no_empty_node_is_left(rt: HostRuntime) -> Result<(), Fail> {
     let alloc = rt.alloc();
     let mut map = filled(alloc, Options::default(), Shape::Long, 200)?;
     for number in 40..160 {
-        let _ = map.remove_owned(key(alloc, Shape::Long, number)?)?;
+        let _ = map.remove(&key(alloc, Shape::Long, number)?)?;
         let tidied = map.tidy(&key(alloc, Shape::Long, number)?);
         assert!(rt;
             matches!(
@@ -147,11 +146,11 @@ fn change(
     // Long stretches in which most changes are puts, and then most removes.
     let puts = (random >> 32) % 8 < 1 + 6 * ((map.commits() / 400) % 2);
     if puts {
-        let commit = map.put_owned(key(alloc, Shape::Long, number)?, Items::new(alloc))?;
+        let commit = map.put(&key(alloc, Shape::Long, number)?, &[])?;
         let _ = plain.insert(number, commit)?;
         return Ok(true);
     }
-    let removed = map.remove_owned(key(alloc, Shape::Long, number)?)?;
+    let removed = map.remove(&key(alloc, Shape::Long, number)?)?;
     Ok(removed.is_some() == plain.remove(&number).is_some())
 }
 

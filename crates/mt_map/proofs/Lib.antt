@@ -3,4 +3,5 @@ pub mod MapLemmas
 pub mod WalkLemmas
 pub mod Ranges
 pub mod TidyLemmas
+pub mod BoundLemmas
 pub mod KeysToCome

@@ -32,7 +32,10 @@ use Rattle.mt_index.specs.Viewing.{page_outcome}
 use Rattle.mt_index.proofs.AloneStands.{begin_refuses_plainly}
 use Rattle.mt_index.proofs.EventLemmas.{turned_away}
 use Rattle.mt_index.proofs.MachineLemmas.{copies_view}
-use Rattle.mt_map.specs.Tidies.{MapCameTo, MapView, PurgesIfEmptied, Removes, RemovesAndTidies}
+use Rattle.mt_asked.specs.Borrowed.{request_of}
+use Rattle.mt_asked.specs.declared.asked.Asked.{Asked}
+use Rattle.mt_asked.specs.declared.asked.Asked.TheVariants as Asks
+use Rattle.mt_map.specs.Tidies.{ChangeComesTo, MapCameTo, MapComesTo, MapView, PurgesIfEmptied, Removes, RemovesAndTidies}
 use Rattle.mt_map.specs.Views.{IsOutside, ShowsView}
 
 -- ---- answers
@@ -105,6 +108,28 @@ limit_refuses s request refusal idle limit = record {
   came = came_limited s.machine request refusal idle (first_fault s.machine request refusal limit);
   tidies = refl;
 }
+
+-- ---- calls by borrowed bytes
+
+-- none was made: it breaks a limit, or memory for a copy was refused
+pub asked_refused : (s : MapView) (n : ℕ) (request : Request) (refusal : Refusal) → IsIdle s.machine → n ≡ s.machine.columns
+    → MatchOption (request_fault n request) (refusal ≡ NoMemory) (λ (fault : Refusal). ◌≡◌ {A = Result Request Refusal} (Err refusal) (Err fault))
+    → MapComesTo s request (Err refusal) s
+asked_refused s n request refusal idle columns why = go (request_fault s.machine.columns request) refl (subst (λ (count : ℕ). MatchOption (request_fault count request) (refusal ≡ NoMemory) (λ (due : Refusal). ◌≡◌ {A = Result Request Refusal} (Err refusal) (Err due))) columns why)
+  where
+    go : (fault : Option Refusal) → request_fault s.machine.columns request ≡ fault → MatchOption fault (refusal ≡ NoMemory) (λ (due : Refusal). ◌≡◌ {A = Result Request Refusal} (Err refusal) (Err due)) → MapComesTo s request (Err refusal) s
+    go None is short = inr (ap (λ (r : Refusal). Err r) short, is, refl)
+    go (Some due) is same = inl (limit_refuses s request refusal idle (is ∙ ap (λ (r : Refusal). Some r) (sym (let e : refusal ≡ due = cc in e))))
+
+-- a change that is no remove
+pub change_asked : (asked : Asked) (s t : MapView) (result : Result Answer Refusal) → ((key : _) → asked ≡ Asks.Remove key → ⊥) → MapComesTo s (request_of asked) result t → ChangeComesTo s (request_of asked) result t
+change_asked (Asks.Get key columns) s t result other comes = comes
+change_asked (Asks.Range start limit columns) s t result other comes = comes
+change_asked (Asks.Put key sets) s t result other comes = comes
+change_asked (Asks.PutIf key sets version) s t result other comes = comes
+change_asked (Asks.Remove key) s t result other comes = absurd (other key refl)
+change_asked (Asks.Tidy key) s t result other comes = comes
+change_asked (Asks.Build spec) s t result other comes = comes
 
 -- ---- keys that are too long
 pub long_fault : (key : List ℕ) → MAX_KEY_BYTES < length key → key_fault key ≡ Some KeyTooLong

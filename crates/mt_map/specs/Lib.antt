@@ -1,5 +1,5 @@
 -- What the contracts of this crate cite.
-pub mod Borrowed
+pub mod Bounded
 pub mod Calls
 pub mod Tidies
 pub mod Views

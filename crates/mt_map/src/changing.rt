@@ -3,32 +3,22 @@
 ghost use Rattle.std.specs.Prelude.{◌≡◌, IfOk, true};
 ghost use Rattle.mt_types.specs.declared.event.Answer.TheVariants.{Stored, Tidied, Built};
 ghost use Rattle.mt_types.specs.declared.event.Request.TheVariants.{Build, Put, PutIf, Remove, Tidy};
-ghost use Rattle.mt_map.specs.Borrowed.{request_of, sets_of, spec_of};
+ghost use Rattle.mt_asked.specs.Borrowed.{request_of, sets_of, spec_of};
 ghost use Rattle.mt_map.specs.Calls.{IsAnswerTo, answered_by, removed_by};
 ghost use Rattle.mt_map.specs.Tidies.{ChangeComesTo, MapCameTo, MapComesTo, Removes};
 
-use crate::asked::Asked;
-use crate::borrowed::{Set, Spec};
 use crate::calling::call_alone;
-use crate::limits::key_fault;
 use crate::map::Map;
 use crate::tidying::tidy_after;
 use bytes::Bytes;
+use mt_asked::asked::Asked;
+use mt_asked::borrowed::{Set, Spec};
+use mt_asked::limits::key_fault;
 use mt_types::event::{Answer, Request, TidyRule};
 use mt_types::key::Key;
 use mt_types::numbers::ViewNo;
 use mt_types::refusal::Refusal;
-use mt_types::row::Sets;
 use mt_walk::place::place_of_key;
-
-fn stored(put: Result<u64, Refusal>) -> Result<Answer, Refusal>
-    ensures { result ≡ answered_by Stored put }
-{
-    match put {
-        Ok(commit) => Ok(Answer::Stored(commit)),
-        Err(refusal) => Err(refusal),
-    }
-}
 
 fn removed(found: Result<Option<u64>, Refusal>) -> Result<Answer, Refusal>
     ensures { result ≡ removed_by found }
@@ -36,24 +26,6 @@ fn removed(found: Result<Option<u64>, Refusal>) -> Result<Answer, Refusal>
     match found {
         Ok(Some(commit)) => Ok(Answer::Removed(commit)),
         Ok(None) => Ok(Answer::Absent),
-        Err(refusal) => Err(refusal),
-    }
-}
-
-fn tidied(rule: Result<TidyRule, Refusal>) -> Result<Answer, Refusal>
-    ensures { result ≡ answered_by Tidied rule }
-{
-    match rule {
-        Ok(rule) => Ok(Answer::Tidied(rule)),
-        Err(refusal) => Err(refusal),
-    }
-}
-
-fn built(view: Result<ViewNo, Refusal>) -> Result<Answer, Refusal>
-    ensures { result ≡ answered_by Built view }
-{
-    match view {
-        Ok(view) => Ok(Answer::Built(view)),
         Err(refusal) => Err(refusal),
     }
 }
@@ -72,16 +44,15 @@ impl Map {
         ensures comes { MapComesTo self.old (request_of asked.now) result self.new }
         ensures kind { IfOk result (IsAnswerTo (request_of asked.now)) }
     {
-        if let Some(refusal) = asked.fault(self.columns()) {
-            return Err(refusal);
-        }
-        match asked.request(self.alloc) {
+        let columns = self.columns();
+        match asked.checked(self.alloc, columns) {
             Ok(request) => self.call(request),
-            Err(_) => Err(Refusal::NoMemory),
+            Err(refusal) => Err(refusal),
         }
     }
 
-    /// Does what is asked for: what the method of its name does.
+    /// Does what is asked for: what the method of its name does. A get or a range is a call alone too, with copies of the
+    /// rows.
     ///
     ///     let answer = map.ask(&Asked::Remove { key: b"apple" })?;
     ///
@@ -92,11 +63,8 @@ impl Map {
         ensures { ChangeComesTo self.old (request_of asked.now) result self.new }
     {
         match asked {
-            Asked::Put { key, sets } => stored(self.put(key, sets)),
-            Asked::PutIf { key, sets, version } => stored(self.put_if(key, sets, *version)),
             Asked::Remove { key } => removed(self.remove(key)),
-            Asked::Tidy { key } => tidied(self.tidy(key)),
-            Asked::Build { spec } => built(self.build(spec)),
+            _ => self.call_copied(asked),
         }
     }
 
@@ -144,40 +112,6 @@ impl Map {
         }
     }
 
-    /// Puts as [`Map::put`] does. The key and the sets are moved, not copied.
-    ///
-    ///     let commit = map.put_owned(frame.split_to(5)?, sets)?;
-    ///
-    /// # Errors
-    ///
-    /// Those of [`Map::put`].
-    pub fn put_owned(&mut self, key: Bytes, sets: Sets) -> Result<u64, Refusal>
-        ensures { MapCameTo self.old (Put key sets) (answered_by Stored result) self.new }
-    {
-        match self.call(Request::Put { key, sets }) {
-            Ok(Answer::Stored(commit)) => Ok(commit),
-            Ok(_) => unreachable!(),
-            Err(refusal) => Err(refusal),
-        }
-    }
-
-    /// Puts as [`Map::put_if`] does. The key and the sets are moved, not copied.
-    ///
-    ///     let commit = map.put_if_owned(frame.split_to(5)?, sets, 0)?;
-    ///
-    /// # Errors
-    ///
-    /// Those of [`Map::put_if`].
-    pub fn put_if_owned(&mut self, key: Bytes, sets: Sets, version: u64) -> Result<u64, Refusal>
-        ensures { MapCameTo self.old (PutIf key sets version) (answered_by Stored result) self.new }
-    {
-        match self.call(Request::PutIf { key, sets, version }) {
-            Ok(Answer::Stored(commit)) => Ok(commit),
-            Ok(_) => unreachable!(),
-            Err(refusal) => Err(refusal),
-        }
-    }
-
     /// Removes the row of `key`. Returns the number of the commit, or `None` if the key has no row.
     ///
     ///     if map.remove(b"apple")?.is_none() {
@@ -204,19 +138,13 @@ impl Map {
             return Err(refusal);
         }
         match Bytes::copy_from_slice(alloc, key) {
-            Ok(key) => self.remove_owned(key),
+            Ok(key) => self.remove_copied(key),
             Err(_) => Err(Refusal::NoMemory),
         }
     }
 
-    /// Removes as [`Map::remove`] does. The key is moved, not copied.
-    ///
-    ///     let removed = map.remove_owned(frame.split_to(5)?)?;
-    ///
-    /// # Errors
-    ///
-    /// Those of [`Map::remove`].
-    pub fn remove_owned(&mut self, key: Bytes) -> Result<Option<u64>, Refusal>
+    // Removes the row of a key, and makes the tidies that follow.
+    fn remove_copied(&mut self, key: Bytes) -> Result<Option<u64>, Refusal>
         ensures { Removes self.old key result self.new }
     {
         if !self.tidies {

@@ -14,14 +14,14 @@ ghost use Rattle.mt_index.specs.Alone.{IsIdle};
 ghost use Rattle.mt_index.specs.Feed.{feed_fault};
 ghost use Rattle.mt_index.specs.Stands.{HasBounds, Stands};
 
-use crate::limits::{key_fault, range_fault};
 use bytes::Bytes;
+use mt_asked::asked::numbers_of;
+use mt_asked::limits::{key_fault, range_fault};
 use mt_index::machine::Machine;
 use mt_index::options::Options;
-use mt_types::items::Items;
 use mt_types::key::Key;
 use mt_types::refusal::{NoMemory, Refusal};
-use mt_types::row::{ColumnNumbers, Delta, Pairs, Row};
+use mt_types::row::{Delta, Pairs, Row};
 use std::alloc::Global;
 use std::marker::Model;
 
@@ -73,14 +73,6 @@ pub(crate) fn key_of(alloc: Global, bytes: &[u8]) -> Result<Key, Refusal>
         Ok(bytes) => Key::new(bytes),
         Err(_) => Err(Refusal::NoMemory),
     }
-}
-
-fn numbers_of(alloc: Global, columns: &[u8]) -> Result<ColumnNumbers, NoMemory>
-    ensures { IfOk result (λ made. made ≡ columns.now) }
-{
-    let mut made = Vec::new(alloc);
-    made.extend_from_slice(columns)?;
-    Ok(Items::from_vec(made))
 }
 
 // The first rows from a key on. Copies the bytes of what is asked for.

@@ -1,6 +1,7 @@
 //! How the views of a map are read, advanced and dropped, and how its memory is freed: each by one event.
 
-ghost use Rattle.std.specs.Prelude.{◌≡◌, ◌≤◌, IfOk, IfErr, None, []};
+ghost use Rattle.std.specs.Prelude.{◌≡◌, ◌≤◌, IfOk, IfErr, IfSome, None, []};
+ghost use Rattle.std.specs.Option.{option_copied};
 ghost use Rattle.mt_types.specs.Limits.{page_fault};
 ghost use Rattle.mt_types.specs.declared.event.Event.TheVariants.{Apply, Collect, ViewDrop};
 ghost use Rattle.mt_types.specs.declared.event.Outcome.TheVariants.{Dropped, Freed, Refused};
@@ -8,7 +9,8 @@ ghost use Rattle.mt_promise.specs.History.{History, moment};
 ghost use Rattle.mt_index.specs.Alone.{IsIdle};
 ghost use Rattle.mt_index.specs.Events.{Makes};
 ghost use Rattle.mt_index.specs.Stands.{ReadsView, Stands};
-ghost use Rattle.mt_index.specs.Viewing.{page_outcome};
+ghost use Rattle.mt_index.specs.Viewing.{CopiesView, page_outcome};
+ghost use Rattle.mt_view.specs.Views.{state_at};
 ghost use Rattle.mt_map.specs.Views.{IsOutside, IsStopped, KeepsUp, ShowsView, applied_outcome, outcome_of};
 ghost use Rattle.mt_map.specs.Tidies.{MapMakes};
 
@@ -21,6 +23,7 @@ use mt_types::numbers::ViewNo;
 use mt_types::refusal::Refusal;
 use mt_types::view::Page;
 use mt_view::laws::states_show_pages;
+use mt_view::state::ViewState;
 use std::alloc::Global;
 
 // Makes an event that is no part of a call.
@@ -87,6 +90,20 @@ impl Map {
         ensures { MapMakes self.old event.now result self.new }
     {
         meet(self.alloc, &mut self.machine, event)
+    }
+
+    /// Returns the state of a view, borrowed: the number of commits at which it is, its rows, their count and their sums.
+    /// Returns `None` if no view has this number. O(log n) in the views.
+    ///
+    ///     if let Some(state) = map.view(view) {
+    ///         println!(rt; "{} rows at commit {}", state.count(), state.at())?;
+    ///     }
+    pub fn view(&self, view: ViewNo) -> Option<&ViewState>
+        ensures view { option_copied result ≡ state_at view.0 self.now.machine.views.views }
+        ensures exact { IfSome (option_copied result) (λ state. (h : History) → Stands self.now.machine h
+            → CopiesView self.now.machine.columns (moment h) view.0 state) }
+    {
+        self.machine.view(view)
     }
 
     /// Reads a page of a view: its count, its sums, and its first rows whose keys are at or after `start`, at most

@@ -2,13 +2,14 @@
 #![tactic(auto)]
 
 use anyhow::Result;
+use mt_asked::borrowed::{Set, Spec, Test};
 use mt_index::options::Options;
-use mt_map::borrowed::{Set, Spec, Test};
 use mt_map::map::Map;
+use std::ops::Bound;
 
-// Prints how long each key is, in their order, and which version its row has.
+// Prints how long each key from a to p is, in their order, and which version its row has.
 fn print_rows<R: Print>(rt: &R, map: &Map) -> Result<()> {
-    let mut rows = map.walk(b"")?;
+    let mut rows = map.range((Bound::Included(b"a"), Bound::Excluded(b"q")))?;
     while let Some(row) = rows.next()? {
         println!(rt; "{} bytes, version {}", rows.key().len(), row.version)?;
     }

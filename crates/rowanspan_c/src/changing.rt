@@ -1,7 +1,7 @@
 //! What is done with the index that a handle holds: it is taken out of the handle, used, and put back.
 
 ghost use Rattle.std.specs.Prelude.{◌≡◌};
-ghost use Rattle.mt_map.specs.Borrowed.{request_of};
+ghost use Rattle.mt_asked.specs.Borrowed.{request_of};
 ghost use Rattle.mt_map.specs.Views.{IsOutside};
 ghost use Rattle.rowanspan_c.specs.Questions.{IsAnswer};
 ghost use Rattle.rowanspan_c.specs.Calls.{Changes, KeepsViews, Meets, Reads};
@@ -10,7 +10,7 @@ use crate::handing::{tell_count, tell_end, tell_outcome, tell_read};
 use crate::handle::Handle;
 use crate::reading::{Question, read};
 use crate::status::CLOSED;
-use mt_map::asked::Asked;
+use mt_asked::asked::Asked;
 use mt_types::event::Event;
 use std::alloc::Global;
 

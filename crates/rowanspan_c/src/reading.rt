@@ -11,7 +11,7 @@ ghost use Rattle.rowanspan_c.specs.Told.{TellsRead};
 use crate::handing::{tell_absent, tell_refusal, tell_row};
 use crate::ranging::range_bytes;
 use crate::spelling::{bytes_of, list_bytes_of};
-use mt_map::limits::{get_fault, range_fault};
+use mt_asked::limits::{get_fault, range_fault};
 use mt_map::map::Map;
 use mt_types::items::Items;
 use mt_types::numbers::ViewNo;

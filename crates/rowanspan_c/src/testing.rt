@@ -1,10 +1,10 @@
 //! The test of rows that C asks for.
 
 ghost use Rattle.std.specs.Prelude.{◌≡◌};
-ghost use Rattle.mt_map.specs.Borrowed.{test_of};
+ghost use Rattle.mt_asked.specs.Borrowed.{test_of};
 ghost use Rattle.rowanspan_c.specs.Tests.{row_test_of};
 
-use mt_map::borrowed::Test;
+use mt_asked::borrowed::Test;
 
 /// The greatest kind of a test of rows.
 pub(crate) const GREATEST_KIND: u8 = 2;

@@ -3,4 +3,4 @@ use Rattle.mtmap.proofs.print_rows.Given as goal
 
 -- fewer keys are to come after each row
 abbrev pub decreases-loop-rows : goal.decreases-loop-rows
-decreases-loop-rows g l = keys_to_come l.rows.at
+decreases-loop-rows g l = keys_to_come l.rows.walk.at

@@ -1,5 +1,5 @@
 use Rattle.std.proofs.Common.{◌∙◌, ap, sym, Some}
-use Rattle.mt_map.specs.Borrowed.{request_of}
+use Rattle.mt_asked.specs.Borrowed.{request_of}
 use Rattle.rowanspan_c.proofs.CallLemmas.{changes_closed, changes_done}
 use Rattle.rowanspan_c.proofs.changing.change.Goals as goal
 

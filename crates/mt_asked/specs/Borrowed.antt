@@ -1,18 +1,18 @@
 -- What a caller passes in borrowed bytes, as an index has it.
 use Rattle.std.specs.Prelude.{ℕ, List, map, Some, None}
 use Rattle.mt_types.specs.declared.event.Request.{Request}
-use Rattle.mt_types.specs.declared.event.Request.TheVariants.{Put, PutIf, Remove, Tidy, Build}
+use Rattle.mt_types.specs.declared.event.Request.TheVariants.{Get, Range, Put, PutIf, Remove, Tidy, Build}
 use Rattle.mt_types.specs.declared.view.RowTest.{RowTest}
 use Rattle.mt_types.specs.declared.view.RowTest.TheVariants as owned
 use Rattle.mt_types.specs.declared.view.ViewSpec.{ViewSpec}
 use Rattle.mt_types.specs.declared.view.ViewSpec.TheVariants.{Range as RangeOf, Prefix as PrefixOf}
-use Rattle.mt_map.specs.declared.borrowed.Set.{Set}
-use Rattle.mt_map.specs.declared.borrowed.Test.{Test}
-use Rattle.mt_map.specs.declared.borrowed.Test.TheVariants.{Any, Equals, AtLeast}
-use Rattle.mt_map.specs.declared.borrowed.Spec.{Spec}
-use Rattle.mt_map.specs.declared.borrowed.Spec.TheVariants.{Prefix, From, Between}
-use Rattle.mt_map.specs.declared.asked.Asked.{Asked}
-use Rattle.mt_map.specs.declared.asked.Asked.TheVariants as asked
+use Rattle.mt_asked.specs.declared.borrowed.Set.{Set}
+use Rattle.mt_asked.specs.declared.borrowed.Test.{Test}
+use Rattle.mt_asked.specs.declared.borrowed.Test.TheVariants.{Any, Equals, AtLeast}
+use Rattle.mt_asked.specs.declared.borrowed.Spec.{Spec}
+use Rattle.mt_asked.specs.declared.borrowed.Spec.TheVariants.{Prefix, From, Between}
+use Rattle.mt_asked.specs.declared.asked.Asked.{Asked}
+use Rattle.mt_asked.specs.declared.asked.Asked.TheVariants as asked
 
 abbrev pub set_of : Set → ℕ × List ℕ
 set_of set = (set.column, set.bytes.now)
@@ -31,6 +31,8 @@ spec_of (From lo test) = RangeOf lo.now None (test_of test)
 spec_of (Between lo hi test) = RangeOf lo.now (Some hi.now) (test_of test)
 
 abbrev pub request_of : Asked → Request
+request_of (asked.Get key columns) = Get key.now columns.now
+request_of (asked.Range start limit columns) = Range start.now limit columns.now
 request_of (asked.Put key sets) = Put key.now (sets_of sets.now)
 request_of (asked.PutIf key sets version) = PutIf key.now (sets_of sets.now) version
 request_of (asked.Remove key) = Remove key.now

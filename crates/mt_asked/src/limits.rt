@@ -7,7 +7,7 @@ ghost use Rattle.std.specs.Option.{option_or};
 ghost use Rattle.mt_types.specs.Limits.{request_fault, key_fault, sets_fault, test_fault, end_fault, spec_fault, misnames};
 ghost use Rattle.mt_types.specs.declared.event.Request.TheVariants.{Get, Put, Range};
 ghost use Rattle.mt_types.specs.declared.view.ViewSpec.TheVariants.{Range as RangeOf};
-ghost use Rattle.mt_map.specs.Borrowed.{request_of, sets_of, spec_of, test_of};
+ghost use Rattle.mt_asked.specs.Borrowed.{request_of, sets_of, spec_of, test_of};
 
 use crate::asked::Asked;
 use crate::borrowed::{Set, Spec, Test};
@@ -155,11 +155,22 @@ fn spec_fault(columns: u8, spec: &Spec<'_>) -> Option<Refusal>
 }
 
 impl<'a> Asked<'a> {
-    /// Returns the first limit that the change breaks in an index of `columns` columns, if it breaks one.
-    pub(crate) fn fault(&self, columns: u8) -> Option<Refusal>
+    /// Returns the first limit that the call breaks in an index of `columns` columns, if it breaks one. Allocates nothing.
+    ///
+    ///     let refusal = Asked::Tidy { key: b"apple" }.fault(1);
+    pub fn fault(&self, columns: u8) -> Option<Refusal>
         ensures { result ≡ request_fault columns (request_of self.now) }
     {
         match self {
+            Asked::Get {
+                key,
+                columns: asked,
+            } => get_fault(columns, key, asked),
+            Asked::Range {
+                start,
+                limit,
+                columns: asked,
+            } => range_fault(columns, start, *limit, asked),
             Asked::Put { key, sets } => put_fault(columns, key, sets),
             Asked::PutIf { key, sets, .. } => put_fault(columns, key, sets),
             Asked::Remove { key } => key_fault(key),

@@ -1,21 +1,33 @@
-//! The changes that a caller asks for in borrowed bytes, and the requests that are made from them.
+//! Calls that a caller asks for in borrowed bytes, and the requests that are made from them.
 
-ghost use Rattle.std.specs.Prelude.{◌≡◌, IfOk, Some as SomeOf};
+ghost use Rattle.std.specs.Prelude.{◌≡◌, Err, IfErr, IfOk, MatchOption, Some as SomeOf};
+ghost use Rattle.mt_types.specs.Limits.{request_fault};
 ghost use Rattle.mt_types.specs.declared.view.ViewSpec.TheVariants.{Range as RangeOf};
-ghost use Rattle.mt_map.specs.Borrowed.{request_of, sets_of, spec_of, test_of};
+ghost use Rattle.mt_asked.specs.Borrowed.{request_of, sets_of, spec_of, test_of};
 
 use crate::borrowed::{Set, Spec, Test};
 use bytes::Bytes;
 use mt_types::event::Request;
 use mt_types::items::Items;
-use mt_types::refusal::NoMemory;
-use mt_types::row::Sets;
+use mt_types::refusal::{NoMemory, Refusal};
+use mt_types::row::{ColumnNumbers, Sets};
 use mt_types::view::{RowTest, ViewSpec};
 use std::alloc::Global;
 
-/// A change that is asked for, for callers that choose it while they run: see [`crate::map::Map::ask`].
+/// A call that is asked for, as [`Request`] has it.
 #[derive(Clone, Copy)]
 pub enum Asked<'a> {
+    /// A get of the columns of these numbers, or of all columns if there are none.
+    Get {
+        key: &'a [u8],
+        columns: &'a [u8],
+    },
+    /// A range of at most `limit` rows, with the columns of these numbers, or with all columns if there are none.
+    Range {
+        start: &'a [u8],
+        limit: u16,
+        columns: &'a [u8],
+    },
     /// A put.
     Put {
         key: &'a [u8],
@@ -39,6 +51,15 @@ pub enum Asked<'a> {
     Build {
         spec: &'a Spec<'a>,
     },
+}
+
+/// Returns a copy of the numbers of columns.
+pub fn numbers_of(alloc: Global, columns: &[u8]) -> Result<ColumnNumbers, NoMemory>
+    ensures { IfOk result (λ made. made ≡ columns.now) }
+{
+    let mut made = Vec::new(alloc);
+    made.extend_from_slice(columns)?;
+    Ok(Items::from_vec(made))
 }
 
 fn sets_of(alloc: Global, from: &[Set<'_>]) -> Result<Sets, NoMemory>
@@ -90,11 +111,47 @@ fn spec_of(alloc: Global, spec: &Spec<'_>) -> Result<ViewSpec, NoMemory>
 }
 
 impl<'a> Asked<'a> {
-    /// Returns the request. Copies the bytes.
-    pub(crate) fn request(&self, alloc: Global) -> Result<Request, NoMemory>
+    /// Returns the request. Tests its limits in an index of `columns` columns, and then copies the bytes.
+    ///
+    ///     let request = Asked::Remove { key: b"apple" }.checked(alloc, 1)?;
+    ///
+    /// O(n) in the bytes, with an allocation for each key and each column that isn't short.
+    ///
+    /// # Errors
+    ///
+    /// The first limit that the call breaks, whatever memory there is; `NoMemory`.
+    pub fn checked(&self, alloc: Global, columns: u8) -> Result<Request, Refusal>
+        ensures request { IfOk result (λ request. request ≡ request_of self.now) }
+        ensures fault { MatchOption (request_fault columns (request_of self.now))
+            (IfErr result (λ refusal. refusal ≡ Refusal.NoMemory)) (λ refusal. result ≡ Err refusal) }
+    {
+        if let Some(refusal) = self.fault(columns) {
+            return Err(refusal);
+        }
+        match self.request(alloc) {
+            Ok(request) => Ok(request),
+            Err(_) => Err(Refusal::NoMemory),
+        }
+    }
+
+    // Returns the request. Copies the bytes.
+    fn request(&self, alloc: Global) -> Result<Request, NoMemory>
         ensures { IfOk result (λ request. request ≡ request_of self.now) }
     {
         match self {
+            Asked::Get { key, columns } => Ok(Request::Get {
+                key: Bytes::copy_from_slice(alloc, key)?,
+                columns: numbers_of(alloc, columns)?,
+            }),
+            Asked::Range {
+                start,
+                limit,
+                columns,
+            } => Ok(Request::Range {
+                start: Bytes::copy_from_slice(alloc, start)?,
+                limit: *limit,
+                columns: numbers_of(alloc, columns)?,
+            }),
             Asked::Put { key, sets } => Ok(Request::Put {
                 key: Bytes::copy_from_slice(alloc, key)?,
                 sets: sets_of(alloc, sets)?,

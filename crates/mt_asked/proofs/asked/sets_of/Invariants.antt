@@ -1,6 +1,6 @@
 use Rattle.std.proofs.Common.{◌≡◌, map, take}
-use Rattle.mt_map.specs.Borrowed.{set_of}
-use Rattle.mt_map.proofs.asked.sets_of.Given as goal
+use Rattle.mt_asked.specs.Borrowed.{set_of}
+use Rattle.mt_asked.proofs.asked.sets_of.Given as goal
 
 -- the sets so far are copied
 abbrev pub invariant-loop-set : goal.invariant-loop-set

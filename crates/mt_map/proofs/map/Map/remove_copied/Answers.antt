@@ -2,7 +2,7 @@ use Rattle.std.proofs.Common.{◌≡◌, rules, false, inr, refl, sym, ap, ◌�
 use Rattle.std.specs.Prelude.{Ok}
 use Rattle.mt_map.specs.Tidies.{MapView}
 use Rattle.mt_map.proofs.MapLemmas.{removes_long, removes_untidied, short_fault}
-use Rattle.mt_map.proofs.map.Map.remove_owned.Goals as goal
+use Rattle.mt_map.proofs.map.Map.remove_copied.Goals as goal
 
 pub returns-then-not-self : goal.returns-then-not-self
 returns-then-not-self c =

@@ -1,7 +1,7 @@
 use Rattle.std.proofs.Common.{◌≡◌, ◌==◌, drop, map}
 use Rattle.std.specs.List.{list_any}
-use Rattle.mt_map.specs.Borrowed.{sets_of}
-use Rattle.mt_map.proofs.limits.names.Given as goal
+use Rattle.mt_asked.specs.Borrowed.{sets_of}
+use Rattle.mt_asked.proofs.limits.names.Given as goal
 
 abbrev pub invariant-loop-set : goal.invariant-loop-set
 invariant-loop-set l =

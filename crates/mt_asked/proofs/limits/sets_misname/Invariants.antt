@@ -1,7 +1,7 @@
 use Rattle.std.proofs.Common.{◌≡◌, drop, map}
 use Rattle.mt_types.specs.Limits.{misnames}
-use Rattle.mt_map.specs.Borrowed.{sets_of}
-use Rattle.mt_map.proofs.limits.sets_misname.Given as goal
+use Rattle.mt_asked.specs.Borrowed.{sets_of}
+use Rattle.mt_asked.proofs.limits.sets_misname.Given as goal
 
 abbrev pub invariant-loop-i : goal.invariant-loop-i
 invariant-loop-i l =
