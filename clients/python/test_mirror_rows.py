@@ -3,6 +3,7 @@ them."""
 from __future__ import annotations
 
 import json
+import re
 import struct
 import sys
 import unittest
@@ -10,13 +11,16 @@ from base64 import b64encode
 from typing import Any, Dict, List, Optional, Tuple
 
 from rowanspan import MAX_KEY_BYTES
+from rowanspan.mirror.copying import copied_values, copy_rows
 from rowanspan.mirror.errors import BadMapping, BadRow, CopyAgain, NeedsDecision, SourceLost
 from rowanspan.mirror.etcd import EtcdSource, Events, value_reader
+from rowanspan.mirror.frames import spelled_change
 from rowanspan.mirror.grouping import MOST, Grouping
 from rowanspan.mirror.kinds import read_kind
 from rowanspan.mirror.pgoutput import UNCHANGED, Begin, Change, Commit, Relation, Truncate, read_message
 from rowanspan.mirror.rows import RowMapping
 from rowanspan.mirror.source import Group
+from rowanspan.mirror.spelling import spelled_rows
 from rowanspan.mirror.table import DESCRIBE, Table, find_table
 from rowanspan.mirror.template import KeyTemplate
 
@@ -262,6 +266,62 @@ class TableTest(unittest.TestCase):
                 ("REPLICA IDENTITY FULL", "o/{state}/{id}", "a", {"identity": "d"})):
             with self.subTest(why=why, template=template), self.assertRaisesRegex(BadMapping, why):
                 self.found(template, column, **changed)
+
+
+# ---- the copy
+
+class Copying:
+    """A cursor of PostgreSQL for one table: of which rows it spells the puts itself (None: NULL)."""
+
+    def __init__(self, encoding: str, spelled: List[Optional[bytes]], lines: List[bytes]) -> None:
+        self._encoding, self._lines = encoding, lines
+        rows = [b"\0\1" + (b"\xff" * 4 if put is None else len(put).to_bytes(4, "big") + put) for put in spelled]
+        rows[:1] = [b"PGCOPY\n\xff\r\n\0" + bytes(8) + row for row in rows[:1] or [b""]]
+        self._rows = [*rows, b"\xff\xff"] if spelled else [rows[0] + b"\xff\xff"]
+        self.asked: List[str] = []
+
+    def execute(self, query: str) -> None:
+        self.asked.append(query)
+
+    def fetchone(self) -> Tuple[str]:
+        return self._encoding,
+
+    def copy_expert(self, query: str, file: Any) -> None:
+        self.asked.append(query)
+        for row in self._rows if query.endswith("(FORMAT binary)") else self._lines:
+            file.write(row)
+
+
+class CopyTest(unittest.TestCase):
+    def copied(self, encoding: str, spelled: List[Optional[bytes]], lines: List[bytes]) -> Tuple[List[bytes], int]:
+        mapping, table = RowMapping.read("o/{id}", ["a"]), Table(7, "public.o", False, {"id": INT, "a": INT})
+        cursor, taken = Copying(encoding, spelled, lines), []  # type: Tuple[Copying, List[bytes]]
+        copy_rows(cursor, table, mapping, taken.extend)
+        return taken, len(cursor.asked)
+
+    def test_copies(self) -> None:
+        """The rows that have no put in SQL come from Python, and all of them in another encoding."""
+        puts: List[bytes] = [spelled_change(b"o/%d" % number, {0: b"\5"}) for number in range(200)]
+        line, put = b"200\t5\n", spelled_change(b"o/200", {0: b"\5"})
+        self.assertEqual(self.copied("UTF8", [], []), ([], 2))
+        self.assertEqual(self.copied("UTF8", [*puts], []), (puts, 2))
+        self.assertEqual(self.copied("UTF8", [None, *puts], [line]), ([*puts, put], 3))
+        self.assertEqual(self.copied("UTF8", [None], [line]), ([put], 3))
+        self.assertEqual(self.copied("LATIN1", [*puts], [line] * 100), ([put] * 100, 2))
+        with self.assertRaisesRegex(BadRow, "-1 isn't from 0"):
+            self.copied("UTF8", [*puts, None], [b"200\t-1\n"])
+
+    def test_values(self) -> None:
+        self.assertEqual(copied_values(b"1\t\\N\ta\\tb\\\\N\\n\n"), ["1", None, "a\tb\\N\n"])
+        self.assertEqual(copied_values(b"\n"), [""])
+
+    def test_names_in_sql(self) -> None:
+        """Whatever a name or a text of the mapping has, it stays inside its quotes."""
+        mapping = RowMapping.read("o'\\/{a\"b}/'{id:04}", ["n%:cut", "a\"b:sdec2"])
+        rows = spelled_rows("public.o", mapping, {"a\"b": (1700, -1), "id": INT, "n%": TEXT})
+        bare = re.sub(r"E'(?:[^'\\]|''|\\\\)*'|'[^']*'|\"(?:[^\"]|\"\")*\"", "", rows.puts + rows.others + rows.values)
+        self.assertRegex(bare, "^[a-zA-Z0-9_.,()|<>=&#*:~ -]+$")
+        self.assertIn("E'o''\\\\/'", rows.puts)
 
 
 # ---- etcd
