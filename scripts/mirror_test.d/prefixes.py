@@ -10,6 +10,7 @@ from engines import Etcd
 from running import SECONDS, Mirror, Server, rows_of, want, want_same
 
 from rowanspan import mirror
+from rowanspan.mirror.etcd import ROWS
 
 
 def spelled(raw: bytes) -> str:
@@ -56,6 +57,21 @@ def values_of_all_kinds(it: Prefixes) -> None:
             {"requestDeleteRange": {"key": spelled(b"cut/a")}}]})
         cut.reach(it.index, int(said["header"]["revision"]))
         want_same("rows", it.rows("cut"), [(b"cut/b", (b"2",))])
+
+
+def more_keys_than_a_range(it: Prefixes) -> None:
+    """A copy of several ranges, of which a later one has a value that doesn't fit at first."""
+    keys, bad = [b"many/%05d" % number for number in range(2 * ROWS + 100)], b"many/%05d" % (ROWS + 7)
+    for begin in range(0, len(keys), 100):
+        it.etcd.ask("kv/txn", {"success": [{"requestPut": {"key": spelled(key), "value": spelled(b"7")}}
+                                           for key in keys[begin:begin + 100]]})
+    it.put(bad, b"-1")
+    with it.mirror("many", "--value", "uint") as copied:
+        it.want_end(copied, 1, "isn't from 0")
+        at = it.put(bad, b"7")
+        copied.start()
+        copied.reach(it.index, at)
+        want_same("rows", it.rows("many"), [(key, (b"\7",)) for key in keys])
 
 
 def values_that_do_not_fit(it: Prefixes) -> None:
@@ -141,6 +157,7 @@ def a_source_that_ends(it: Prefixes) -> None:
 
 # (the last ends etcd)
 CASES: Dict[str, Callable[[Prefixes], None]] = {
-    "values of all kinds": values_of_all_kinds, "values that do not fit": values_that_do_not_fit,
+    "values of all kinds": values_of_all_kinds, "more keys than a range": more_keys_than_a_range,
+    "values that do not fit": values_that_do_not_fit,
     "refused before the copy": refused, "compaction": compaction, "two mirrors of one name": two_of_one_name,
     "a server that ends": a_server_that_ends, "a source that ends": a_source_that_ends}

@@ -185,8 +185,15 @@ class EtcdSource(Source):
         return {"key": in_base64(self._prefix), "range_end": in_base64(end)}
 
     def _ask(self, query: Dict[str, Any]) -> Dict[str, Any]:
+        self._send(query)
+        return self._receive()
+
+    def _send(self, query: Dict[str, Any]) -> None:
         with source_faults():
             self._calls.request("POST", "/v3/kv/range", json.dumps(query))
+
+    def _receive(self) -> Dict[str, Any]:
+        with source_faults():
             said: Dict[str, Any] = json.loads(self._calls.getresponse().read())
         if "error" not in said:
             return said
@@ -210,13 +217,26 @@ class EtcdSource(Source):
 
     def _copy_rows(self, revision: int, take: TakePuts) -> None:
         query: Dict[str, Any] = {**self._range, "revision": revision, "limit": ROWS}
-        while True:
-            said = self._ask(query)
-            pairs = [(b64decode(pair["key"]), b64decode(pair.get("value", ""))) for pair in said.get("kvs", ())]
-            take([spelled_change(checked_key_bytes(key), self._read_value(value)) for key, value in pairs])
-            if not said.get("more"):
-                return
-            query["key"] = in_base64(pairs[-1][0] + b"\0")
+        is_last = False
+        self._send(query)
+        try:
+            while not is_last:
+                said = self._receive()
+                pairs, is_last = said.get("kvs", ()), not said.get("more")
+                if not is_last:
+                    # (the source reads the next rows while these are written)
+                    query["key"] = in_base64(b64decode(pairs[-1]["key"]) + b"\0")
+                    self._send(query)
+                take([self._put(pair) for pair in pairs])
+        except BaseException:
+            # (an answer may be on its way)
+            self._calls.close()
+            raise
+
+    def _put(self, pair: Dict[str, Any]) -> bytes:
+        """The put of a key and its value."""
+        key, value = b64decode(pair["key"]), b64decode(pair.get("value", ""))
+        return spelled_change(checked_key_bytes(key), self._read_value(value))
 
     def follow(self, start: int) -> Iterator[Group]:
         reached = int(self._ask({**self._range, "count_only": True})["header"]["revision"])
