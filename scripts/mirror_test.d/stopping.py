@@ -161,7 +161,7 @@ class Waiting:
             self._faults.append(str(fault))
 
     def begin(self) -> None:
-        if not self._thread.is_alive():
+        if self._thread.ident is None:
             self._thread.start()
             wait_for(lambda: waits(self._tables))
 
