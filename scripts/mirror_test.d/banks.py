@@ -114,7 +114,7 @@ class PostgresBank:
     def now(self) -> int:
         """A position that has all that was written so far."""
         with self.sql.cursor() as cursor:
-            cursor.execute("SELECT pg_current_wal_lsn() - '0/0'")
+            cursor.execute("SELECT pg_current_wal_flush_lsn() - '0/0'")
             return int(cursor.fetchone()[0])
 
     def write_own(self, number: int) -> int:

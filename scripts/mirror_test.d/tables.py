@@ -39,7 +39,7 @@ class Tables:
             self.sql.execute(command)
 
     def now(self) -> int:
-        self.sql.execute("SELECT pg_current_wal_lsn() - '0/0'")
+        self.sql.execute("SELECT pg_current_wal_flush_lsn() - '0/0'")
         return int(self.sql.fetchone()[0])
 
     def words(self, table: str, key: str, *columns: str) -> List[str]:
