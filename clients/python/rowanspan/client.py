@@ -185,22 +185,6 @@ class Client(Asker):
                 raise ConnectionLost(f"the connection broke: {fault}") from fault
             raise
 
-    def exchange_frames(self, frames: Sequence[bytes]) -> List[bytes]:
-        """Sends whole frames, and then reads the bodies of the replies to them. The replies have to be short, such as
-        those to puts: while they aren't read, the server waits for room for them."""
-        connection = self._connection
-        if connection is None:
-            raise ConnectionLost("the connection was lost before") if self._is_lost else Closed("the index is closed")
-        try:
-            connection.sendall(b"".join(frames))
-            return [receive_body(connection) for _ in frames]
-        except OSError as fault:
-            self._lose()
-            raise ConnectionLost(f"the connection broke: {fault}") from fault
-        except BaseException:
-            self._lose()
-            raise
-
     @property
     def is_lost(self) -> bool:
         """Whether the connection has broken."""
