@@ -10,3 +10,4 @@ pub mod ChangeLemmas
 pub mod PassLemmas
 pub mod ReadLemmas
 pub mod PageLemmas
+pub mod AskedLemmas

@@ -87,6 +87,12 @@ impl<'a, W: Wait> Shared for Door<'a, W> {
     /// Does nothing: between two calls of its methods the lock isn't held.
     fn hold(&mut self, _hold: Hold) {}
 
+    ghost columns = { λ door. door.index.now };
+
+    fn columns(&self) -> u8 {
+        self.index.columns()
+    }
+
     // somewhere in the order in which the lock is held it was an event on what lay there
     ghost does = { λ _ p event outcome _ q. DoesSomewhere p event outcome q };
 

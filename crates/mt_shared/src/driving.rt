@@ -58,6 +58,13 @@ pub trait Shared {
     fn hold(&mut self, hold: Hold)
         ensures stays { self.new ≡ self.old };
 
+    /// How many columns a row has.
+    ghost columns: { Self → ℕ };
+
+    /// Returns how many columns a row has.
+    fn columns(&self) -> u8
+        ensures { result ≡ columns self.now };
+
     /// What an event of a pass does, to what is shared and to the pass.
     ghost does: { Self → PassView → Event → Outcome → Self → PassView → Type 0 };
 

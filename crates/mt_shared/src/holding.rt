@@ -86,6 +86,12 @@ impl<'a, W: Wait> Shared for HoldingDoor<'a, W> {
         };
     }
 
+    ghost columns = { λ door. door.index.now };
+
+    fn columns(&self) -> u8 {
+        self.door.columns()
+    }
+
     // somewhere in the order in which the lock is held it was an event on what lay there
     ghost does = { λ _ p event outcome _ q. DoesSomewhere p event outcome q };
 

@@ -2,6 +2,7 @@
 //! that are driven to their end run by run.
 #![tactic(auto)]
 
+pub mod answers;
 pub mod asking;
 pub mod changing;
 pub mod client;

@@ -6,7 +6,6 @@ ghost use Rattle.mt_types.specs.Limits.{open_fault};
 ghost use Rattle.mt_shared.specs.Passes.{IsNewPass};
 ghost use Rattle.mt_shared.specs.Traces.{IsNewTrace};
 ghost use Rattle.mt_shared.specs.Inner.{Does, IsInner, IsFresh, IsRefusedBy};
-ghost use Rattle.mt_shared.specs.Feeds.{Feeds, Copies};
 ghost use Rattle.mt_shared.specs.Changes.{ChangeIsLimited, IsChanged};
 ghost use Rattle.mt_shared.specs.Drives.{HasGone, IsStarted, StartIsLimited};
 ghost use Rattle.mt_shared.specs.Reads.{IsReadAnswer, ReadsNow};
@@ -24,9 +23,7 @@ use mt_types::event::{Answer, Event, Outcome, Request};
 use mt_types::key::Key;
 use mt_types::numbers::{CallNo, PassNo, ViewNo};
 use mt_types::refusal::Refusal;
-use mt_types::row::Delta;
 use mt_types::view::Page;
-use mt_view::state::ViewState;
 use std::alloc::Global;
 use std::marker::Model;
 
@@ -70,35 +67,17 @@ impl Lone {
         let kept = Inner::open(alloc, options, 1, false)?;
         Ok((Lone { kept }, Pass::new(alloc, 1, false)))
     }
-
-    /// Returns the deltas of the commits after the first `from`, at most `limit`, as `Machine::feed` does. Makes no
-    /// event.
-    ///
-    /// # Errors
-    ///
-    /// Those of `Machine::feed`.
-    pub fn feed(&self, alloc: Global, from: u64, limit: u16) -> Result<Vec<Delta>, Refusal>
-        ensures { Feeds self.now.machine from limit result }
-    {
-        self.kept.feed(alloc, from, limit)
-    }
-
-    /// Returns the number of commits at which a view is, and a copy of its state, as `Machine::view_copy` does. Makes
-    /// no event.
-    ///
-    /// # Errors
-    ///
-    /// Those of `Machine::view_copy`.
-    pub fn view_copy(&self, alloc: Global, view: ViewNo) -> Result<(u64, ViewState), Refusal>
-        ensures { Copies self.now.machine view.0 result }
-    {
-        self.kept.view_copy(alloc, view)
-    }
 }
 
 impl Shared for Lone {
     /// Does nothing: nobody else uses the machine.
     fn hold(&mut self, _hold: Hold) {}
+
+    ghost columns = { λ lone. lone.machine.columns };
+
+    fn columns(&self) -> u8 {
+        self.kept.columns()
+    }
 
     ghost does = { Does };
 

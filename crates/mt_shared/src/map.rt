@@ -20,7 +20,7 @@ use std::sync::RwLock;
 /// An ordered map that many threads share: each has a pass, and a [`crate::client::Client`] over a
 /// [`crate::door::Door`]. Contracts see it as the number of its columns.
 pub struct SharedMap {
-    columns: u64,
+    columns: u8,
     // (a thread takes the turn before it asks for the lock alone)
     pub(crate) turn: Turn,
     pub(crate) kept: RwLock<Inner>,
@@ -98,11 +98,18 @@ impl SharedMap {
         let kept = Inner::open(alloc, options, passes as u16, traced)?;
         let passes = new_passes(alloc, passes as u16, traced)?;
         let index = SharedMap {
-            columns: options.columns,
+            columns: kept.columns(),
             turn: Turn::new(),
             kept: RwLock::new(kept),
         };
         Ok((index, passes))
+    }
+
+    /// Returns how many columns a row has.
+    pub fn columns(&self) -> u8
+        ensures { result ≡ self.now }
+    {
+        self.columns
     }
 
     /// Closes the index, and returns how many events were made on it, and how many of them were commits. O(n) in the
@@ -148,7 +155,7 @@ impl SharedMap {
             kept,
         } = self;
         let kept = kept.into_inner();
-        if u64::from(kept.columns()) != columns {
+        if kept.columns() != columns {
             return Err(Refusal::WrongPass);
         }
         Ok(kept)

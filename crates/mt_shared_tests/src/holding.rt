@@ -1,6 +1,5 @@
 //! A door that keeps the lock between calls: every call still ends, and no commit comes in between.
 
-use crate::clients::{key, number, sets, view_of};
 use bytes::Bytes;
 use mt_index::options::Options;
 use mt_shared::asking::ask;
@@ -10,10 +9,12 @@ use mt_shared::holding::HoldingDoor;
 use mt_shared::map::SharedMap;
 use mt_shared::pass::Pass;
 use mt_shared::views::{keep_views, view_read};
-use mt_types::event::Request;
+use mt_types::event::{Answer, Reply, Request};
 use mt_types::items::Items;
 use mt_types::numbers::ViewNo;
 use mt_types::refusal::Refusal;
+use mt_types::row::Sets;
+use mt_types::view::{RowTest, ViewSpec};
 use std::alloc::Global;
 use std::sync::Wait;
 use std::test::Fail;
@@ -24,6 +25,33 @@ use std::thread::Threads;
 const LISTS: u64 = 100;
 
 const PUTS: u64 = 8;
+
+fn key() -> Bytes {
+    Bytes::from_static(b"apple")
+}
+
+fn sets(alloc: Global) -> Result<Sets, Refusal> {
+    let set = (0, Bytes::from_static(b"red"));
+    Ok(Items::from_vec(Vec::from_array(alloc, [set])?))
+}
+
+// The number that an answer has: of a commit, of a view, or how many rows there are.
+fn number(reply: Result<Reply, Refusal>) -> Result<u64, Refusal> {
+    Ok(match reply?.answer {
+        Answer::Stored(number) | Answer::Removed(number) => number,
+        Answer::Built(view) => view.0,
+        Answer::Rows(pairs) => pairs.as_slice().len() as u64,
+        Answer::Found(row) => row.version,
+        Answer::Absent | Answer::Tidied(_) => 0,
+    })
+}
+
+// A view of all rows that begin with a.
+fn view_of() -> ViewSpec {
+    let key = Bytes::from_static(b"a");
+    let test = RowTest::Any;
+    ViewSpec::Prefix { key, test }
+}
 
 // Puts the row, and returns the number of the commit.
 fn put<S: Shared>(alloc: Global, door: &mut S, pass: &mut Pass) -> Result<u64, Refusal> {

@@ -1,6 +1,7 @@
 //! Moments: rows that are borrowed while the lock is held for reading, all of one number of commits.
 
 use bytes::Bytes;
+use mt_asked::borrowed::Set;
 use mt_index::options::Options;
 use mt_map::walk::Rows;
 use mt_shared::client::Client;
@@ -55,8 +56,8 @@ fn a_moment_of_rows(rt: HostRuntime) -> Result<(), Fail> {
     let (index, mut passes) = SharedMap::start(alloc, Options::default(), 1)?;
     let pass = passes.pop().ok_or("pass")?;
     let mut client = Client::new(alloc, Door::new(&index, &rt, 64), pass);
-    let _ = client.put(Bytes::from_static(b"apple"), sets(alloc, b"red")?)?;
-    let _ = client.put(Bytes::from_static(b"pear"), sets(alloc, b"green")?)?;
+    let _ = client.put(b"apple", &[Set::new(0, b"red")])?;
+    let _ = client.put(b"pear", &[Set::new(0, b"green")])?;
     let moment = client.shared.moment();
     assert_eq!(rt; rows(alloc, &moment, b""), Ok(Some((2, 2))));
     assert_eq!(rt; rows(alloc, &moment, b"b"), Ok(Some((1, 2))));
@@ -67,7 +68,7 @@ fn a_moment_of_rows(rt: HostRuntime) -> Result<(), Fail> {
     );
     assert_eq!(rt; row(&moment, &Key::new(Bytes::from_static(b"plum"))?), None);
     drop(moment);
-    let _ = client.put(Bytes::from_static(b"apple"), sets(alloc, b"yellow")?)?;
+    let _ = client.put(b"apple", &[Set::new(0, b"yellow")])?;
     let moment = client.shared.moment();
     assert_eq!(rt;
         row(&moment, &Key::new(Bytes::from_static(b"apple"))?),

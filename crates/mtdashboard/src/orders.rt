@@ -1,12 +1,12 @@
 //! The orders: an index of them, those of a day as a view, and the thread that writes them.
 
 use bytes::Bytes;
+use mt_asked::borrowed::Set;
 use mt_index::options::Options;
 use mt_shared::client::Client;
 use mt_shared::door::Door;
 use mt_shared::map::SharedMap;
 use mt_shared::pass::Pass;
-use mt_types::items::Items;
 use mt_types::refusal::Refusal;
 use mt_types::view::{Page, RowTest, ViewSpec};
 use mt_view::state::ViewState;
@@ -52,10 +52,8 @@ pub(crate) fn write<R: Wait>(
     let mut client = Client::new(alloc, Door::new(index, rt, MOST_EVENTS), pass);
     for n in 0..ORDERS {
         let day = 24 + n % 2;
-        let key = Bytes::from_string(format!(in alloc; "order/2026-11-{day}/{n:04}")?)?;
-        let amount = Bytes::copy_from_slice(alloc, &n.to_be_bytes())?;
-        let sets = Items::from_vec(Vec::from_array(alloc, [(0, amount)])?);
-        let _ = client.put(key, sets)?;
+        let key = format!(in alloc; "order/2026-11-{day}/{n:04}")?;
+        let _ = client.put(key.as_bytes(), &[Set::new(0, &n.to_be_bytes())])?;
     }
     Ok(())
 }

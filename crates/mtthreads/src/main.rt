@@ -4,15 +4,15 @@
 #![tactic(auto)]
 
 use anyhow::{Context, Result};
-use bytes::Bytes;
+use mt_asked::borrowed::Set;
 use mt_index::options::Options;
 use mt_shared::client::Client;
 use mt_shared::door::Door;
 use mt_shared::map::SharedMap;
 use mt_shared::pass::Pass;
-use mt_types::items::Items;
 use mt_types::refusal::Refusal;
 use std::alloc::Global;
+use std::ops::Bound;
 use std::sync::Wait;
 use std::thread;
 use std::thread::Threads;
@@ -27,17 +27,15 @@ const MOST_EVENTS: u32 = 128;
 type Guest<'a, R> = Client<Door<'a, R>>;
 
 // The nth key of a pass, as `2/7`.
-fn nth_key(alloc: Global, pass: &Pass, n: u64) -> Result<Bytes, Refusal> {
-    let text = format!(in alloc; "{}/{n}", pass.number().0)?;
-    Ok(Bytes::from_string(text)?)
+fn nth_key(alloc: Global, pass: &Pass, n: u64) -> Result<String, Refusal> {
+    Ok(format!(in alloc; "{}/{n}", pass.number().0)?)
 }
 
 // Puts the keys of a client, each with its own bytes in column 0 of its row.
 fn put_all<R: Wait>(alloc: Global, client: &mut Guest<'_, R>) -> Result<(), Refusal> {
     for n in 0..KEYS {
-        let sets = Vec::from_array(alloc, [(0, nth_key(alloc, &client.pass, n)?)])?;
         let key = nth_key(alloc, &client.pass, n)?;
-        let _ = client.put(key, Items::from_vec(sets))?;
+        let _ = client.put(key.as_bytes(), &[Set::new(0, key.as_bytes())])?;
     }
     Ok(())
 }
@@ -47,8 +45,7 @@ fn get_all<R: Wait>(alloc: Global, client: &mut Guest<'_, R>) -> Result<Vec<u64>
     let mut versions = Vec::new(alloc);
     for n in 0..KEYS {
         let key = nth_key(alloc, &client.pass, n)?;
-        // if no column is named, all are asked for
-        if let Some(row) = client.get(key, Items::new(alloc))?.value {
+        if let Some(row) = client.get(key.as_bytes())?.value {
             versions.push(row.version)?;
         }
     }
@@ -85,9 +82,8 @@ fn run<R: Threads + Wait + Sync + Print + AllocGlobal>(rt: &R) -> Result<()> {
     }
     let one = passes.pop().context("there is no pass")?;
     let mut client = Client::new(alloc, Door::new(&index, rt, MOST_EVENTS), one);
-    // 100 rows at most, from the first key on
-    let rows = client.range(Bytes::new(), 100, Items::new(alloc))?.value;
-    println!(rt; "range: {} rows", rows.as_slice().len())?;
+    let rows = client.range((Bound::Unbounded, Bound::Unbounded))?.value;
+    println!(rt; "range: {} rows", rows.len())?;
     passes.push(client.pass)?;
     let totals = index.close(passes)?;
     println!(rt; "close: {} commits", totals.commits)?;
