@@ -6,3 +6,4 @@ pub mod Crosses
 pub mod RowRead
 pub mod Ranged
 pub mod CallLemmas
+pub mod TotalsRead

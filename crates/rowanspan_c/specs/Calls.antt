@@ -1,5 +1,5 @@
 -- What each call does with what a handle holds, and what it reports.
-use Rattle.std.specs.Prelude.{ℕ, ◌≡◌, ◌⊎◌, List, Result, Ok, Err, Option, Some, None, IfOk, IfErr}
+use Rattle.std.specs.Prelude.{ℕ, ◌≡◌, ◌⊎◌, List, Result, Option, Some, None, IfOk, IfErr}
 use Rattle.mt_types.specs.Limits.{open_fault}
 use Rattle.mt_types.specs.RefusalNumbers.{refusal_number}
 use Rattle.mt_types.specs.declared.event.Answer.{Answer}

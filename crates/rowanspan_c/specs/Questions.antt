@@ -1,5 +1,5 @@
 -- What a reader asks, and which answers are right.
-use Rattle.std.specs.Prelude.{ℕ, ◌≡◌, nat_lt, List, take, drop, Result, Ok, Err, Option, Some, None, MatchOption}
+use Rattle.std.specs.Prelude.{ℕ, ◌≡◌, nat_lt, List, [], take, drop, Result, Ok, Err, Option, Some, None, MatchOption}
 use Rattle.std.specs.Option.{option_map, option_or}
 use Rattle.std.specs.FinMap.{get}
 use Rattle.mt_types.specs.Rows.{shown}
@@ -20,7 +20,7 @@ use Rattle.mt_index.specs.Stands.{MachineView, Stands, ReadsView}
 use Rattle.mt_index.specs.Feed.{feed_fault}
 use Rattle.rowanspan_c.specs.declared.reading.Question.{Question}
 use Rattle.rowanspan_c.specs.declared.reading.Question.TheVariants.{Rows, Page, Deltas}
-use Rattle.rowanspan_c.specs.Spelling.{row_spelling, pairs_spelling, page_spelling, deltas_spelling}
+use Rattle.rowanspan_c.specs.Spelling.{row_spelling, pairs_spelling, totals_spelling, page_spelling, deltas_spelling}
 
 -- THE CAUSE OF A REFUSAL: the fault if there is one, and out of memory only if there is none
 abbrev pub IsCausedBy : Option Refusal → Refusal → Type 0
@@ -70,6 +70,12 @@ abbrev pub ReadsPage : MachineView → ℕ → ℕ → List ℕ → ℕ → Resu
 ReadsPage s view floor start limit (Ok bytes) =
     (page : PageValue) × ReadsView s view floor start limit (View page) × (bytes ≡ Some (page_spelling page))
 ReadsPage s view floor start limit (Err refusal) = IsCausedBy (page_refusal s view floor start limit) refusal
+
+-- the totals of a view are those of each of its pages. They are refused only for the view, never as out of memory
+abbrev pub ReadsTotals : MachineView → ℕ → ℕ → Result (Option (List ℕ)) Refusal → Type 0
+ReadsTotals s view floor (Ok bytes) =
+    (page : PageValue) × ReadsView s view floor [] 1 (View page) × (bytes ≡ Some (totals_spelling page))
+ReadsTotals s view floor (Err refusal) = state_refusal (state_at view s.views.views) floor ≡ Some refusal
 
 abbrev pub ReadsDeltas : MachineView → ℕ → ℕ → Result (Option (List ℕ)) Refusal → Type 0
 ReadsDeltas s from limit (Ok bytes) =

@@ -31,11 +31,14 @@ pairs_spelling pairs = list_spelling pair_spelling pairs
 abbrev pub sum_spelling : ℕ → List ℕ
 sum_spelling sum = number_spelling (sum / 2 ^ 64) ++ number_spelling (sum % 2 ^ 64)
 
--- a page: at which number of commits the view stands, how many rows it has, the sums of its columns, and the rows
-abbrev pub page_spelling : Page → List ℕ
-page_spelling page =
+-- the totals of a page: at which number of commits the view is, how many rows it has, and the sums of its columns
+abbrev pub totals_spelling : Page → List ℕ
+totals_spelling page =
     number_spelling page.at ++ number_spelling page.count ++ list_spelling sum_spelling page.sums
-    ++ pairs_spelling page.rows
+
+-- a page: its totals, and the rows
+abbrev pub page_spelling : Page → List ℕ
+page_spelling page = totals_spelling page ++ pairs_spelling page.rows
 
 -- a row that may be absent: how many there are, then the row
 abbrev pub maybe_spelling : Option Row → List ℕ

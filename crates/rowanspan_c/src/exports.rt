@@ -1,29 +1,25 @@
-//! The functions that C calls. Each returns a status: 0, the number of a refusal, or one of `status` from 100 on.
+//! The functions that C calls, but for those of views. Each returns a status: 0, the number of a refusal, or one of `status`
+//! from 100 on.
 //!
 //! The header, `include/rowanspan.h`, says what each does, what it costs and when it is refused.
 
-ghost use Rattle.std.specs.Prelude.{◌≡◌, ◌<◌, ◌≤◌, Some as SomeOf, None as NoneOf, true};
-ghost use Rattle.mt_types.specs.declared.event.Request.TheVariants.{Put, PutIf, Remove, Tidy, Build};
-ghost use Rattle.mt_types.specs.declared.event.Event.TheVariants.{Apply, ViewDrop, Advance, Collect};
-ghost use Rattle.mt_types.specs.declared.view.ViewSpec.TheVariants.{Range as RangeOf, Prefix as PrefixOf};
+ghost use Rattle.std.specs.Prelude.{◌≡◌, None as NoneOf, true};
+ghost use Rattle.mt_types.specs.declared.event.Request.TheVariants.{Put, PutIf, Remove, Tidy};
+ghost use Rattle.mt_types.specs.declared.event.Event.TheVariants.{Advance, Collect};
 ghost use Rattle.mt_commit.specs.Log.{newest};
 ghost use Rattle.mt_arena.specs.Node.{occupied};
 ghost use Rattle.mt_asked.specs.Borrowed.{sets_of};
-ghost use Rattle.rowanspan_c.specs.Questions.{ReadsRow, ReadsRows, ReadsPage, ReadsDeltas};
-ghost use Rattle.rowanspan_c.specs.Told.{Tells};
-ghost use Rattle.rowanspan_c.specs.Tests.{greatest_kind, row_test_of};
-ghost use Rattle.rowanspan_c.specs.Calls.{Opens, Changes, Reads, Meets, KeepsViews, Counts, close_status};
+ghost use Rattle.rowanspan_c.specs.Questions.{ReadsRow, ReadsRows, ReadsDeltas};
+ghost use Rattle.rowanspan_c.specs.Calls.{Opens, Changes, Reads, Meets, Counts, close_status};
 
-use crate::changing::{answer, change, keep_views, meet};
+use crate::changing::{answer, change, meet};
 use crate::handle::{Handle, opened};
 use crate::reading::{Question, get};
-use crate::status::{CLOSED, DONE, HELD, NO_SUCH_TEST};
-use crate::testing::{GREATEST_KIND, ViewTest, test_of};
+use crate::status::{CLOSED, DONE, HELD};
 use mt_index::options::Options;
 use mt_asked::asked::Asked;
-use mt_asked::borrowed::{Set, Spec};
+use mt_asked::borrowed::Set;
 use mt_types::event::Event;
-use mt_types::numbers::ViewNo;
 use std::alloc::Global;
 
 // ---- the handle
@@ -175,147 +171,6 @@ pub extern "C" fn rowanspan_raw_range(
         into,
         told,
     )
-}
-
-// ---- views
-
-/// Builds a view of the keys that begin with a prefix.
-#[unsafe(no_mangle)]
-pub extern "C" fn rowanspan_raw_build_prefix<'a>(
-    handle: &mut Handle,
-    alloc: Global,
-    prefix: &[u8],
-    test: &ViewTest<'a>,
-    told: &mut u64,
-) -> u16
-    ensures built { test.now.kind ≤ greatest_kind
-        → Changes handle.old.held (Build (PrefixOf prefix.now (row_test_of test.now))) handle.new.held result told.new }
-    ensures no_test { greatest_kind < test.now.kind
-        → (handle.new.held ≡ handle.old.held) × Tells NO_SUCH_TEST 0 result told.new }
-{
-    if test.kind > GREATEST_KIND {
-        *told = 0;
-        return NO_SUCH_TEST;
-    }
-    let test = test_of(test);
-    let spec = Spec::Prefix { key: prefix, test };
-    change(handle, alloc, &Asked::Build { spec: &spec }, told)
-}
-
-/// Builds a view of the keys at or after `lo`.
-#[unsafe(no_mangle)]
-pub extern "C" fn rowanspan_raw_build_from<'a>(
-    handle: &mut Handle,
-    alloc: Global,
-    lo: &[u8],
-    test: &ViewTest<'a>,
-    told: &mut u64,
-) -> u16
-    ensures built { test.now.kind ≤ greatest_kind
-        → Changes handle.old.held (Build (RangeOf lo.now NoneOf (row_test_of test.now))) handle.new.held result told.new }
-    ensures no_test { greatest_kind < test.now.kind
-        → (handle.new.held ≡ handle.old.held) × Tells NO_SUCH_TEST 0 result told.new }
-{
-    if test.kind > GREATEST_KIND {
-        *told = 0;
-        return NO_SUCH_TEST;
-    }
-    let test = test_of(test);
-    let spec = Spec::From { lo, test };
-    change(handle, alloc, &Asked::Build { spec: &spec }, told)
-}
-
-/// Builds a view of the keys at or after `lo` and before `hi`.
-#[unsafe(no_mangle)]
-pub extern "C" fn rowanspan_raw_build_between<'a>(
-    handle: &mut Handle,
-    alloc: Global,
-    lo: &[u8],
-    hi: &[u8],
-    test: &ViewTest<'a>,
-    told: &mut u64,
-) -> u16
-    ensures built { test.now.kind ≤ greatest_kind
-        → Changes handle.old.held (Build (RangeOf lo.now (SomeOf hi.now) (row_test_of test.now))) handle.new.held result
-        told.new }
-    ensures no_test { greatest_kind < test.now.kind
-        → (handle.new.held ≡ handle.old.held) × Tells NO_SUCH_TEST 0 result told.new }
-{
-    if test.kind > GREATEST_KIND {
-        *told = 0;
-        return NO_SUCH_TEST;
-    }
-    let test = test_of(test);
-    let spec = Spec::Between { lo, hi, test };
-    change(handle, alloc, &Asked::Build { spec: &spec }, told)
-}
-
-/// Advances a view by one commit. If `view` is 0, advances the view at the fewest commits.
-#[unsafe(no_mangle)]
-pub extern "C" fn rowanspan_apply(
-    handle: &mut Handle,
-    alloc: Global,
-    view: u64,
-    told: &mut u64,
-) -> u16
-    ensures { Meets handle.old.held (Apply (record { 0 = view })) handle.new.held result told.new }
-{
-    meet(handle, alloc, &Event::Apply(ViewNo(view)), told)
-}
-
-/// Advances all views to the newest commit.
-#[unsafe(no_mangle)]
-pub extern "C" fn rowanspan_raw_keep_views(
-    handle: &mut Handle,
-    alloc: Global,
-    told: &mut u64,
-) -> u16
-    ensures { KeepsViews handle.old.held handle.new.held result told.new }
-{
-    keep_views(handle, alloc, told)
-}
-
-/// Reads a page of a view.
-#[unsafe(no_mangle)]
-pub extern "C" fn rowanspan_raw_view(
-    handle: &mut Handle,
-    alloc: Global,
-    view: u64,
-    floor: u64,
-    start: &[u8],
-    limit: u16,
-    into: &mut [u8],
-    told: &mut u64,
-) -> u16
-    ensures page { Reads handle.old.held (λ index. ReadsPage index.machine view floor start.now limit) into.old into.new result
-        told.new }
-    ensures kept { handle.new.held ≡ handle.old.held }
-{
-    answer(
-        handle,
-        alloc,
-        &Question::Page {
-            view: ViewNo(view),
-            floor,
-            start,
-            limit,
-        },
-        into,
-        told,
-    )
-}
-
-/// Ends a view.
-#[unsafe(no_mangle)]
-pub extern "C" fn rowanspan_drop(
-    handle: &mut Handle,
-    alloc: Global,
-    view: u64,
-    told: &mut u64,
-) -> u16
-    ensures { Meets handle.old.held (ViewDrop (record { 0 = view })) handle.new.held result told.new }
-{
-    meet(handle, alloc, &Event::ViewDrop(ViewNo(view)), told)
 }
 
 // ---- commits and nodes

@@ -13,3 +13,5 @@ mod reading;
 mod spelling;
 pub mod status;
 mod testing;
+mod totals;
+mod view_exports;

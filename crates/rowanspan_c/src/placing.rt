@@ -67,7 +67,8 @@ fn bytes(into: &mut [u8], at: usize, bytes: &[u8]) -> usize
     after
 }
 
-fn number(into: &mut [u8], at: usize, number: u64) -> usize
+/// Writes a number at a place.
+pub(crate) fn number(into: &mut [u8], at: usize, number: u64) -> usize
     requires { at + NUMBER_BYTES ≤ length into.old }
     ensures { Writes (number_spelling number) at into.old into.new result }
 {
