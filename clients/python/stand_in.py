@@ -317,8 +317,8 @@ def parser() -> argparse.ArgumentParser:
     made.add_argument("--sessions", type=bounded(0, 65_535), default=1)
     made.add_argument("--forever", action="store_true")
     made.add_argument("--columns", type=bounded(1, 16), default=1)
-    made.add_argument("--feed", type=bounded(1, 65_536), default=4096)
-    made.add_argument("--keep", type=bounded(0, 65_536), default=0)
+    made.add_argument("--log-capacity", "--feed", type=bounded(1, 65_536), default=4096)
+    made.add_argument("--log-retention", "--keep", type=bounded(0, 65_536), default=0)
     return made
 
 

@@ -83,7 +83,8 @@ def script_by_chance(seed: int, count: int) -> Script:
     keys = keys_of_one_layer() if seed % 2 == 0 else keys_of_layers(chance)
     writer = Writer(chance, keys)
     lines = marked([writer.line(0.65 if at < count // 2 else 0.35) for at in range(count)])
-    return Script(f"chance_{seed}", ("--columns", "2", "--feed", "65536", "--keep", "100"), tuple(lines))
+    options = ("--columns", "2", "--log-capacity", "65536", "--log-retention", "100")
+    return Script(f"chance_{seed}", options, tuple(lines))
 
 
 @dataclass(frozen=True)

@@ -218,7 +218,8 @@ def audit(serving: ModuleType, members: Sequence[Member], check: str) -> int:
 def one_crowd(serving: ModuleType, shim: Shim, check: str, seed: int) -> Tuple[int, int, int]:
     """One server and its clients: how many receipts there are, queries refused, and sessions lost."""
     environment = shim.environment({"REFUSE_ONE_IN": str(ODDS), "REFUSE_SEED": str(seed), "REFUSE_FROM": str(STARTED)})
-    words = ["--forever", "--workers", str(CLIENTS), "--columns", "2", "--feed", "65536"]
+    words = ["--forever", "--workers", str(CLIENTS), "--columns", "2", "--log-capacity",
+             "65536"]
     with preloaded(environment):
         server = serving.Server(str(shim.program), *words)
     with server:

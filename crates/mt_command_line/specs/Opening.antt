@@ -1,5 +1,5 @@
 -- The options of an index.
-use Rattle.std.specs.Prelude.{ℕ, codes}
+use Rattle.std.specs.Prelude.{ℕ, List, [], ◌∷◌, codes}
 use Rattle.clap.specs.Words.{App, Rule, found_of, one_text, with_rule}
 use Rattle.clap.specs.declared.parser.matches.ArgMatches.{ArgMatches}
 use Rattle.mt_command_line.specs.Numbers.{number_rule, IsNumber}
@@ -8,23 +8,27 @@ use Rattle.mt_command_line.specs.Numbers.{number_rule, IsNumber}
 abbrev pub columns_rule : Rule
 columns_rule = number_rule (codes "columns") 1 16
 
+-- --NAME N, which --ALIAS N names too
+abbrev pub aliased_rule : List ℕ → List ℕ → ℕ → ℕ → Rule
+aliased_rule name alias least most = record (number_rule name least most) { aliases = alias ∷ [] }
+
 -- the options of an index, after those that are there
 abbrev pub with_index_rules : App → App
 with_index_rules app =
     with_rule
     (with_rule
     (with_rule app columns_rule)
-    (number_rule (codes "feed") 1 65536))
-    (number_rule (codes "keep") 0 65536)
+    (aliased_rule (codes "log-capacity") (codes "feed") 1 65536))
+    (aliased_rule (codes "log-retention") (codes "keep") 0 65536)
 
 -- the number of columns that was found on a command line, of this many bits, or 1
 abbrev pub IsColumns : ℕ → ArgMatches → ℕ → Type 0
 IsColumns bits matches columns = IsNumber bits (one_text (found_of matches) (codes "columns")) 1 columns
 
--- how many commits the log is to hold for the slowest reader, as a command line says, or 4096
-abbrev pub IsFeed : ArgMatches → ℕ → Type 0
-IsFeed matches feed = IsNumber 64 (one_text (found_of matches) (codes "feed")) 4096 feed
+-- how many commits the log is to hold for its slowest reader, as a command line says, or 4096
+abbrev pub IsLogCapacity : ArgMatches → ℕ → Type 0
+IsLogCapacity matches capacity = IsNumber 64 (one_text (found_of matches) (codes "log-capacity")) 4096 capacity
 
--- how many of the last commits the log is to keep, as a command line says, or 0
-abbrev pub IsKeep : ArgMatches → ℕ → Type 0
-IsKeep matches keep = IsNumber 64 (one_text (found_of matches) (codes "keep")) 0 keep
+-- how many of the last commits the log is to keep for no reader, as a command line says, or 0
+abbrev pub IsLogRetention : ArgMatches → ℕ → Type 0
+IsLogRetention matches retention = IsNumber 64 (one_text (found_of matches) (codes "log-retention")) 0 retention

@@ -3,7 +3,7 @@ use Rattle.std.specs.Prelude.{◌≡◌, ℕ, ◌==◌, if◌then◌else◌, Lis
 use Rattle.std.specs.Result.{result_err}
 use Rattle.clap.specs.Words.{App, HasMatchesOf, new_app}
 use Rattle.clap.specs.declared.parser.matches.ArgMatches.{ArgMatches}
-use Rattle.mt_command_line.specs.Opening.{with_index_rules, IsColumns, IsFeed, IsKeep}
+use Rattle.mt_command_line.specs.Opening.{with_index_rules, IsColumns, IsLogCapacity, IsLogRetention}
 use Rattle.mt_command_line.specs.declared.ending.Ending.{Ending}
 use Rattle.mt_index.specs.declared.options.Options.{Options}
 use Rattle.mt_types.specs.Limits.{open_fault}
@@ -18,8 +18,8 @@ mtdrive_app = with_index_rules (new_app (codes "mtdrive"))
 -- the options that were found on a command line
 pub record AreFound (matches : ArgMatches) (options : Options) : Type 0 where
   pub columns : IsColumns 64 matches options.columns
-  pub feed : IsFeed matches options.log_capacity
-  pub keep : IsKeep matches options.log_retention
+  pub log_capacity : IsLogCapacity matches options.log_capacity
+  pub log_retention : IsLogRetention matches options.log_retention
 
 -- the options that these words say: those that a parse of them finds
 abbrev pub AreSaid : List (List ℕ) → Options → Type 0
@@ -34,12 +34,12 @@ status_of (Err Read) = 3
 status_of (Err Write) = 3
 status_of (Err NoMemory) = 3
 
--- how a script ended on an index of C columns that keeps `keep` commits for no reader: what was read of the input,
+-- how a script ended on an index of C columns that keeps `retention` commits for no reader: what was read of the input,
 -- which bytes of it the reader still has, and what was written after the old bytes
 abbrev pub Ended : ℕ → ℕ → Result ℕ ScriptFault → Option (List ℕ) → Option (List ℕ) → Option (List ℕ) →
     Option (List ℕ) → Type 0
-Ended C keep (Ok bad) input unread old new = Played C keep input old bad new
-Ended C keep (Err fault) input unread old new = Broke C keep fault input unread old new
+Ended C retention (Ok bad) input unread old new = Played C retention input old bad new
+Ended C retention (Err fault) input unread old new = Broke C retention fault input unread old new
 
 -- a script was answered as these words of the command line ask, and ended so
 pub record Answered

@@ -9,7 +9,7 @@ ghost use Rattle.mtdrive.specs.CommandLine.{mtdrive_app, AreFound, AreSaid, stat
 
 use clap::{ArgMatches, Command, Error};
 use mt_command_line::ending::{Ending, exit_code, status_of_run, words};
-use mt_command_line::opening::{columns, feed, index_options, keep};
+use mt_command_line::opening::{columns, index_options, log_capacity, log_retention};
 use mt_index::options::Options;
 use mt_script::fault::ScriptFault;
 use mt_script::script::script;
@@ -56,8 +56,8 @@ fn options_of(matches: &ArgMatches<'_>) -> Options
 {
     Options {
         columns: columns(matches),
-        log_capacity: feed(matches),
-        log_retention: keep(matches),
+        log_capacity: log_capacity(matches),
+        log_retention: log_retention(matches),
         tidies: true,
     }
 }

@@ -4,7 +4,7 @@ use Rattle.clap.specs.Words.{App, HasMatchesOf, Rule, found_of, new_app, new_rul
 use Rattle.clap.specs.declared.parser.matches.ArgMatches.{ArgMatches}
 use Rattle.clap.specs.declared.builder.action.ArgAction.TheVariants.{SetTrue}
 use Rattle.mt_command_line.specs.Numbers.{number_rule, IsNumber}
-use Rattle.mt_command_line.specs.Opening.{with_index_rules, IsColumns, IsFeed, IsKeep}
+use Rattle.mt_command_line.specs.Opening.{with_index_rules, IsColumns, IsLogCapacity, IsLogRetention}
 use Rattle.mtserve.specs.declared.command_line.Settings.{Settings}
 
 -- --NAME, without a value
@@ -35,8 +35,8 @@ pub record AreFound (matches : ArgMatches) (settings : Settings) : Type 0 where
   pub forever : one_text (found_of matches) (codes "forever") ≡ Some (codes "true") → settings.forever ≡ true
   pub bounded : one_text (found_of matches) (codes "forever") ≡ Some (codes "false") → settings.forever ≡ false
   pub columns : IsColumns 64 matches settings.options.columns
-  pub feed : IsFeed matches settings.options.log_capacity
-  pub keep : IsKeep matches settings.options.log_retention
+  pub log_capacity : IsLogCapacity matches settings.options.log_capacity
+  pub log_retention : IsLogRetention matches settings.options.log_retention
   pub untidied : one_text (found_of matches) (codes "no-tidies") ≡ Some (codes "true") → settings.options.tidies ≡ false
   pub tidied : one_text (found_of matches) (codes "no-tidies") ≡ Some (codes "false") → settings.options.tidies ≡ true
 

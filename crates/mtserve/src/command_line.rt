@@ -6,7 +6,7 @@ ghost use Rattle.mtserve.specs.CommandLine.{flag_rule, with_socket_rules, mtserv
 
 use clap::{Arg, ArgAction, ArgMatches, Command, Error};
 use mt_command_line::numbers::{number, number_option};
-use mt_command_line::opening::{columns, feed, index_options, keep};
+use mt_command_line::opening::{columns, index_options, log_capacity, log_retention};
 use mt_index::options::Options;
 use std::alloc::{AllocError, Global};
 
@@ -77,8 +77,8 @@ fn settings_of(matches: &ArgMatches<'_>) -> Settings
     Settings {
         options: Options {
             columns: columns(matches),
-            log_capacity: feed(matches),
-            log_retention: keep(matches),
+            log_capacity: log_capacity(matches),
+            log_retention: log_retention(matches),
             tidies: !matches.get_flag("no-tidies"),
         },
         port: number(matches, "port", 0),

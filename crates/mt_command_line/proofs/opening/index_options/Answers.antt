@@ -1,0 +1,25 @@
+use Rattle.std.proofs.Common.{◌≡◌, false, refl, ap, ◌∙◌}
+use Rattle.std.specs.Prelude.{codes}
+use Rattle.std.proofs.lemmas.Result.{IfOk-weaker}
+use Rattle.clap.specs.Built.{AddsArg}
+use Rattle.clap.specs.Words.{App, Rule, app_of, rule_of, with_rule}
+use Rattle.clap.specs.declared.builder.arg.Arg.{Arg}
+use Rattle.clap.specs.declared.builder.command.Command.{Command}
+use Rattle.mt_command_line.specs.Opening.{aliased_rule, columns_rule}
+use Rattle.mt_command_line.proofs.opening.index_options.Goals as goal
+
+-- one more option
+with_option : (old new : Command) (option : Arg) (app : App) (rule : Rule) → option.global ≡ false → rule_of option ≡ rule
+    → app_of old ≡ app → AddsArg old option new → app_of new ≡ with_rule app rule
+with_option old new option app rule local is so_far adds =
+    adds.shape local
+    ∙ ap (λ (more : Rule). with_rule (app_of old) more) is
+    ∙ ap (λ (before : App). with_rule before rule) so_far
+
+pub returns : goal.returns
+returns c =
+    let one = with_option c.args.command c.in_ok-arg.field-0 c.columns_option.result (app_of c.args.command) columns_rule c.columns_option.ensures.local c.columns_option.ensures.rule refl c.in_ok-arg.ensures in
+    let two = with_option c.in_ok-arg.field-0 c.in_ok-arg-2.field-0 c.in_ok-capacity.capacity _ (aliased_rule (codes "log-capacity") (codes "feed") 1 65536) c.in_ok-capacity.ensures.local c.in_ok-capacity.ensures.rule one c.in_ok-arg-2.ensures in
+    IfOk-weaker c.arg-3.result _ _
+    (λ (new : Command). with_option c.in_ok-arg-2.field-0 new c.in_ok-retention.retention _ (aliased_rule (codes "log-retention") (codes "keep") 0 65536) c.in_ok-retention.ensures.local c.in_ok-retention.ensures.rule two)
+    c.arg-3.ensures
