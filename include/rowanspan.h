@@ -14,11 +14,11 @@
  *     rowanspan_close(index);
  *
  * PROOFS
- *     The functions are thin: each passes its arguments to a function inside the library, of which it is proved what
- *     it does, by its contract in crates/rowanspan_c/src/exports.rt. (rowanspan_open also allocates what the pointer
- *     points to, rowanspan_get_column copies one column of the answer of rowanspan_get, and a cursor repeats
- *     rowanspan_range or rowanspan_view.) The thin functions, which are in bindings/c, and the inline functions of this
- *     header are only tested.
+ *     The functions are thin: each passes its arguments to a function inside the library, of which it is proved what it
+ *     does, by its contract in crates/rowanspan_c/src/exports.rt or view_exports.rt. (rowanspan_open also allocates
+ *     what the pointer points to, rowanspan_get_column copies one column of the answer of rowanspan_get,
+ *     rowanspan_totals reads its answer into a struct, and a cursor repeats rowanspan_range or rowanspan_view.) The
+ *     thin functions, which are in bindings/c, and the inline functions of this header are only tested.
  *
  * ORDER OF REFUSALS
  *     Limits are answered before memory. A call that breaks a limit of its keys, its columns, its test, its range or
@@ -33,9 +33,10 @@
  * THREADS
  *     An index may be made by one thread, and used and closed by another: it is proved that what it holds may be moved.
  *     An index is used by one thread at a time, also if the calls only read. SQLite calls this mode "multi-thread". If
- *     threads share an index, the caller orders their calls by a lock, by the start or the join of a thread, or by a
- *     sequentially consistent atomic. Calls on different indexes may be made at once. A `const rowanspan *` says that a
- *     call changes no row, no commit and no view. It doesn't say that two such calls may be made at once.
+ *     threads share an index, the caller orders their calls by a mutex of its own (docs/EMBEDDING.md has the pattern),
+ *     by the start or the join of a thread, or by a sequentially consistent atomic. Calls on different indexes may be
+ *     made at once. A `const rowanspan *` says that a call changes no row, no commit and no view. It doesn't say that
+ *     two such calls may be made at once.
  *
  * STATUSES
  *     A call that can fail returns a status. ROWANSPAN_OK, which is 0, means that the call was done. A status from 1 to
@@ -47,7 +48,7 @@
  *     The last parameter of most calls that return a status points to a number, such as `commit` or `length`. The call
  *     always writes this number, unless the pointer is null. The comment of the call says what the number is if the
  *     status is OK, and if it is FEED_FULL, BEHIND, OTHER_VERSION or NO_ROOM. For all other statuses it is 0. The
- *     pointers to an index, a cursor or a pair that a call sets must not be null.
+ *     pointers to an index, a cursor, a pair or totals that a call sets must not be null.
  *
  * BUFFERS
  *     A call whose answer is bytes writes them to the start of the buffer `into`, which the caller owns and which has
@@ -65,9 +66,9 @@
  *
  * MEMORY
  *     The library copies the keys, columns and tests that it is passed: they stay the caller's. A call that stores or
- *     returns something allocates with malloc, except rowanspan_get and rowanspan_get_column, which take no memory.
- *     malloc and realloc have to align blocks as ISO C requires. No call may be made in a signal handler, or in the
- *     forked child of a process with threads.
+ *     returns something allocates with malloc, except rowanspan_get, rowanspan_get_column and rowanspan_totals, which
+ *     take no memory. malloc and realloc have to align blocks as ISO C requires. No call may be made in a signal
+ *     handler, or in the forked child of a process with threads.
  *
  * It isn't proved that a caller in C meets the conditions that are stated here, nor what a compiler makes of the header
  * and of bindings/c. See docs/EMBEDDING.md. */
@@ -102,8 +103,8 @@ typedef enum rowanspan_status {
     ROWANSPAN_KEY_TOO_LONG = 2,     /* a key has more than 1,024 bytes */
     ROWANSPAN_BAD_COLUMN = 3,       /* a column doesn't exist or is named twice; an index has 1 to 16 columns */
     ROWANSPAN_COLUMN_TOO_LONG = 4,  /* a column has more than 64 bytes */
-    ROWANSPAN_BAD_LIMIT = 5,        /* a limit is not from 1 to 1000, or an option is out of its bounds: feed is not
-                                       from 1 to 65536, or keep is over 65536 */
+    ROWANSPAN_BAD_LIMIT = 5,        /* a limit is not from 1 to 1000, or an option is out of its bounds:
+                                       log_capacity is not from 1 to 65536, or log_retention is over 65536 */
     ROWANSPAN_ARENA_FULL = 6,       /* too few of the 1,048,576 nodes are free */
     ROWANSPAN_FEED_FULL = 7,        /* the log is full: views or open calls hold it from commit N on; apply or drop the
                                        views */
@@ -161,13 +162,14 @@ struct rowanspan_test {
 /* ---- the index */
 
 /* rowanspan_open: opens an empty index whose rows have `columns` columns (1 to 16), and sets *index to it. The index's
- * log holds up to `feed` commits (1 to 65536) for the view that is furthest behind, and keeps the last `keep` commits
- * (up to 65536) for callers of rowanspan_feed. The caller has to close the index with rowanspan_close.
+ * log holds up to `log_capacity` commits (1 to 65536) for the view that is furthest behind, and keeps the last
+ * `log_retention` commits (up to 65536) for callers of rowanspan_feed. The caller has to close the index with
+ * rowanspan_close.
  *
  * Cost: a few allocations.
  *
  * Returns OK. Fails with BAD_COLUMN, BAD_LIMIT or NO_MEMORY; *index is then null. */
-rowanspan_status rowanspan_open(rowanspan **index, uint64_t columns, uint64_t feed, uint64_t keep);
+rowanspan_status rowanspan_open(rowanspan **index, uint64_t columns, uint64_t log_capacity, uint64_t log_retention);
 
 /* rowanspan_close: closes an index and frees its memory. It does nothing if `index` is null.
  *
@@ -308,8 +310,8 @@ void rowanspan_cursor_close(rowanspan_cursor *cursor);
  *
  * A view holds the rows whose keys are in its range and that pass its test, with their count and, for each column, the
  * sum of their amounts. It is at a number of commits, and shows exactly the rows after those. rowanspan_apply advances
- * it. While views are behind, the log holds the commits that they still need: once it holds `feed` of them, a put or
- * remove is refused with FEED_FULL. */
+ * it. While views are behind, the log holds the commits that they still need: once it holds `log_capacity` of them, a
+ * put or remove is refused with FEED_FULL. */
 
 /* rowanspan_build_prefix: builds a view of the keys that begin with `prefix`; if it is empty, of all keys.
  * rowanspan_build_from: builds a view of the keys from `lo` on.
@@ -339,6 +341,20 @@ rowanspan_status rowanspan_build_between(rowanspan *index, const void *lo, size_
  * Fails with KEY_TOO_LONG, BAD_LIMIT, NO_SUCH_VIEW or NO_MEMORY. Unless it returns OK the buffer is as it was. */
 rowanspan_status rowanspan_view(const rowanspan *index, uint64_t view, uint64_t floor, const void *start,
                                 size_t start_length, uint16_t limit, void *into, size_t room, uint64_t *length);
+
+/* The totals of a view, which are defined at the end of this file. */
+struct rowanspan_totals;
+
+/* rowanspan_totals: sets *totals to the commit at which a view is, how many rows it has, and the sum of each column, if
+ * the view is at commit `floor` or later. They are those of a page of rowanspan_view. If the call returns BEHIND,
+ * totals->commit is that of the view. The rest of *totals is 0 unless it returns OK.
+ *
+ * Cost: a descent of the tree of views, and a copy of the sums. It takes no memory.
+ *
+ * Returns OK. Returns BEHIND if the view is at a commit before the floor. Fails with NO_SUCH_VIEW, and with nothing
+ * else. */
+rowanspan_status rowanspan_totals(const rowanspan *index, uint64_t view, uint64_t floor,
+                                  struct rowanspan_totals *totals);
 
 /* rowanspan_apply: applies the next commit to a view; if `view` is 0, to the view that is furthest behind. *commit is
  * the number of the commit at which the view then is.
@@ -487,6 +503,14 @@ struct rowanspan_sum {
     uint64_t upper, lower;
 };
 
+/* The totals of a view at a commit: how many rows it has, and for each column the sum of its amounts. */
+struct rowanspan_totals {
+    uint64_t commit;
+    uint64_t row_count;
+    size_t sum_count;
+    struct rowanspan_sum sums[ROWANSPAN_MAX_COLUMNS];
+};
+
 /* What a view shows at a commit: how many rows it has, for each column the sum of its amounts, and the rows that were
  * asked for. rowanspan_read_pair of `pairs` returns one of these rows after the other. */
 struct rowanspan_page {
@@ -575,25 +599,39 @@ static inline struct rowanspan_pair rowanspan_read_pair(struct rowanspan_reader 
     return pair;
 }
 
-/* rowanspan_read_page: reads the answer of rowanspan_view up to its rows. The reader, and `pairs` of the page, are then
- * before the first row. */
-static inline struct rowanspan_page rowanspan_read_page(struct rowanspan_reader *reader) {
-    struct rowanspan_page page;
+/* rowanspan_read_totals: reads the totals with which the answer of rowanspan_view begins. Further sums are 0. */
+static inline struct rowanspan_totals rowanspan_read_totals(struct rowanspan_reader *reader) {
+    struct rowanspan_totals totals;
     size_t i;
-    page.commit = rowanspan_read_number(reader);
-    page.row_count = rowanspan_read_number(reader);
-    page.sum_count = rowanspan_read_count(reader);
-    if (page.sum_count > ROWANSPAN_MAX_COLUMNS) {
-        page.sum_count = 0;
+    totals.commit = rowanspan_read_number(reader);
+    totals.row_count = rowanspan_read_number(reader);
+    totals.sum_count = rowanspan_read_count(reader);
+    if (totals.sum_count > ROWANSPAN_MAX_COLUMNS) {
+        totals.sum_count = 0;
         reader->left = 0;
         reader->is_short = true;
     }
-    for (i = 0; i < page.sum_count; i++) {
-        rowanspan_read_sum(reader, &page.sums[i].upper, &page.sums[i].lower);
+    for (i = 0; i < totals.sum_count; i++) {
+        rowanspan_read_sum(reader, &totals.sums[i].upper, &totals.sums[i].lower);
     }
     for (; i < ROWANSPAN_MAX_COLUMNS; i++) {
-        page.sums[i].upper = 0;
-        page.sums[i].lower = 0;
+        totals.sums[i].upper = 0;
+        totals.sums[i].lower = 0;
+    }
+    return totals;
+}
+
+/* rowanspan_read_page: reads the answer of rowanspan_view up to its rows. The reader, and `pairs` of the page, are then
+ * before the first row. */
+static inline struct rowanspan_page rowanspan_read_page(struct rowanspan_reader *reader) {
+    struct rowanspan_totals totals = rowanspan_read_totals(reader);
+    struct rowanspan_page page;
+    size_t i;
+    page.commit = totals.commit;
+    page.row_count = totals.row_count;
+    page.sum_count = totals.sum_count;
+    for (i = 0; i < ROWANSPAN_MAX_COLUMNS; i++) {
+        page.sums[i] = totals.sums[i];
     }
     page.pair_count = rowanspan_read_count(reader);
     page.pairs = *reader;

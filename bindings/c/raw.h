@@ -1,9 +1,9 @@
 /* raw.h: the functions of the crate rowanspan_c, of which it is proved what they do. Only bindings/c and
  * bindings/python include it.
  *
- * crates/rowanspan_c/src/exports.rt has them, with their contracts. scripts/build_library renames those that are there
- * named as functions of rowanspan.h: rowanspan_open is rowanspan_raw_open here. No pointer may be null, also if there
- * are no bytes, and no buffer may overlap what else is passed. */
+ * exports.rt and view_exports.rt in crates/rowanspan_c/src have them, with their contracts. scripts/build_library
+ * renames those that are there named as functions of rowanspan.h: rowanspan_open is rowanspan_raw_open here. No pointer
+ * may be null, also if there are no bytes, and no buffer may overlap what else is passed. */
 #ifndef ROWANSPAN_RAW_H
 #define ROWANSPAN_RAW_H
 
@@ -17,7 +17,7 @@ struct rowanspan_raw {
 
 typedef struct rowanspan_raw *raw_handle;
 
-uint16_t rowanspan_raw_open(raw_handle handle, uint64_t columns, uint64_t feed, uint64_t keep);
+uint16_t rowanspan_raw_open(raw_handle handle, uint64_t columns, uint64_t log_capacity, uint64_t log_retention);
 uint16_t rowanspan_raw_close(raw_handle handle);
 uint16_t rowanspan_raw_put(raw_handle handle, const uint8_t *key, size_t key_length, const struct rowanspan_set *sets,
                            size_t count, uint64_t *told);
@@ -37,6 +37,8 @@ uint16_t rowanspan_raw_build_between(raw_handle handle, const uint8_t *lo, size_
                                      size_t hi_length, const struct rowanspan_test *test, uint64_t *told);
 uint16_t rowanspan_raw_view(raw_handle handle, uint64_t view, uint64_t floor, const uint8_t *start,
                             size_t start_length, uint16_t limit, uint8_t *into, size_t room, uint64_t *told);
+uint16_t rowanspan_raw_totals(raw_handle handle, uint64_t view, uint64_t floor, uint8_t *into, size_t room,
+                              uint64_t *told);
 uint16_t rowanspan_raw_apply(raw_handle handle, uint64_t view, uint64_t *told);
 uint16_t rowanspan_raw_keep_views(raw_handle handle, uint64_t *told);
 uint16_t rowanspan_raw_drop(raw_handle handle, uint64_t view, uint64_t *told);

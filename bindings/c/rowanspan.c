@@ -26,9 +26,9 @@ static const struct rowanspan_set *sets_at(const struct rowanspan_set *sets) {
 
 /* ---- the index */
 
-rowanspan_status rowanspan_open(rowanspan **index, uint64_t columns, uint64_t feed, uint64_t keep) {
+rowanspan_status rowanspan_open(rowanspan **index, uint64_t columns, uint64_t log_capacity, uint64_t log_retention) {
     struct rowanspan_raw raw = {NULL, false};
-    rowanspan_status status = (rowanspan_status)rowanspan_raw_open(&raw, columns, feed, keep);
+    rowanspan_status status = (rowanspan_status)rowanspan_raw_open(&raw, columns, log_capacity, log_retention);
     *index = NULL;
     if (status != ROWANSPAN_OK) {
         return status;
@@ -159,6 +159,24 @@ rowanspan_status rowanspan_view(const rowanspan *index, uint64_t view, uint64_t 
     uint8_t none[1] = {0};
     return (rowanspan_status)rowanspan_raw_view(raw_of(index), view, floor, rowanspan_bytes_at(start), start_length,
                                                 limit, into ? into : none, into ? room : 0, length ? length : &unread);
+}
+
+/* How many bytes the totals of a view with the most columns have: three numbers, and two for each sum. */
+enum { MOST_TOTALS = 8 * (3 + 2 * ROWANSPAN_MAX_COLUMNS) };
+
+rowanspan_status rowanspan_totals(const rowanspan *index, uint64_t view, uint64_t floor,
+                                  struct rowanspan_totals *totals) {
+    uint8_t answer[MOST_TOTALS];
+    uint64_t number = 0;
+    rowanspan_status status =
+        (rowanspan_status)rowanspan_raw_totals(raw_of(index), view, floor, answer, sizeof answer, &number);
+    /* (past the end of an answer, numbers are read as 0) */
+    struct rowanspan_reader reader = rowanspan_reader(answer, status == ROWANSPAN_OK ? number : 0);
+    *totals = rowanspan_read_totals(&reader);
+    if (status == ROWANSPAN_BEHIND) {
+        totals->commit = number;
+    }
+    return status;
 }
 
 rowanspan_status rowanspan_apply(rowanspan *index, uint64_t view, uint64_t *commit) {

@@ -106,17 +106,19 @@ static PyObject *calls_view(Calls *self, PyObject *arguments) {
     return answer_to(self, &query, page_of);
 }
 
-/* The page is asked with one row, the fewest that there are, and the row isn't read. */
 static PyObject *calls_totals(Calls *self, PyObject *arguments) {
-    struct query query = {.is_of_view = true, .limit = 1};
-    query.start.at = rowanspan_bytes_at(NULL);
-    if (!takes(arguments, 1)) {
+    uint8_t answer[TOTALS_BYTES];
+    uint64_t view, floor, length;
+    uint16_t status;
+    if (!takes(arguments, 2)) {
         return NULL;
     }
-    if (!number_in(PyTuple_GetItem(arguments, 0), UINT64_MAX, &query.view)) {
+    if (!number_in(PyTuple_GetItem(arguments, 0), UINT64_MAX, &view) ||
+        !number_in(PyTuple_GetItem(arguments, 1), UINT64_MAX, &floor) || !is_free(&self->lock)) {
         return undone();
     }
-    return answer_to(self, &query, totals_of);
+    status = self->library.totals(self->handle, view, floor, answer, sizeof answer, &length);
+    return status == DONE ? value_in(self, answer, length, totals_of) : undone();
 }
 
 /* ---- changes */
@@ -196,7 +198,7 @@ PyMethodDef calls_methods[] = {
     {"get", (PyCFunction)calls_get, METH_VARARGS, "get(key, columns): the row, or None"},
     {"range", (PyCFunction)calls_range, METH_VARARGS, "range(start, limit, columns): pairs of a key and its row"},
     {"view", (PyCFunction)calls_view, METH_VARARGS, "view(number, floor, start, limit): the page"},
-    {"totals", (PyCFunction)calls_totals, METH_VARARGS, "totals(number): the page's at, count and sums"},
+    {"totals", (PyCFunction)calls_totals, METH_VARARGS, "totals(number, floor): at, count and sums"},
     {"put", (PyCFunction)calls_put, METH_VARARGS, "put(index, key, sets): the number of the commit"},
     {"put_if", (PyCFunction)calls_put_if, METH_VARARGS, "put_if(index, key, sets, version): the number of the commit"},
     {"remove", (PyCFunction)calls_remove, METH_VARARGS, "remove(index, key): the number of the commit, or None"},

@@ -28,6 +28,8 @@ enum {
     /* the most columns of an index, and the most bytes of a row */
     COLUMNS = 16,
     ROW_BYTES = 16 + 72 * COLUMNS,
+    /* the most bytes of the totals of a view */
+    TOTALS_BYTES = 24 + 16 * COLUMNS,
     FIRST_ROOM = 4096
 };
 
@@ -47,6 +49,7 @@ struct functions {
     __typeof__(rowanspan_raw_remove) *remove;
     __typeof__(rowanspan_raw_range) *range;
     __typeof__(rowanspan_raw_view) *view;
+    __typeof__(rowanspan_raw_totals) *totals;
     __typeof__(rowanspan_raw_apply) *apply;
 };
 
@@ -117,7 +120,7 @@ PyObject *row_of(Calls *self, struct rowanspan_reader *reader);
 PyObject *pairs_of(Calls *self, struct rowanspan_reader *reader);
 PyObject *page_of(Calls *self, struct rowanspan_reader *reader);
 
-/* The number of commits, the count and the sums of a page, as a tuple. */
+/* The totals of a view: its number of commits, its count and its sums, as a tuple. */
 PyObject *totals_of(Calls *self, struct rowanspan_reader *reader);
 
 /* The object that an answer has. If the answer ends inside a field, ctypes reads it again, and says so. */

@@ -6,7 +6,8 @@ import inspect
 from typing import Any, Callable, Iterable, List, Optional, Sequence, Tuple
 
 from rowanspan import (MAX_KEY_BYTES, AtLeast, BadColumn, BadLimit, BadRange, Behind, ColumnTooLong, KeyTooLong,
-                       NoSuchView, OtherVersion, Page, Prefix, Range, Row, RowMap, Sets, TooLong, View)
+                       NoSuchView, OtherVersion, Page, Prefix, Range, Row, RowMap, Sets, TooLong, Totals,
+                       View)
 
 KEYS = [b"", b"\0", b"a", b"b", b"b\0", *[b"ba%03d" % number for number in range(150)], b"b\xff", b"b\xff\xff", b"c",
         b"\xff", b"\xff\xff", bytes((255,)) * MAX_KEY_BYTES]
@@ -232,12 +233,16 @@ class MapCases:
         page = Page(3, 1, (6, 0), [(b"ab", Row(2, (b"\6", b"")))])
         self.assertEqual((view.page(3), view.page()), (page, page))
         self.assertEqual((view.at, view.count, view.sums), (3, 1, (6, 0)))
+        self.assertEqual((view.totals(), view.totals(3)), (Totals(3, 1, (6, 0)),) * 2)
         self.assertEqual((list(view), list(view.rows(3, b"ab\0"))), (page.rows, []))
         with self.assertRaises(Behind) as met:
             view.page(4)
+        with self.assertRaises(Behind) as met:
+            view.totals(4)
+        self.assertEqual(met.exception.detail, 3)
         self.assertEqual((met.exception.number, met.exception.detail), (12, 3))
         view.drop()
-        for call in (view.page, view.drop, lambda: view.count, lambda: list(view)):
+        for call in (view.page, view.totals, view.drop, lambda: view.count, lambda: list(view)):
             with self.assertRaises(NoSuchView) as gone:
                 call()
             self.assertTrue(isinstance(gone.exception, LookupError))

@@ -97,8 +97,8 @@ class ArgumentTest(unittest.TestCase):
     def test_an_embedded_index(self) -> None:
         """Arguments of a wrong type are found before the library is."""
         missing = "/nowhere/librowanspan.so"
-        wrong: List[Dict[str, Any]] = [{"columns": "1"}, {"columns": 1.0}, {"columns": None}, {"feed": b"1"},
-                                       {"keep": "0"}]
+        wrong: List[Dict[str, Any]] = [{"columns": "1"}, {"columns": 1.0}, {"columns": None},
+                                       {"log_capacity": b"1"}, {"log_retention": "0"}]
         for named in wrong:
             with self.subTest(named=named), self.assertRaises(TypeError):
                 rowanspan.embedded.Index(library=missing, **named)

@@ -26,7 +26,7 @@ from counting import run_counted
 from map_cases import MapCases
 from rowanspan.embedded import (MAX_KEY_BYTES, AtLeast, BadColumn, BadLimit, BadRange, Behind, Closed, ColumnTooLong,
                                 Delta, Equals, Index, KeyTooLong, NoLibrary, NoSuchView, OtherVersion, Page, Prefix,
-                                Range, Row, RowMap, Tidied, TooLong, TooManyViews, WrongIndex)
+                                Range, Row, RowMap, Tidied, TooLong, TooManyViews, Totals, WrongIndex)
 from rowanspan.library import column_sets
 from test_bad_input import WRONG_TYPES
 from test_embedded_views import raises
@@ -102,7 +102,7 @@ def columns() -> None:
         raises(BadLimit, lambda: index.first(limit=65536))
         raises(BadColumn, lambda: index.put(b"k", {256: b""}))
         raises(BadColumn, lambda: Index(columns=17))
-        raises(BadLimit, lambda: Index(feed=0))
+        raises(BadLimit, lambda: Index(log_capacity=0))
 
 
 def found_by_put_if(index: Index, key: bytes, version: int) -> Optional[int]:
@@ -139,6 +139,9 @@ def views() -> None:
         assert view.page() == Page(3, 2, (12,), [(b"a1", Row(1, (b"\5",))), (b"a2", Row(2, (b"\7",)))])
         assert large.page(start=b"b").rows == [(b"b", Row(3, (b"\x09",)))]
         assert large.sums == (16,) and same.count == 1
+        assert view.totals(3) == Totals(3, 2, (12,)) and large.totals().sums == (16,)
+        fault = raises(Behind, lambda: view.totals(4))
+        assert isinstance(fault, Behind) and fault.detail == 3
         fault = raises(Behind, lambda: view.page(floor=4))
         assert isinstance(fault, Behind) and fault.detail == 3
         view.drop()
@@ -154,7 +157,7 @@ def views() -> None:
 
 
 def feeds() -> None:
-    with Index(keep=2) as index:
+    with Index(log_retention=2) as index:
         assert index.feed() == []
         index.put(b"k", b"one")
         index.put(b"k", b"two")
@@ -236,9 +239,8 @@ def names_of_the_client() -> None:
 
 
 def the_examples_of_the_pages() -> None:
-    row = "Row(version=2, columns=(b'green',))"
     for path, said in ((HERE.parents[1] / "docs" / "EMBEDDING.md",
-                        f"{row} False\n{row}\nb'apple' 2\n1 (444300879214,)\n"),
+                        "b'apple' 2\nTotals(at=2, count=1, sums=(444300879214,))\n"),
                        (HERE / "README.md", "Row(version=1, columns=(b'red',))\nb'apple' (b'green',)\n1\n")):
         done = subprocess.run([sys.executable, "-c", example_of(path)], cwd=HERE, check=True, capture_output=True,
                               text=True)
@@ -313,6 +315,7 @@ class PlainMap:
                  and int.from_bytes(row.columns[1], "big") >= 100]
         sums = tuple(sum(int.from_bytes(row.columns[column], "big") for _, row in shown) for column in (0, 1))
         assert self.view.page(self.commits) == Page(self.commits, len(shown), sums, shown)
+        assert self.view.totals(self.commits) == Totals(self.commits, len(shown), sums)
 
 
 def random_calls() -> None:

@@ -31,7 +31,7 @@ def calls(index, view, times):
         key = b"%06d" % (number % 500)
         index.put(key, {0: key, 1: b"\\xff" * 8})
         index.get(key), index.get(key, None, [1, 0]), index.get(b"none"), b"none" in index
-        view.sums, view.page(0, key, 2)
+        view.sums, view.totals(), view.page(0, key, 2)
         try:
             index.put_if(key, b"", 1)
         except OtherVersion as fault:
@@ -79,7 +79,8 @@ CALLS: List[Tuple[str, Sequence[Any]]] = [
     *[("_page", (number, floor, start, limit)) for number in (1, 2, 0, -1, 2 ** 64, True, "1")
       for floor in (0, 5, 2 ** 64 - 1, 2 ** 64, Number(3)) for start in (b"", Key(b"b"), bytes(1025))
       for limit in (1, 1000, 0, "1")],
-    *[("_totals", (number,)) for number in (1, 2, 0, -1, 2 ** 64, True, Number(1), "1", None)],
+    *[("_totals", (number, floor)) for number in (1, 2, 0, -1, 2 ** 64, True, Number(1), "1", None)
+      for floor in (0, 5, 2 ** 64 - 1, 2 ** 64, Number(3), -1, "0")],
     *[("remove", (key,)) for key in (b"a", b"a", Key(b"b"), bytearray(b"c"), bytes(1025), "a", None)],
 ]
 
@@ -193,7 +194,7 @@ class NativeTest(unittest.TestCase):
         holding.start()
         self.assertTrue(held.wait(SECONDS))
         for call in (lambda: self.index._native.get(b"a", None), lambda: self.index._native.range(b"", 1, None),
-                     lambda: self.index._native.put(self.index, b"a", b"w"), lambda: self.index._native.totals(1)):
+                     lambda: self.index._native.put(self.index, b"a", b"w"), lambda: self.index._native.totals(1, 0)):
             self.assertIs(call(), NotImplemented)
         before = signal.signal(signal.SIGALRM, handler)
         try:

@@ -12,7 +12,7 @@ from rowanspan.embedded import Closed, Index, Prefix, Range, Row, Sets
 from rowanspan.native import NoCalls
 
 SECONDS = 60.0
-THREADS = 4
+THREADS = 8
 
 
 class Watched:
@@ -69,6 +69,9 @@ class ThreadTest(unittest.TestCase):
                 commits.add(commit)
                 self.assertEqual(self.index.get(key), Row(commit, (key,)))
                 self.assertGreaterEqual(view.page(commit, key, 1).at, commit)
+                totals = view.totals(commit)
+                self.assertGreaterEqual(totals.at, commit)
+                self.assertEqual(totals.count, totals.at)
                 if number % 50 == 0:
                     keys = [at for at, _ in self.index.range(prefix=b"%d" % own)]
                     self.assertEqual(keys, [b"%d%04d" % (own, before) for before in range(number + 1)])

@@ -19,7 +19,7 @@ def raises(kind: type, call: Callable[[], object]) -> BaseException:
 
 
 def views_by_hand() -> None:
-    with Index(feed=2, keep_views=False) as index:
+    with Index(log_capacity=2, keep_views=False) as index:
         view = index.build(Prefix(b""))
         assert index.put(b"a", b"") == 1 and index.put(b"b", b"") == 2
         fault = raises(FeedFull, lambda: index.put(b"c", b""))
@@ -81,7 +81,7 @@ def changes_that_no_view_follows() -> None:
 
 def changes_after_the_log_was_full() -> None:
     """A later change brings views that lag up to date, also if they hold the whole log; one that is refused too."""
-    with Index(feed=2) as index:
+    with Index(log_capacity=2) as index:
         library = refusing(index)
         view = index.build(Prefix(b""))
         library.refusals = 1000
@@ -112,7 +112,7 @@ def views_kept_by_hand() -> None:
 
 def an_interrupt_before_the_views_follow() -> None:
     """The change is made; the next one brings the views up to date before it, though they hold the whole log."""
-    with Index(feed=1) as index:
+    with Index(log_capacity=1) as index:
         index._native = NoCalls()
         view = index.build(Prefix(b""))
         keep_views = index._keep_views

@@ -15,6 +15,7 @@ from unittest import mock
 import rowanspan
 import rowanspan.embedded
 from rowanspan import Client, NoLibrary, TooLong
+from rowanspan.former import options_of
 from stand_in import StandIn
 
 HERE = Path(__file__).resolve().parent
@@ -44,8 +45,8 @@ class NameTest(unittest.TestCase):
 
     def test_the_signature(self) -> None:
         own, of_init = inspect.signature(rowanspan.Index), inspect.signature(rowanspan.Index.__init__)
-        self.assertEqual(list(own.parameters.values()), list(of_init.parameters.values())[1:])
-        self.assertEqual(list(own.parameters), ["columns", "feed", "keep", "keep_views", "library"])
+        self.assertEqual(list(own.parameters.values()), list(of_init.parameters.values())[1:-1])
+        self.assertEqual(list(own.parameters), ["columns", "log_capacity", "log_retention", "keep_views", "library"])
 
 
 class FormerCallTest(unittest.TestCase):
@@ -90,6 +91,16 @@ class FormerCallTest(unittest.TestCase):
                 warnings.simplefilter("error")
                 with self.assertRaises(kind):
                     rowanspan.Index(*arguments, **named)
+
+    def test_options_by_their_former_names(self) -> None:
+        for name, now in (("feed", "log_capacity"), ("keep", "log_retention")):
+            with self.subTest(name=name), self.assertWarnsRegex(DeprecationWarning, f"{name} .* is now {now}$") as met:
+                with self.assertRaises(NoLibrary):
+                    rowanspan.Index(**{name: 5})
+            self.assertEqual(met.filename, __file__)
+        self.assertEqual(options_of(4096, 0, {}), (4096, 0))
+        with self.assertWarns(DeprecationWarning):
+            self.assertEqual(options_of(4096, 0, {"feed": 7, "keep": 8}), (7, 8))
 
     def test_a_class_of_an_index(self) -> None:
         class Own(rowanspan.Index):

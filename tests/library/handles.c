@@ -3,7 +3,7 @@
 
 static void bad_options(void) {
     static const struct {
-        uint64_t columns, feed, keep;
+        uint64_t columns, log_capacity, log_retention;
         rowanspan_status status;
     } options[] = {{0, 1, 0, ROWANSPAN_BAD_COLUMN}, {17, 1, 0, ROWANSPAN_BAD_COLUMN}, {1, 0, 0, ROWANSPAN_BAD_LIMIT},
                    {1, 65537, 0, ROWANSPAN_BAD_LIMIT}, {1, 1, 65537, ROWANSPAN_BAD_LIMIT}};
@@ -12,7 +12,8 @@ static void bad_options(void) {
     for (i = 0; i < sizeof options / sizeof options[0]; i++) {
         static char other;
         rowanspan *index = (rowanspan *)&other;
-        WANT_SAME(rowanspan_open(&index, options[i].columns, options[i].feed, options[i].keep), options[i].status);
+        WANT_SAME(rowanspan_open(&index, options[i].columns, options[i].log_capacity, options[i].log_retention),
+                  options[i].status);
         WANT(index == NULL);
         rowanspan_close(index);
     }

@@ -202,6 +202,25 @@ static void gets_take_no_memory(void) {
     ends("gets_take_no_memory");
 }
 
+/* The totals of a view take no memory. */
+static void totals_take_no_memory(void) {
+    uint64_t view;
+    rowanspan *index = filled(&view);
+    struct rowanspan_totals totals;
+    begins();
+    memory_ends_after(0);
+    WANT_SAME(rowanspan_totals(index, view, 0, &totals), ROWANSPAN_OK);
+    memory_ends_after(-1);
+    WANT(totals.commit == 1 && totals.row_count == 0 && totals.sum_count == 1);
+    WANT_SAME(rowanspan_keep_views(index, NULL), ROWANSPAN_OK);
+    memory_ends_after(0);
+    WANT_SAME(rowanspan_totals(index, view, 15, &totals), ROWANSPAN_OK);
+    memory_ends_after(-1);
+    WANT(totals.commit == 15 && totals.row_count == 14 && totals.sums[0].lower == 14 * 'v');
+    rowanspan_close(index);
+    ends("totals_take_no_memory");
+}
+
 /* Opens a cursor over a view; if `view` is 0, over the rows of the index. */
 static rowanspan_status open_cursor(const rowanspan *index, uint64_t view, const char *start, size_t length,
                                     rowanspan_cursor **cursor) {
@@ -345,6 +364,7 @@ int main(void) {
     out_of_memory();
     no_memory_to_open();
     gets_take_no_memory();
+    totals_take_no_memory();
     no_memory_to_open_a_cursor(false);
     no_memory_to_open_a_cursor(true);
     no_memory_for_a_cursor(false);

@@ -107,7 +107,7 @@ def wanted(allowed: int, call: Callable[[], Any]) -> Any:
 def calls_of_the_module() -> None:
     """Calls of the extension module where memory ends: each is made, also if the view lags then, or has done nothing.
     The next put is made by ctypes if the view holds the whole log, and brings the view up to date before."""
-    with Index(feed=1) as index:
+    with Index(log_capacity=1) as index:
         calls, plain, lags, refusals, ends = index._native, {}, 0, 0, 0
         if isinstance(calls, NoCalls):
             return

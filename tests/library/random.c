@@ -288,8 +288,8 @@ static bool is_shown(const struct plain_row *row) {
     return row->key_length > 0 && row->key[0] == 'a' && amount(row, 1) >= 300;
 }
 
-/* Wants the count and the sums of a page. */
-static void want_sums(const struct rowanspan_page *page) {
+/* Wants the totals of the view. */
+static void want_totals(const struct rowanspan_totals *totals) {
     uint64_t count = 0, sums[COLUMNS][2] = {{0}};
     size_t i;
     int column;
@@ -300,11 +300,11 @@ static void want_sums(const struct rowanspan_page *page) {
         }
         count += is_shown(&rows[i]);
     }
-    WANT_SAME(page->commit, commits);
-    WANT_SAME(page->row_count, count);
-    WANT_SAME(page->sum_count, COLUMNS);
+    WANT_SAME(totals->commit, commits);
+    WANT_SAME(totals->row_count, count);
+    WANT_SAME(totals->sum_count, COLUMNS);
     for (column = 0; column < COLUMNS; column++) {
-        WANT(page->sums[column].upper == sums[column][0] && page->sums[column].lower == sums[column][1]);
+        WANT(totals->sums[column].upper == sums[column][0] && totals->sums[column].lower == sums[column][1]);
     }
 }
 
@@ -314,11 +314,15 @@ static void page_once(rowanspan *index, uint64_t view) {
     uint64_t answered;
     struct rowanspan_reader reader;
     struct rowanspan_page page;
+    struct rowanspan_totals totals;
     WANT_SAME(rowanspan_keep_views(index, NULL), ROWANSPAN_OK);
     WANT_SAME(rowanspan_view(index, view, commits, key, length, 50, answer, sizeof answer, &answered), ROWANSPAN_OK);
     reader = rowanspan_reader(answer, answered);
     page = rowanspan_read_page(&reader);
-    want_sums(&page);
+    WANT_SAME(rowanspan_totals(index, view, commits, &totals), ROWANSPAN_OK);
+    want_totals(&totals);
+    WANT(page.commit == commits && page.row_count == totals.row_count && page.sum_count == totals.sum_count);
+    WANT(memcmp(page.sums, totals.sums, sizeof page.sums) == 0);
     want_rows(&page.pairs, page.pair_count, place_of(key, length), 50, is_shown);
 }
 

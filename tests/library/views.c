@@ -9,6 +9,7 @@ static void views(void) {
     struct rowanspan_reader reader;
     struct rowanspan_page page;
     struct rowanspan_pair pair;
+    struct rowanspan_totals totals;
     begins();
     WANT_SAME(put_text(index, "a1", "\x05", &number), ROWANSPAN_OK);
     WANT_SAME(put_text(index, "b1", "\x06", &number), ROWANSPAN_OK);
@@ -20,6 +21,10 @@ static void views(void) {
     WANT_SAME(put_text(index, "a2", "\x07", &number), ROWANSPAN_OK);
     WANT_SAME(rowanspan_view(index, view, 3, NULL, 0, 9, room, sizeof room, &number), ROWANSPAN_BEHIND);
     WANT_SAME(number, 2);
+    WANT_SAME(rowanspan_totals(index, view, 3, &totals), ROWANSPAN_BEHIND);
+    WANT(totals.commit == 2 && totals.row_count == 0 && totals.sum_count == 0);
+    WANT_SAME(rowanspan_totals(index, view, 2, &totals), ROWANSPAN_OK);
+    WANT(totals.commit == 2 && totals.row_count == 1 && totals.sum_count == 1 && totals.sums[0].lower == 5);
     WANT_SAME(rowanspan_apply(index, view, &number), ROWANSPAN_OK);
     WANT_SAME(number, 3);
     WANT_SAME(rowanspan_apply(index, view, &number), ROWANSPAN_CURRENT);
@@ -33,6 +38,8 @@ static void views(void) {
     WANT(!page.pairs.is_short && page.pairs.left == 0);
     WANT_SAME(rowanspan_drop(index, view), ROWANSPAN_OK);
     WANT_SAME(rowanspan_drop(index, view), ROWANSPAN_NO_SUCH_VIEW);
+    WANT_SAME(rowanspan_totals(index, view, 9, &totals), ROWANSPAN_NO_SUCH_VIEW);
+    WANT(totals.commit == 0 && totals.row_count == 0 && totals.sum_count == 0 && totals.sums[0].lower == 0);
     rowanspan_close(index);
     ends("views");
 }
@@ -120,6 +127,7 @@ static void large_sums(void) {
     uint64_t number = 99, upper, lower, view, commit;
     struct rowanspan_reader reader;
     struct rowanspan_page page;
+    struct rowanspan_totals totals;
     begins();
     WANT_SAME(rowanspan_build_prefix(index, "a", 1, rowanspan_any(), &view), ROWANSPAN_OK);
     WANT_SAME(put_text(index, "a1", greatest, &number), ROWANSPAN_OK);
@@ -135,6 +143,8 @@ static void large_sums(void) {
     reader = rowanspan_reader(room, number);
     page = rowanspan_read_page(&reader);
     WANT(page.sums[0].upper == 1 && page.sums[0].lower == UINT64_MAX - 1);
+    WANT_SAME(rowanspan_totals(index, view, commit, &totals), ROWANSPAN_OK);
+    WANT(totals.row_count == 2 && totals.sums[0].upper == 1 && totals.sums[0].lower == UINT64_MAX - 1);
     rowanspan_close(index);
     ends("large_sums");
 }

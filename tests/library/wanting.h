@@ -51,9 +51,9 @@ static inline int all_told(void) {
     return wanting_failed != 0;
 }
 
-static inline rowanspan *opened(uint64_t columns, uint64_t feed, uint64_t keep) {
+static inline rowanspan *opened(uint64_t columns, uint64_t log_capacity, uint64_t log_retention) {
     rowanspan *index = NULL;
-    WANT_SAME(rowanspan_open(&index, columns, feed, keep), ROWANSPAN_OK);
+    WANT_SAME(rowanspan_open(&index, columns, log_capacity, log_retention), ROWANSPAN_OK);
     return index;
 }
 

@@ -22,6 +22,17 @@ pub struct Page {
     pub rows: Vec<(Vec<u8>, Row)>,
 }
 
+/// The totals of a view.
+#[derive(Clone, Debug, PartialEq, Eq)]
+pub struct Totals {
+    /// The commit at which the view is.
+    pub at: u64,
+    /// How many rows the view has.
+    pub count: u64,
+    /// For each column, the sum of its amounts over those rows.
+    pub sums: Vec<u128>,
+}
+
 /// What a commit did to a key.
 #[derive(Clone, Debug, PartialEq, Eq)]
 pub struct Delta {

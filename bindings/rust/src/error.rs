@@ -14,7 +14,8 @@ pub enum Error {
     BadColumn,
     /// A column has more than 64 bytes.
     ColumnTooLong,
-    /// A limit isn't from 1 to 1000; or `feed` isn't from 1 to 65536, or `keep` is over 65536.
+    /// A limit isn't from 1 to 1000; or `log_capacity` isn't from 1 to 65536, or `log_retention` is
+    /// over 65536.
     BadLimit,
     /// Too few nodes are free: an index has 1,048,576 nodes at most.
     ArenaFull,

@@ -4,7 +4,7 @@ use crate::answers::Row;
 use crate::calls::{answer, done, length, some_answer, ABSENT, MAX_COLUMN_BYTES, NO_ROOM};
 use crate::error::Error;
 use crate::options::Options;
-use crate::range::{KeyRange, Pairs};
+use crate::range::{KeyRange, Pairs, Source};
 use crate::raw::{ColumnSet, Library};
 use std::fmt;
 
@@ -15,7 +15,7 @@ pub const MAX_LIMIT: u16 = 1000;
 pub const MAX_KEY_BYTES: usize = 1024;
 
 /// An ordered key-value index, with views that stay exact. Dropping it frees its memory. It may be moved to another
-/// thread.
+/// thread; a [`SharedIndex`](crate::SharedIndex) is one that threads share.
 ///
 /// A key is anything that is bytes: `"apple"`, `b"apple"`, a `Vec<u8>`. A call that fails has changed no row, no commit
 /// and no view. Limits are tested before memory is taken: a call that breaks one never fails with
@@ -65,7 +65,7 @@ impl Index {
     /// [`BadColumn`](Error::BadColumn) or [`BadLimit`](Error::BadLimit) if an option is out of its bounds, and
     /// [`NoMemory`](Error::NoMemory).
     pub fn open(options: Options) -> Result<Index, Error> {
-        match Library::open(options.columns, options.feed, options.keep) {
+        match Library::open(options.columns, options.log_capacity, options.log_retention) {
             Ok(library) => Ok(Index { library }),
             Err(status) => Err(Error::of(status, 0)),
         }
@@ -242,7 +242,7 @@ impl Index {
     /// The call doesn't fail. An item of the iterator may be [`NoMemory`](Error::NoMemory), and the first one is
     /// [`KeyTooLong`](Error::KeyTooLong) if the key is that the range begins with. After an error the iterator ends.
     pub fn range(&self, range: impl KeyRange) -> Pairs<'_> {
-        Pairs::of_range(self, &range)
+        Pairs::of_range(Source::Own(self), &range)
     }
 
     /// All rows, in the order of their keys: see [`range`](Index::range).
@@ -274,7 +274,7 @@ impl Index {
     ///
     /// Those of [`range`](Index::range).
     pub fn prefix(&self, prefix: impl AsRef<[u8]>) -> Pairs<'_> {
-        Pairs::of_prefix(self, prefix.as_ref())
+        Pairs::of_prefix(Source::Own(self), prefix.as_ref())
     }
 
     /// The first rows from a key on, at most `limit` (1 to 1000), with the columns of these numbers in this order, or

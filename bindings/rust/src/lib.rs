@@ -17,8 +17,8 @@
 //! The crate links `librowanspan.a`, from the folder in the environment's `ROWANSPAN_DIST` or from its `lib`; without
 //! that, from the release or the checkout in which the crate is.
 //!
-//! An [`Index`] is `Send`: it may be moved to another thread, and threads share one by an `Arc<Mutex<Index>>`. It isn't
-//! `Sync`: the library takes one call at a time, also if both calls only read.
+//! An [`Index`] is `Send`: it may be moved to another thread. It isn't `Sync`: the library takes one call at a time,
+//! also if both calls only read. Threads share a [`SharedIndex`].
 //!
 //! ```compile_fail
 //! fn is_sync<T: Sync>() {}
@@ -35,14 +35,16 @@ mod options;
 mod range;
 #[allow(unsafe_code)]
 mod raw;
+mod shared;
 mod upkeep;
 mod views;
 
-pub use answers::{Delta, Page, Row};
+pub use answers::{Delta, Page, Row, Totals};
 pub use error::Error;
 pub use index::{Index, MAX_KEY_BYTES, MAX_LIMIT};
 pub use options::Options;
 pub use range::{KeyRange, Pairs};
+pub use shared::SharedIndex;
 pub use upkeep::Tidied;
 pub use views::{Keys, RowTest, View};
 

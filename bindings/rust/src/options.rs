@@ -1,12 +1,12 @@
 //! How an index is opened.
 
-/// How an index is opened. [`Options::default`] has one column, a log of 65,536 commits for views, and no commits that
-/// are kept. Each method changes one option.
+/// How an index is opened. [`Options::default`] has one column, a log that holds up to 65,536 commits for views, and no
+/// commits that are kept for no view. Each method changes one option.
 ///
 /// ```
 /// use rowanspan::{Error, Index, Options};
 ///
-/// let index = Index::open(Options::default().columns(4).keep(100))?;
+/// let index = Index::open(Options::default().columns(4).log_retention(100))?;
 /// assert_eq!(index.columns(), 4);
 /// # Ok::<(), Error>(())
 /// ```
@@ -16,9 +16,9 @@ pub struct Options {
     /// How many columns a row has: 1 to 16.
     pub columns: u64,
     /// How many commits the log may hold for the view that is furthest behind: 1 to 65,536.
-    pub feed: u64,
+    pub log_capacity: u64,
     /// How many of the last commits the log keeps for readers of [`Index::feed`](crate::Index::feed): at most 65,536.
-    pub keep: u64,
+    pub log_retention: u64,
 }
 
 impl Options {
@@ -36,21 +36,41 @@ impl Options {
     /// 65,536.
     ///
     /// ```
-    /// assert_eq!(rowanspan::Options::default().feed(4096).feed, 4096);
+    /// assert_eq!(rowanspan::Options::default().log_capacity(4096).log_capacity, 4096);
     /// ```
     #[must_use]
-    pub fn feed(self, feed: u64) -> Options {
-        Options { feed, ..self }
+    pub fn log_capacity(self, log_capacity: u64) -> Options {
+        Options {
+            log_capacity,
+            ..self
+        }
     }
 
     /// The same options, with a log that keeps this number of the last commits: at most 65,536.
     ///
     /// ```
-    /// assert_eq!(rowanspan::Options::default().keep(100).keep, 100);
+    /// assert_eq!(rowanspan::Options::default().log_retention(100).log_retention, 100);
     /// ```
     #[must_use]
+    pub fn log_retention(self, log_retention: u64) -> Options {
+        Options {
+            log_retention,
+            ..self
+        }
+    }
+
+    /// The former name of [`log_capacity`](Options::log_capacity).
+    #[deprecated(note = "its name is now log_capacity")]
+    #[must_use]
+    pub fn feed(self, feed: u64) -> Options {
+        self.log_capacity(feed)
+    }
+
+    /// The former name of [`log_retention`](Options::log_retention).
+    #[deprecated(note = "its name is now log_retention")]
+    #[must_use]
     pub fn keep(self, keep: u64) -> Options {
-        Options { keep, ..self }
+        self.log_retention(keep)
     }
 }
 
@@ -58,8 +78,8 @@ impl Default for Options {
     fn default() -> Options {
         Options {
             columns: 1,
-            feed: 65_536,
-            keep: 0,
+            log_capacity: 65_536,
+            log_retention: 0,
         }
     }
 }

@@ -3,6 +3,7 @@
 use crate::answers::Row;
 use crate::error::Error;
 use crate::index::{Index, MAX_KEY_BYTES, MAX_LIMIT};
+use crate::shared::SharedIndex;
 use std::iter::FusedIterator;
 use std::ops::{
     Bound, Range, RangeBounds, RangeFrom, RangeFull, RangeInclusive, RangeTo, RangeToInclusive,
@@ -83,11 +84,27 @@ fn after_key(key: &[u8]) -> Option<Vec<u8>> {
 // How many rows are read first; the next times four times as many, up to MAX_LIMIT.
 const FIRST_LIMIT: u16 = 32;
 
+/// The index that a range reads.
+#[derive(Clone, Copy, Debug)]
+pub(crate) enum Source<'a> {
+    Own(&'a Index),
+    Shared(&'a SharedIndex),
+}
+
+impl Source<'_> {
+    fn first(self, start: &[u8], limit: u16) -> Result<Vec<(Vec<u8>, Row)>, Error> {
+        match self {
+            Source::Own(index) => index.first(start, limit, &[]),
+            Source::Shared(index) => index.first(start, limit, &[]),
+        }
+    }
+}
+
 /// The rows of a range, in the order of their keys: see [`Index::range`] and [`Index::prefix`]. After an error it ends.
 #[derive(Debug)]
 #[must_use = "an iterator reads no rows before it is asked for them"]
 pub struct Pairs<'a> {
-    index: &'a Index,
+    source: Source<'a>,
     // the key from which the next rows are read, if there may be more
     next: Option<Vec<u8>>,
     end: Bound<Vec<u8>>,
@@ -96,24 +113,24 @@ pub struct Pairs<'a> {
 }
 
 impl<'a> Pairs<'a> {
-    pub(crate) fn of_range(index: &'a Index, range: &impl KeyRange) -> Pairs<'a> {
+    pub(crate) fn of_range(source: Source<'a>, range: &impl KeyRange) -> Pairs<'a> {
         let (start, end) = range.bounds();
         let next = match start {
             Bound::Included(key) => Some(key),
             Bound::Excluded(key) => after_key(&key),
             Bound::Unbounded => Some(Vec::new()),
         };
-        Pairs::new(index, next, end)
+        Pairs::new(source, next, end)
     }
 
-    pub(crate) fn of_prefix(index: &'a Index, prefix: &[u8]) -> Pairs<'a> {
+    pub(crate) fn of_prefix(source: Source<'a>, prefix: &[u8]) -> Pairs<'a> {
         let end = after_prefix(prefix).map_or(Bound::Unbounded, Bound::Excluded);
-        Pairs::new(index, Some(prefix.to_vec()), end)
+        Pairs::new(source, Some(prefix.to_vec()), end)
     }
 
-    fn new(index: &'a Index, next: Option<Vec<u8>>, end: Bound<Vec<u8>>) -> Pairs<'a> {
+    fn new(source: Source<'a>, next: Option<Vec<u8>>, end: Bound<Vec<u8>>) -> Pairs<'a> {
         Pairs {
-            index,
+            source,
             next,
             end,
             limit: FIRST_LIMIT,
@@ -130,7 +147,7 @@ impl<'a> Pairs<'a> {
     }
 
     fn read_more(&mut self, from: &[u8]) -> Result<(), Error> {
-        let mut pairs = self.index.first(from, self.limit, &[])?;
+        let mut pairs = self.source.first(from, self.limit)?;
         if pairs.len() == usize::from(self.limit) {
             self.next = pairs.last().and_then(|(key, _)| after_key(key));
             self.limit = self.limit.saturating_mul(4).min(MAX_LIMIT);

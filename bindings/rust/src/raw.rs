@@ -54,13 +54,41 @@ impl<'a> ViewTest<'a> {
     }
 }
 
+/// A sum of up to 128 bits, as its halves.
+#[repr(C)]
+#[derive(Clone, Copy, Default)]
+struct Sum {
+    upper: u64,
+    lower: u64,
+}
+
+/// The totals of a view, as the library writes them.
+#[repr(C)]
+#[derive(Default)]
+pub(crate) struct ViewTotals {
+    pub(crate) commit: u64,
+    pub(crate) row_count: u64,
+    sum_count: usize,
+    sums: [Sum; 16],
+}
+
+impl ViewTotals {
+    pub(crate) fn sums(&self) -> Vec<u128> {
+        self.sums
+            .iter()
+            .take(self.sum_count)
+            .map(|sum| u128::from(sum.upper) << 64 | u128::from(sum.lower))
+            .collect()
+    }
+}
+
 type Handle = *mut Opened;
 type Number = *mut u64;
 
 #[rustfmt::skip]
 extern "C" {
     fn rowanspan_version() -> *const c_char;
-    fn rowanspan_open(index: *mut Handle, columns: u64, feed: u64, keep: u64) -> c_uint;
+    fn rowanspan_open(index: *mut Handle, columns: u64, log_capacity: u64, log_retention: u64) -> c_uint;
     fn rowanspan_close(index: Handle);
     fn rowanspan_put(index: Handle, key: *const u8, key_length: usize, sets: *const ColumnSet<'_>, count: usize,
                      commit: Number) -> c_uint;
@@ -82,6 +110,7 @@ extern "C" {
                                test: ViewTest<'_>, view: Number) -> c_uint;
     fn rowanspan_view(index: Handle, view: u64, floor: u64, start: *const u8, start_length: usize, limit: u16,
                       into: *mut u8, room: usize, length: Number) -> c_uint;
+    fn rowanspan_totals(index: Handle, view: u64, floor: u64, totals: *mut ViewTotals) -> c_uint;
     fn rowanspan_apply(index: Handle, view: u64, commit: Number) -> c_uint;
     fn rowanspan_keep_views(index: Handle, applied: Number) -> c_uint;
     fn rowanspan_drop(index: Handle, view: u64) -> c_uint;
@@ -135,10 +164,10 @@ macro_rules! answered {
 #[rustfmt::skip]
 impl Library {
     /// An empty index, or the status of an error.
-    pub(crate) fn open(columns: u64, feed: u64, keep: u64) -> Result<Library, u32> {
+    pub(crate) fn open(columns: u64, log_capacity: u64, log_retention: u64) -> Result<Library, u32> {
         let mut index = std::ptr::null_mut();
         // SAFETY: the address is that of a variable.
-        let status = unsafe { rowanspan_open(&mut index, columns, feed, keep) };
+        let status = unsafe { rowanspan_open(&mut index, columns, log_capacity, log_retention) };
         NonNull::new(index).map(|index| Library { index }).ok_or(status)
     }
 
@@ -186,6 +215,12 @@ impl Library {
 
     pub(crate) fn view(&self, view: u64, floor: u64, start: &[u8], limit: u16, into: &mut [u8]) -> (u32, u64) {
         answered!(self, rowanspan_view, view, floor, start.as_ptr(), start.len(), limit, into.as_mut_ptr(), into.len())
+    }
+
+    pub(crate) fn totals(&self, view: u64, floor: u64) -> (u32, ViewTotals) {
+        let mut totals = ViewTotals::default();
+        let status = call!(self, rowanspan_totals, view, floor, &mut totals);
+        (status, totals)
     }
 
     pub(crate) fn feed(&self, from: u64, limit: u16, into: &mut [u8]) -> (u32, u64) {

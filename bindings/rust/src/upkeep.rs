@@ -25,7 +25,7 @@ impl Index {
     ///
     /// ```
     /// # use rowanspan::{Error, Index, Options};
-    /// let mut index = Index::open(Options::default().keep(100))?;
+    /// let mut index = Index::open(Options::default().log_retention(100))?;
     /// index.put("apple", &[(0, b"red")])?;
     /// index.remove("apple")?;
     /// let deltas = index.feed(1, 10)?;

@@ -1,6 +1,6 @@
 //! Views of an index, and its calls for them.
 
-use crate::answers::Page;
+use crate::answers::{Page, Totals};
 use crate::calls::{done, some_answer, CURRENT};
 use crate::error::Error;
 use crate::index::Index;
@@ -165,6 +165,32 @@ impl Index {
             },
             |mut reader| reader.page(),
         )
+    }
+
+    /// The totals of a view if it is at commit `floor` or later: those of its pages. No row is read, and the library
+    /// takes no memory.
+    ///
+    /// ```
+    /// # use rowanspan::{Error, Index, Keys, Options, RowTest};
+    /// # let mut index = Index::open(Options::default())?;
+    /// index.put("apple", &[(0, b"\x05")])?;
+    /// let view = index.build(Keys::Prefix(b"a"), RowTest::Any)?;
+    /// let totals = index.totals(view, 1)?;
+    /// assert_eq!((totals.at, totals.count, &totals.sums[..]), (1, 1, &[5][..]));
+    /// assert_eq!(index.totals(view, 2), Err(Error::Behind(1)));
+    /// # Ok::<(), Error>(())
+    /// ```
+    ///
+    /// # Errors
+    ///
+    /// [`Behind`](Error::Behind) if the view is before the floor, and [`NoSuchView`](Error::NoSuchView).
+    pub fn totals(&self, view: View, floor: u64) -> Result<Totals, Error> {
+        let (status, totals) = self.library.totals(view.number(), floor);
+        done((status, totals.commit)).map(|at| Totals {
+            at,
+            count: totals.row_count,
+            sums: totals.sums(),
+        })
     }
 
     /// Ends a view.

@@ -2,7 +2,6 @@
 
 use rowanspan::{Delta, Error, Index, Keys, Options, Row, RowTest, Tidied, View, MAX_KEY_BYTES};
 use std::collections::{BTreeMap, HashSet};
-use std::sync::{Arc, Mutex};
 use std::thread;
 
 fn row(version: u64, columns: &[&[u8]]) -> Row {
@@ -58,24 +57,33 @@ fn conditional_puts() -> Result<(), Error> {
 }
 
 fn two() -> Options {
-    Options::default().columns(2).feed(2).keep(1)
+    Options::default()
+        .columns(2)
+        .log_capacity(2)
+        .log_retention(1)
 }
 
 #[test]
 fn options() {
     let options = two();
-    assert_eq!((options.columns, options.feed, options.keep), (2, 2, 1));
+    assert_eq!(
+        (options.columns, options.log_capacity, options.log_retention),
+        (2, 2, 1)
+    );
     let default = Options::default();
     assert_eq!(
-        (default.columns, default.feed, default.keep),
+        (default.columns, default.log_capacity, default.log_retention),
         (1, 65_536, 0)
     );
+    #[allow(deprecated)]
+    let former = Options::default().columns(2).feed(2).keep(1);
+    assert_eq!(former, options);
     for (wrong, error) in [
         (two().columns(0), Error::BadColumn),
         (two().columns(17), Error::BadColumn),
-        (two().feed(0), Error::BadLimit),
-        (two().feed(65_537), Error::BadLimit),
-        (two().keep(65_537), Error::BadLimit),
+        (two().log_capacity(0), Error::BadLimit),
+        (two().log_capacity(65_537), Error::BadLimit),
+        (two().log_retention(65_537), Error::BadLimit),
     ] {
         assert_eq!(Index::open(wrong).err(), Some(error), "{wrong:?}");
     }
@@ -111,6 +119,7 @@ fn refusals_of_views() -> Result<(), Error> {
     assert_eq!(index.put(b"b", &[])?, 2);
     assert_eq!(index.put(b"c", &[]), Err(Error::FeedFull(0)));
     assert_eq!(index.view(view, 1, b"", 1), Err(Error::Behind(0)));
+    assert_eq!(index.totals(view, 1), Err(Error::Behind(0)));
     assert_eq!(index.apply(Some(view))?, Some(1));
     assert_eq!(index.keep_views()?, 1);
     assert_eq!(index.keep_views()?, 0);
@@ -120,6 +129,7 @@ fn refusals_of_views() -> Result<(), Error> {
     index.drop_view(view)?;
     assert_eq!(index.drop_view(view), Err(Error::NoSuchView));
     assert_eq!(index.view(view, 0, b"", 1), Err(Error::NoSuchView));
+    assert_eq!(index.totals(view, 9), Err(Error::NoSuchView));
     assert_eq!(index.apply(Some(view)), Err(Error::NoSuchView));
     let built = (0..64)
         .map(|_| index.build(Keys::Prefix(b"z"), RowTest::Any))
@@ -134,7 +144,7 @@ fn refusals_of_views() -> Result<(), Error> {
 
 #[test]
 fn views_and_feeds() -> Result<(), Error> {
-    let mut index = Index::open(Options::default().keep(9))?;
+    let mut index = Index::open(Options::default().log_retention(9))?;
     index.put(b"a1", &[(0, &[255; 8])])?;
     let all = index.build(Keys::Prefix(b"a"), RowTest::Any)?;
     let large = index.build(Keys::Between(b"a", b"b"), RowTest::AtLeast(0, 8))?;
@@ -147,6 +157,11 @@ fn views_and_feeds() -> Result<(), Error> {
         (2, 2, &[u128::from(u64::MAX) + 7][..])
     );
     assert_eq!(page.rows, [(b"a2".to_vec(), row(2, &[b"\x07"]))]);
+    let totals = index.totals(all, 2)?;
+    assert_eq!(
+        (totals.at, totals.count, totals.sums),
+        (page.at, page.count, page.sums)
+    );
     assert_eq!(
         (
             index.view(large, 2, b"", 9)?.count,
@@ -241,31 +256,6 @@ fn another_thread() -> Result<(), Error> {
     });
     let index = moved.join().expect("the thread ends")?;
     assert_eq!(index.get(b"pear")?, Some(row(2, &[b"green"])));
-    Ok(())
-}
-
-#[test]
-fn threads_by_a_lock() -> Result<(), Error> {
-    let shared = Arc::new(Mutex::new(Index::open(Options::default())?));
-    let threads: Vec<_> = (0..4u8)
-        .map(|number| {
-            let shared = Arc::clone(&shared);
-            thread::spawn(move || -> Result<(), Error> {
-                for count in 0..250u8 {
-                    let mut index = shared.lock().expect("no thread panics");
-                    index.put([number, count], &[(0, &[count])])?;
-                    let found = index.get([number, count / 2])?.expect("it was put");
-                    assert_eq!(found.columns, [[count / 2]]);
-                }
-                Ok(())
-            })
-        })
-        .collect();
-    for thread in threads {
-        thread.join().expect("the thread ends")?;
-    }
-    let index = shared.lock().expect("no thread panics");
-    assert_eq!((index.commits(), index.range(..).count()), (1000, 1000));
     Ok(())
 }
 

@@ -10,8 +10,8 @@ __all__ = [
     "MAX_KEY_BYTES", "MAX_LIMIT", "MAX_NUMBER", "RowanspanError", "TooLong", "Closed", "WrongIndex", "NoLibrary",
     "ConnectionLost", "BadReply", "Unanswered", "Refused", "NoMemory", "KeyTooLong", "BadColumn", "ColumnTooLong",
     "BadLimit", "ArenaFull", "FeedFull", "TooManyCalls", "NoSuchCall", "TooManyViews", "NoSuchView", "Behind",
-    "BadRange", "Spent", "WrongPass", "OtherVersion", "REFUSALS", "ViewNo", "Row", "Pairs", "Page", "Delta", "Tidied",
-    "AnyRow", "Equals", "AtLeast", "RowTest", "Range", "Prefix", "ViewSpec", "Sets", "set_pairs", "key_after",
+    "BadRange", "Spent", "WrongPass", "OtherVersion", "REFUSALS", "ViewNo", "Row", "Pairs", "Page", "Totals", "Delta",
+    "Tidied", "AnyRow", "Equals", "AtLeast", "RowTest", "Range", "Prefix", "ViewSpec", "Sets", "set_pairs", "key_after",
 ]
 
 MAX_KEY_BYTES = 1024
@@ -95,8 +95,8 @@ class ColumnTooLong(Refused, TooLong):
 
 
 class BadLimit(Refused, ValueError):
-    """A limit is not from 1 to 1000; or an embedded index was to be opened, and `feed` is not from 1 to 65536, or
-    `keep` is over 65536."""
+    """A limit is not from 1 to 1000; or an embedded index was to be opened, and `log_capacity` is not from 1 to 65536,
+    or `log_retention` is over 65536."""
 
     number, cause = 5, "a limit is not from 1 to 1000, or an option is out of its bounds"
 
@@ -170,6 +170,16 @@ class Page:
     count: int
     sums: Tuple[int, ...]
     rows: Pairs
+
+
+@dataclass(frozen=True)
+class Totals:
+    """The totals of a view: the number of commits at which it is, how many rows it has then, and for each column the
+    sum of its amounts, as of a `Page`."""
+
+    at: int
+    count: int
+    sums: Tuple[int, ...]
 
 
 @dataclass(frozen=True)

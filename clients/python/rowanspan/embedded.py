@@ -30,12 +30,12 @@ from . import core, mapping
 # (the names that both list in their `__all__` are names of this module too)
 from .core import *  # noqa: F401,F403
 from .core import (MAX_LIMIT, REFUSALS, Closed, Delta, NoLibrary, Page, Pairs, Prefix, Refused, Row, Sets, Tidied,
-                   ViewNo, ViewSpec, checked_limit, checked_number, checked_spec, checked_view)
-from .former import client_of, is_of_client, signature_of
+                   Totals, ViewNo, ViewSpec, checked_limit, checked_number, checked_spec, checked_view)
+from .former import client_of, is_of_client, options_of, signature_of
 from .library import (ABSENT, CLOSED, CURRENT, DONE, NO_ROOM, U64, Handle, Reader, column_numbers, column_sets, loaded,
                       spelled, view_test)
 from .mapping import *  # noqa: F401,F403
-from .mapping import RowMap, Totals, View, number_of_view
+from .mapping import RowMap, View, number_of_view
 from .native import calls_of
 
 __all__ = ["Index"]
@@ -49,15 +49,17 @@ FIRST_ROOM = 4096
 class Index(RowMap):
     """An index in this process.
 
-    It has `columns` columns (1 to 16). Its log holds up to `feed` commits (1 to 65536) for the view that is furthest
-    behind, and keeps the last `keep` for `feed`. Each change and each build brings the views to the newest commit,
-    unless `keep_views` is False: then `apply` and the method `keep_views` do.
+    It has `columns` columns (1 to 16). Its log holds up to `log_capacity` commits (1 to 65536) for the view that is
+    furthest behind, and keeps the last `log_retention` for `feed`. Each change and each build brings the views to the
+    newest commit, unless `keep_views` is False: then `apply` and the method `keep_views` do.
 
     A change that was made returns its number, also if memory ended before all views were at the newest commit. The
     views then lag, and the next change or build, or `keep_views`, brings them up to date.
 
-    Any thread may call it, and close it. Calls run one after another: a call waits until that of another thread has
-    ended. During a call of the library by ctypes, other threads of the program run.
+    Any thread may call it, and close it. The index has a lock of its own, so calls run one after another, also those
+    that only read: a call waits until that of another thread has ended. During a call of the library by ctypes, other
+    threads of the program run. The extension module keeps the interpreter's lock: its calls are shorter than a change
+    of threads, but for a page or a range of many rows.
     """
 
     def __new__(cls, *arguments: Any, **named: Any) -> Any:
@@ -66,9 +68,11 @@ class Index(RowMap):
             return client_of(arguments, named)
         return super().__new__(cls)
 
-    def __init__(self, columns: int = 1, feed: int = 65536, keep: int = 0, *, keep_views: bool = True,
-                 library: Optional[Union[str, Path]] = None) -> None:
-        asked = checked_number(columns, "columns"), checked_number(feed, "feed"), checked_number(keep, "keep")
+    def __init__(self, columns: int = 1, log_capacity: int = 65536, log_retention: int = 0, *, keep_views: bool = True,
+                 library: Optional[Union[str, Path]] = None, **former: int) -> None:
+        capacity, retention = options_of(log_capacity, log_retention, former)
+        asked = (checked_number(columns, "columns"), checked_number(capacity, "log_capacity"),
+                 checked_number(retention, "log_retention"))
         self._library = loaded(library)
         self._handle = Handle()
         # the calls of the extension module: each returns NotImplemented if it has done nothing
@@ -244,9 +248,11 @@ class Index(RowMap):
         return self._answer("view", checked_view(number), checked_number(floor, "a floor"),
                             *spelled(start, "a key"), checked_limit(limit)).page()
 
-    def _totals(self, number: int) -> Totals:
-        totals: Totals = self._native.totals(number)
-        return super()._totals(number) if totals is NotImplemented else totals
+    def _totals(self, number: int, floor: int) -> Totals:
+        totals = self._native.totals(number, floor)
+        if totals is not NotImplemented:
+            return Totals(*totals)
+        return self._answer("totals", checked_view(number), checked_number(floor, "a floor")).totals()
 
     def _drop(self, number: int) -> None:
         self._number("drop", checked_view(number))

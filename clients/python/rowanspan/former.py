@@ -1,9 +1,10 @@
-"""For one release: calls of `rowanspan.Index` as they were when that was the client of a server."""
+"""For one release: calls of `rowanspan.Index` as they were when that was the client of a server, and its options by
+their former names."""
 from __future__ import annotations
 
 import inspect
 import warnings
-from typing import Any, Callable, Mapping, Sequence
+from typing import Any, Callable, Mapping, Sequence, Tuple
 
 from .client import Client
 
@@ -29,7 +30,23 @@ def client_of(arguments: Sequence[Any], named: Mapping[str, Any]) -> Client:
     return Client(*arguments, **named)
 
 
+FORMER_OPTIONS = {"feed": "log_capacity", "keep": "log_retention"}
+
+
+def options_of(capacity: int, retention: int, named: Mapping[str, Any]) -> Tuple[int, int]:
+    """The bounds of an index's log, of which `named` may have some by their former names. Warns the caller of the class
+    that calls this, and raises TypeError for any other name."""
+    for name in named:
+        if name not in FORMER_OPTIONS:
+            raise TypeError(f"Index.__init__() got an unexpected keyword argument {name!r}")
+    for name in named:
+        warnings.warn(f"the option {name} of rowanspan.Index is now {FORMER_OPTIONS[name]}", DeprecationWarning,
+                      stacklevel=3)
+    return named.get("feed", capacity), named.get("keep", retention)
+
+
 def signature_of(init: Callable[..., None]) -> inspect.Signature:
-    """The signature of a class by its `__init__`, if its `__new__` takes other arguments too."""
+    """The signature of a class by its `__init__`, without former names, if its `__new__` takes other arguments too."""
     made = inspect.signature(init)
-    return made.replace(parameters=list(made.parameters.values())[1:])
+    own = list(made.parameters.values())[1:]
+    return made.replace(parameters=[one for one in own if one.kind is not inspect.Parameter.VAR_KEYWORD])

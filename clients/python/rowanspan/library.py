@@ -7,8 +7,8 @@ from pathlib import Path
 from types import SimpleNamespace
 from typing import Any, Callable, Dict, List, Optional, Sequence, Tuple, TypeVar, Union
 
-from .core import (AtLeast, Delta, Equals, NoLibrary, Page, Pairs, Row, RowTest, Sets, checked_bytes, checked_column,
-                   checked_columns, checked_number, checked_test, set_pairs)
+from .core import (AtLeast, Delta, Equals, NoLibrary, Page, Pairs, Row, RowTest, Sets, Totals, checked_bytes,
+                   checked_column, checked_columns, checked_number, checked_test, set_pairs)
 from .places import PACKAGE, checkout, none_at
 
 Value = TypeVar("Value")
@@ -54,10 +54,13 @@ class Reader:
     def pairs(self) -> Pairs:
         return self.items(self.pair)
 
-    def page(self) -> Page:
+    def totals(self) -> Totals:
         at, count = self.number(), self.number()
-        sums = tuple(self.items(lambda: self.number() << 64 | self.number()))
-        return Page(at, count, sums, self.pairs())
+        return Totals(at, count, tuple(self.items(lambda: self.number() << 64 | self.number())))
+
+    def page(self) -> Page:
+        totals = self.totals()
+        return Page(totals.at, totals.count, totals.sums, self.pairs())
 
     def delta(self) -> Delta:
         number, key = self.number(), self.string()
@@ -106,6 +109,7 @@ PARAMETERS: Dict[str, List[Any]] = {
     "build_from": [*BYTES, ctypes.POINTER(ViewTest)],
     "build_between": [*BYTES, *BYTES, ctypes.POINTER(ViewTest)],
     "view": [U64, U64, *BYTES, U16, *ROOM],
+    "totals": [U64, U64, *ROOM],
     "feed": [U64, U16, *ROOM],
     "apply": [U64],
     "drop": [U64],

@@ -5,8 +5,8 @@ import abc
 import enum
 from typing import Any, Callable, Iterator, Optional, Sequence, Tuple, Type, TypeVar, Union, overload
 
-from .core import (MAX_LIMIT, NoSuchView, OtherVersion, Page, Pairs, RowanspanError, Row, Sets, Tidied, ViewNo,
-                   ViewSpec, WrongIndex, checked_bytes, checked_columns, checked_count, checked_key,
+from .core import (MAX_LIMIT, NoSuchView, OtherVersion, Page, Pairs, RowanspanError, Row, Sets, Tidied, Totals,
+                   ViewNo, ViewSpec, WrongIndex, checked_bytes, checked_columns, checked_count, checked_key,
                    checked_number, checked_view, key_after, prefix_end, set_pairs)
 
 __all__ = ["RowMap", "View"]
@@ -16,7 +16,6 @@ FIRST_ROWS = 60
 
 Default = TypeVar("Default")
 RowPairs = Iterator[Tuple[bytes, Row]]
-Totals = Tuple[int, int, Tuple[int, ...]]
 
 
 class NoDefault(enum.Enum):
@@ -195,10 +194,10 @@ class RowMap(abc.ABC):
     def _page(self, number: int, floor: int, start: bytes, limit: int) -> Page:
         """A page of a view."""
 
-    def _totals(self, number: int) -> Totals:
-        """What a page of a view has but for its rows: `at`, `count` and `sums`."""
-        page = self._page(number, 0, b"", 1)
-        return page.at, page.count, page.sums
+    def _totals(self, number: int, floor: int) -> Totals:
+        """The totals of a view: here those of a page with the fewest rows that there are."""
+        page = self._page(number, floor, b"", 1)
+        return Totals(page.at, page.count, page.sums)
 
     @abc.abstractmethod
     def _drop(self, number: int) -> None:
@@ -220,8 +219,8 @@ class View:
         with index.build(Prefix(b"p")) as view:
             print(view.count, view.sums)
 
-    `count`, `sums` and `at` ask one page each; those of one `page` are of the same commit. A view ends by `drop`, or at
-    the end of its `with` block.
+    `count`, `sums` and `at` ask for the totals each; those of one `totals` or `page` are of the same commit. A view
+    ends by `drop`, or at the end of its `with` block.
     """
 
     # without it `key in view` would read all rows, and compare the key with pairs
@@ -258,20 +257,25 @@ class View:
         show them yet, raises `Behind`: ask again."""
         return self._index._page(self._number, floor, start, limit)
 
+    def totals(self, floor: int = 0) -> Totals:
+        """Its number of commits, its count and its sums, all at one commit; no row is read of an embedded index.
+        `floor` is as of `page`."""
+        return self._index._totals(self._number, floor)
+
     @property
     def at(self) -> int:
         """The number of commits that it shows now."""
-        return self._index._totals(self._number)[0]
+        return self.totals().at
 
     @property
     def count(self) -> int:
         """How many rows it has now."""
-        return self._index._totals(self._number)[1]
+        return self.totals().count
 
     @property
     def sums(self) -> Tuple[int, ...]:
         """For each column the sum of its amounts now."""
-        return self._index._totals(self._number)[2]
+        return self.totals().sums
 
     def rows(self, floor: int = 0, start: bytes = b"") -> RowPairs:
         """Its rows from the key `start` on, page by page. Returns an iterator over pairs of a key and its row. Each

@@ -18,7 +18,7 @@ from .places import PACKAGE, checkout
 SUFFIX = ".abi3.so"
 NAME = f"_native{SUFFIX}"
 # the functions of the library that it calls
-FUNCTIONS = ("get", "put", "put_if", "remove", "range", "view", "apply")
+FUNCTIONS = ("get", "put", "put_if", "remove", "range", "view", "totals", "apply")
 
 
 class NoCalls:
@@ -33,7 +33,7 @@ class NoCalls:
     def view(self, number: Any, floor: Any, start: Any, limit: Any) -> Any:
         return NotImplemented
 
-    def totals(self, number: Any) -> Any:
+    def totals(self, number: Any, floor: Any) -> Any:
         return NotImplemented
 
     def put(self, index: Any, key: Any, sets: Any) -> Any:

@@ -101,8 +101,10 @@ module _ (s : MachineView) (view floor : ℕ) (old new : List ℕ) (status told 
       → HandsOut (totals_spelling (page_of_state state [] 1)) old new status told → IsTotalled
   state_totalled state there above hands = (
     Ok (Some (totals_spelling (page_of_state state [] 1))),
-    (page_of_state state [] 1,
+    (
+      page_of_state state [] 1,
       subst (λ (found : Option StateView). ReadsPage (page_fault [] 1) found floor [] 1 (View (page_of_state state [] 1))) (sym there) (inr (above, inl refl)),
-      refl),
+      refl,
+    ),
     hands,
   )
