@@ -17,6 +17,8 @@ mod scripts;
 #[cfg(test)]
 mod sessions;
 #[cfg(test)]
+mod talks;
+#[cfg(test)]
 mod tidying;
 #[cfg(test)]
 mod views;

@@ -11,7 +11,7 @@ use mt_streams::sink::Sink;
 use std::alloc::Global;
 use std::test::Fail;
 
-const OPTIONS: Options = Options {
+pub(crate) const OPTIONS: Options = Options {
     columns: 1,
     log_capacity: 4096,
     log_retention: 0,
@@ -19,14 +19,14 @@ const OPTIONS: Options = Options {
 };
 
 // A put of 76 into column 0 of key 61, and a get of that key.
-const ASKED: &[u8] = b"\0\0\0\x0f\x01\x02\x02\0\x01a\x01\0\x01v\x01\0\x01a\0";
+pub(crate) const ASKED: &[u8] = b"\0\0\0\x0f\x01\x02\x02\0\x01a\x01\0\x01v\x01\0\x01a\0";
 
 // What an empty index answers: commit 1, and the row of version 1.
-const ANSWERED: &[u8] =
+pub(crate) const ANSWERED: &[u8] =
     b"\0\0\0\x37\x01\x02\x03\0\0\0\0\0\0\0\0\0\0\0\0\0\0\0\x01\0\0\0\0\0\0\0\x01\x02\0\0\0\0\0\0\0\x01\0\0\0\0\0\0\0\x01\0\0\0\0\0\0\0\x01\x01\x01v";
 
 // The same frame once more: commit 2, and the row of version 2.
-const ANSWERED_AGAIN: &[u8] =
+pub(crate) const ANSWERED_AGAIN: &[u8] =
     b"\0\0\0\x37\x01\x02\x03\0\0\0\0\0\0\0\x01\0\0\0\0\0\0\0\x02\0\0\0\0\0\0\0\x02\x02\0\0\0\0\0\0\0\x02\0\0\0\0\0\0\0\x02\0\0\0\0\0\0\0\x02\x01\x01v";
 
 // In version 2, a put of 76 into column 0 of key 61 if it has no row, and the same if its row is of version 7.
@@ -88,7 +88,7 @@ fn run(alloc: Global, input: &[u8], plan: Plan) -> Result<Ran, Fail> {
     serve(alloc, &mut lone, &mut pass, input, plan)
 }
 
-fn joined(alloc: Global, parts: &[&[u8]]) -> Result<Vec<u8>, Fail> {
+pub(crate) fn joined(alloc: Global, parts: &[&[u8]]) -> Result<Vec<u8>, Fail> {
     let mut bytes = Vec::new(alloc);
     for part in parts {
         bytes.extend_from_slice(part)?;
@@ -224,6 +224,20 @@ fn faults_between_frames(rt: HostRuntime) -> Result<(), Fail> {
     let ran = run(rt.alloc(), &twice, plan)?;
     assert!(rt; ran.ended == Err(SessionFault::Write));
     assert_eq!(rt; ran.written.as_slice(), &ANSWERED[..10]);
+    Ok(())
+}
+
+// Two good frames, a bad one and a good one in one piece: the first two are answered, and nothing after them.
+#[test]
+fn bad_frame_after_good_ones(rt: HostRuntime) -> Result<(), Fail> {
+    let bad = b"\0\0\0\x02\x03\x01".as_slice();
+    let input = joined(rt.alloc(), &[ASKED, ASKED, bad, ASKED])?;
+    let both = joined(rt.alloc(), &[ANSWERED, ANSWERED_AGAIN])?;
+    let (mut lone, mut pass) = Lone::start(rt.alloc(), OPTIONS)?;
+    let ran = serve(rt.alloc(), &mut lone, &mut pass, &input, WHOLE)?;
+    assert!(rt; ran.ended == Err(SessionFault::BadVersion));
+    assert_eq!(rt; ran.written.as_slice(), both.as_slice());
+    assert_eq!(rt; pass.seen(), 2);
     Ok(())
 }
 

@@ -1,5 +1,5 @@
 -- Queries, frames that have been answered so far.
-use Rattle.std.proofs.Common.{◌≡◌, inl, inr, ℕ, suc, ◌+◌, ◌*◌, ◌≤◌, List, [], ◌∷◌, ◌++◌, length, fold, refl, ap, subst, sym, ◌∙◌, arith, append_assoc, append-nil, length-append, Option, None, Some, IfSome, Bool, true, false}
+use Rattle.std.proofs.Common.{◌≡◌, ◌≢◌, inl, inr, ℕ, suc, ◌+◌, ◌*◌, ◌≤◌, List, [], ◌∷◌, ◌++◌, length, fold, refl, ap, subst, sym, ◌∙◌, arith, append_assoc, append-nil, length-append, Option, None, Some, IfSome, Bool, true, false}
 use Rattle.std.specs.Prelude.{sum_by, ⊤, Result, Ok, Err, IfOk, MatchBool}
 use Rattle.std.specs.List.{AllByRecursion}
 use Rattle.std.specs.Io.KnownBytes.{Appends}
@@ -29,9 +29,10 @@ use Rattle.mt_types.specs.declared.view.Page.{Page}
 use Rattle.mt_wire.specs.Limited.{ResponseIsLimited}
 use Rattle.mt_wire.specs.Frames.{Holds, RequestsFit, request_frame, reply_frame}
 use Rattle.mt_serve.specs.declared.fault.SessionFault.{SessionFault}
+use Rattle.mt_serve.specs.declared.fault.SessionFault.TheVariants.{Write, NoMemory}
 use Rattle.mt_serve.specs.declared.session.Summary.{Summary}
 use Rattle.mt_serve.specs.Asking.{Answers, AnswersAll, AnswersFrame, AnswersFrames, Follows, KeepsViews, call_response, changes, drop_response, end_changes, page_response}
-use Rattle.mt_serve.specs.Sources.{LosesFrame}
+use Rattle.mt_serve.specs.Sources.{LosesFrame, StopsAt}
 use Rattle.mt_serve.specs.Sessions.{HasServed, IsBroken, BreaksIn, requests_of, replies_of}
 
 -- one query more
@@ -234,6 +235,33 @@ broken_in does shows pages looks s m t p r q input old now new next unread out s
   pass = r;
   served = h.served;
   breaks = inr (frame, fits, front_of frame now next lost, breaks);
+}
+
+-- when memory ran out in a frame: a front of its queries was done
+abbrev pub StopsIn : {S : Type 0} → EventLaw S → ReadLaw S → PageLaw S → LookLaw S → S → PassView → Frame Query → S → PassView → Type 0
+StopsIn does shows pages looks s p frame t q =
+    (done : List Query) × (undone : List Query) × (responses : List Response) × (frame.messages ≡ done ++ undone) × AnswersAll does shows pages looks s p done responses t q
+
+-- it broke off before a frame was answered
+pub broken_at : {S : Type 0} (does : EventLaw S) (shows : ReadLaw S) (pages : PageLaw S) (looks : LookLaw S) (s m t : S) (p r q : PassView) (input old now new unread : Option (List ℕ)) (summary : Summary) (fault : SessionFault)
+    → Serving does shows pages looks s p input old summary now new m r → fault ≢ Write → StopsAt (StopsIn does shows pages looks) m r now fault unread t q → IsBroken does shows pages looks s p input old fault unread new t q
+broken_at does shows pages looks s m t p r q input old now new unread summary fault h other stops = record {
+  frames = h.frames;
+  rest = now;
+  between = new;
+  shared = m;
+  pass = r;
+  served = h.served;
+  breaks = elim stops [
+    | inl h ↦ inl (other, h.0, refl, h.1, h.2)
+    | inr h ↦ inr (
+      h.1.0,
+      h.1.1,
+      h.1.2,
+      subst (λ (f : SessionFault). BreaksIn does shows pages looks m r f h.1.0 new new t q) (sym h.0)
+          (h.1.3.0, h.1.3.1, h.1.3.2, h.1.3.3, h.1.3.4, refl),
+    )
+  ];
 }
 
 -- one query of a frame is answered

@@ -3,7 +3,7 @@ use Rattle.std.specs.List.{AllByRecursion}
 use Rattle.mt_wire.specs.declared.query.Query.{Query}
 use Rattle.mt_wire.specs.Limited.{ResponseIsLimited}
 use Rattle.mt_serve.specs.Asking.{AnswersAll}
-use Rattle.mt_serve.proofs.session.answer_each.Given as goal
+use Rattle.mt_serve.proofs.answerer.answer_each.Given as goal
 
 -- the queries that were taken so far are answered
 abbrev pub invariant-loop-query : goal.invariant-loop-query

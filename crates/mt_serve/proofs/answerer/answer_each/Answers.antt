@@ -2,7 +2,7 @@ use Rattle.std.proofs.Common.{◌++◌, ◌∷◌, [], subst}
 use Rattle.std.proofs.lemmas.Result.{err_from_is_err_and}
 use Rattle.mt_serve.specs.Asking.{Answers}
 use Rattle.mt_serve.proofs.ServingLemmas.{answered_more, limited_more}
-use Rattle.mt_serve.proofs.session.answer_each.Goals as goal
+use Rattle.mt_serve.proofs.answerer.answer_each.Goals as goal
 
 pub loop-query-preserved : goal.loop-query-preserved
 loop-query-preserved g c = rw c.in_ok-push.ensures.items (record {
