@@ -16,9 +16,9 @@ use crate::changing::{answer, change, meet};
 use crate::handle::{Handle, opened};
 use crate::reading::{Question, get};
 use crate::status::{CLOSED, DONE, HELD};
-use mt_index::options::Options;
 use mt_asked::asked::Asked;
 use mt_asked::borrowed::Set;
+use mt_index::options::Options;
 use mt_types::event::Event;
 use std::alloc::Global;
 
