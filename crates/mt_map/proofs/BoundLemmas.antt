@@ -1,5 +1,5 @@
 -- Walks within bounds: the order of keys, where such a walk begins, and what it gives next.
-use Rattle.std.proofs.Common.{ℕ, ◌≡◌, ◌<◌, ◌⊎◌, ◌↔◌, inl, inr, List, [], ◌∷◌, Bool, true, false, refl, sym, ap, subst, ◌∙◌, arith}
+use Rattle.std.proofs.Common.{ℕ, ◌≡◌, ◌⊎◌, ◌↔◌, inl, inr, List, [], ◌∷◌, Bool, true, false, refl, sym, ap, subst, ◌∙◌, arith}
 use Rattle.std.specs.Prelude.{Option, Some, None, Result, Ok, Err, IfOk, IsOk, is_ok, IsTrue, IsSome, MatchOption}
 use Rattle.std.specs.FinMap.{get}
 use Rattle.std.specs.Ordering.{is_le, is_lt}
@@ -15,7 +15,7 @@ use Rattle.mt_types.specs.declared.refusal.Refusal.TheVariants.{NoMemory}
 use Rattle.mt_types.specs.declared.row.Row.{Row}
 use Rattle.mt_promise.specs.History.{History, moment, rows}
 use Rattle.mt_slice.proofs.KeyOrder.{KeyLess, key_three, cmp_less, cmp_greater, cmp_equal}
-use Rattle.mt_asked.specs.Bounds.{is_from, is_up_to}
+use Rattle.mt_asked.specs.Bounds.{is_up_to}
 use Rattle.mt_index.specs.Stands.{MachineView, Stands}
 use Rattle.mt_map.specs.Bounded.{BeginsFrom, GivesWithin}
 use Rattle.mt_map.specs.Walks.{At, IsAfter, IsToCome, GivesNext, RowsView}

@@ -1,5 +1,5 @@
 -- A map as contracts see it, and the tidies that follow a remove.
-use Rattle.std.specs.Prelude.{ℕ, zero, suc, ◌≡◌, ◌≢◌, ◌<◌, ◌≤◌, ◌⊎◌, ◌&&◌, Bool, true, false, List, Option, None, Result, Ok, Err, MatchBool, is_some}
+use Rattle.std.specs.Prelude.{ℕ, zero, suc, ◌≡◌, ◌≢◌, ◌<◌, ◌≤◌, ◌⊎◌, ◌&&◌, Bool, false, List, Option, None, Result, Ok, Err, MatchBool, is_some}
 use Rattle.mt_types.specs.Limits.{key_fault, request_fault}
 use Rattle.mt_types.specs.declared.refusal.Refusal.{Refusal}
 use Rattle.mt_types.specs.declared.refusal.Refusal.TheVariants.{NoMemory}
