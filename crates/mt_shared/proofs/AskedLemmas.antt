@@ -1,5 +1,5 @@
 -- Calls by borrowed bytes: what one comes to that is made, and what one that is refused before.
-use Rattle.std.proofs.Common.{ℕ, ◌≡◌, inl, inr, refl, sym, ap, subst, ◌∙◌}
+use Rattle.std.proofs.Common.{ℕ, ◌≡◌, inl, inr, refl, sym, ap, subst}
 use Rattle.std.specs.Prelude.{Option, Some, None, Result, Ok, Err, MatchOption}
 use Rattle.mt_types.specs.Limits.{request_fault}
 use Rattle.mt_types.specs.declared.refusal.Refusal.{Refusal}

@@ -2,7 +2,6 @@
 use Rattle.std.proofs.Common.{ℕ, ◌≡◌, ◌≤◌, inl, List, Option, Some, None, Result, Ok, Err, false, true, refl}
 use Rattle.std.specs.Prelude.{◌↔◌, IfOk, IsSome, IsTrue}
 use Rattle.mt_types.specs.Limited.{PageIsLimited}
-use Rattle.mt_types.specs.declared.numbers.PassNo.{PassNo}
 use Rattle.mt_types.specs.declared.numbers.ViewNo.{ViewNo}
 use Rattle.mt_types.specs.declared.refusal.Refusal.{Refusal}
 use Rattle.mt_types.specs.declared.event.Event.TheVariants.{ViewRead}

@@ -4,7 +4,7 @@ use Rattle.mt_index.specs.Events.{Makes}
 use Rattle.mt_index.specs.Stands.{MachineView, meant_number}
 use Rattle.mt_shared.specs.Inner.{InnerView, IsInner, Does}
 use Rattle.mt_shared.specs.Turns.{furthest}
-use Rattle.mt_shared.proofs.InnerLemmas.{keeps, in_counters, counters_bounds, commits_then, makes_own}
+use Rattle.mt_shared.proofs.InnerLemmas.{keeps, in_counters, counters_bounds, makes_own}
 use Rattle.mt_shared.proofs.PageLemmas.{no_view, none_turns}
 use Rattle.mt_shared.proofs.inner.Inner.turn.Goals as goal
 
