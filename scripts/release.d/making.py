@@ -57,7 +57,8 @@ def sources() -> Dict[str, Path]:
         **{f"lib/{name}": DIST / name for name in ("librowanspan.a", SHARED)},
         "include/rowanspan.h": DIST / "rowanspan.h",
         **{f"rust/{path.relative_to(crate)}": path for path in rust},
-        **{f"examples/{name}": examples / name for name in ("word_count.c", "word_count.out", "cache.out")},
+        **{f"examples/{name}": examples / name for name in (
+            "word_count.c", "word_count.out", "counters.c", "counters.out", "cache.out")},
         "examples/cache/src/main.rs": examples / "cache" / "src" / "main.rs",
     }
 
