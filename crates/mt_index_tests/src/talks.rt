@@ -18,7 +18,7 @@ struct Server {
     answerer: Answerer,
 }
 
-fn server(alloc: Global) -> Result<Server, Fail> {
+fn new_server(alloc: Global) -> Result<Server, Fail> {
     let (lone, pass) = Lone::start(alloc, OPTIONS)?;
     Ok(Server {
         lone,
@@ -46,7 +46,7 @@ fn talk_cut_at_each_byte(rt: HostRuntime) -> Result<(), Fail> {
     let both = joined(rt.alloc(), &[ANSWERED, ANSWERED_AGAIN])?;
     for cut in 0..=input.len() {
         let (front, rest) = input.split_at(cut);
-        let mut server = server(rt.alloc())?;
+        let mut server = new_server(rt.alloc())?;
         let mut talk = Talk::new(rt.alloc());
         talk.feed(front)?;
         let (first, fault) = answer_all(&mut server, &mut talk);
@@ -71,7 +71,7 @@ fn talk_after_good_frames(rt: HostRuntime) -> Result<(), Fail> {
     let bad = b"\0\0\0\x02\x03\x01".as_slice();
     let input = joined(rt.alloc(), &[ASKED, ASKED, bad, ASKED])?;
     let both = joined(rt.alloc(), &[ANSWERED, ANSWERED_AGAIN])?;
-    let mut server = server(rt.alloc())?;
+    let mut server = new_server(rt.alloc())?;
     let mut talk = Talk::new(rt.alloc());
     talk.feed(&input)?;
     let ended = answer_all(&mut server, &mut talk);
@@ -88,7 +88,7 @@ fn talk_after_good_frames(rt: HostRuntime) -> Result<(), Fail> {
 #[test]
 fn talk_sent_in_pieces(rt: HostRuntime) -> Result<(), Fail> {
     for piece in 1..=ANSWERED.len() {
-        let mut server = server(rt.alloc())?;
+        let mut server = new_server(rt.alloc())?;
         let mut talk = Talk::new(rt.alloc());
         talk.feed(ASKED)?;
         assert!(rt; answer_all(&mut server, &mut talk) == (1, None));
@@ -112,7 +112,7 @@ fn talk_sent_in_pieces(rt: HostRuntime) -> Result<(), Fail> {
 
 #[test]
 fn talk_finds_its_front(rt: HostRuntime) -> Result<(), Fail> {
-    let mut server = server(rt.alloc())?;
+    let mut server = new_server(rt.alloc())?;
     let mut talk = Talk::new(rt.alloc());
     assert!(rt; !talk.find()? && talk.front().is_none());
     talk.feed(&ASKED[..6])?;
