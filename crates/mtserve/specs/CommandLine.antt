@@ -11,29 +11,49 @@ use Rattle.mtserve.specs.declared.command_line.Settings.{Settings}
 abbrev pub flag_rule : List ℕ → Rule
 flag_rule name = record (new_rule name) { long = Some name; action = Some SetTrue }
 
--- the options of the server: its port, its workers, and how many connections each of them serves
+-- the options of the server: its port, its workers, and how many connections it serves
 abbrev pub with_socket_rules : App → App
 with_socket_rules app =
     with_rule
     (with_rule
+    (with_rule
     (with_rule app (number_rule (codes "port") 0 65535))
     (number_rule (codes "workers") 1 16))
-    (number_rule (codes "sessions") 0 65535)
+    (number_rule (codes "sessions") 0 65535))
+    (number_rule (codes "connections") 1 1000000)
+
+-- the limits of time
+abbrev pub with_limit_rules : App → App
+with_limit_rules app =
+    with_rule
+    (with_rule
+    (with_rule app (number_rule (codes "idle-timeout") 0 86400))
+    (number_rule (codes "frame-timeout") 0 86400))
+    (number_rule (codes "write-timeout") 0 86400)
 
 -- the options of mtserve
 abbrev pub mtserve_app : App
 mtserve_app =
     with_index_rules
-    (with_rule (with_rule (with_socket_rules (new_app (codes "mtserve"))) (flag_rule (codes "forever")))
+    (with_rule
+    (with_rule
+    (with_rule (with_limit_rules (with_socket_rules (new_app (codes "mtserve")))) (flag_rule (codes "forever")))
+    (flag_rule (codes "stop-at-end-of-input")))
     (flag_rule (codes "no-tidies")))
 
 -- what was found on a command line
 pub record AreFound (matches : ArgMatches) (settings : Settings) : Type 0 where
   pub port : IsNumber 64 (one_text (found_of matches) (codes "port")) 0 settings.port
-  pub workers : IsNumber 64 (one_text (found_of matches) (codes "workers")) 1 settings.workers
-  pub sessions : IsNumber 64 (one_text (found_of matches) (codes "sessions")) 1 settings.sessions
+  pub workers : IsNumber 64 (one_text (found_of matches) (codes "workers")) 0 settings.workers
+  pub sessions : IsNumber 64 (one_text (found_of matches) (codes "sessions")) 65536 settings.sessions
+  pub connections : IsNumber 64 (one_text (found_of matches) (codes "connections")) 10000 settings.connections
+  pub idle : IsNumber 64 (one_text (found_of matches) (codes "idle-timeout")) 0 settings.idle
+  pub frame : IsNumber 64 (one_text (found_of matches) (codes "frame-timeout")) 30 settings.frame
+  pub write : IsNumber 64 (one_text (found_of matches) (codes "write-timeout")) 30 settings.write
   pub forever : one_text (found_of matches) (codes "forever") ≡ Some (codes "true") → settings.forever ≡ true
   pub bounded : one_text (found_of matches) (codes "forever") ≡ Some (codes "false") → settings.forever ≡ false
+  pub watched : one_text (found_of matches) (codes "stop-at-end-of-input") ≡ Some (codes "true") → settings.watches_input ≡ true
+  pub unwatched : one_text (found_of matches) (codes "stop-at-end-of-input") ≡ Some (codes "false") → settings.watches_input ≡ false
   pub columns : IsColumns 64 matches settings.options.columns
   pub log_capacity : IsLogCapacity matches settings.options.log_capacity
   pub log_retention : IsLogRetention matches settings.options.log_retention

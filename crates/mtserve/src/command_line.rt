@@ -2,7 +2,7 @@
 
 ghost use Rattle.std.specs.Prelude.{◌≡◌, false, map, string_bytes, IfOk};
 ghost use Rattle.clap.specs.Words.{app_of, rule_of};
-ghost use Rattle.mtserve.specs.CommandLine.{flag_rule, with_socket_rules, mtserve_app, AreFound, AreSaid};
+ghost use Rattle.mtserve.specs.CommandLine.{flag_rule, with_socket_rules, with_limit_rules, mtserve_app, AreFound, AreSaid};
 
 use clap::{Arg, ArgAction, ArgMatches, Command, Error};
 use mt_command_line::numbers::{number, number_option};
@@ -13,12 +13,15 @@ use std::alloc::{AllocError, Global};
 const ABOUT: &str = "Serves an empty index on 127.0.0.1, over TCP";
 
 const MORE: &str = "\
-Each connection is a session: frames of queries come in, and each is answered by a frame (docs/WIRE.md). Each worker
-serves one connection at a time. Standard error says where it listens, as `listening PORT`, and why a session was broken
-off, as `session fault N: REASON`. When all sessions have ended, standard output says `events E commits C`.
+Each connection is a session: frames of queries come in, and each is answered by a frame (docs/WIRE.md). Each worker is
+a thread that serves many connections. Standard error says where it listens, as `listening PORT`, and why a session was
+broken off, as `session fault N: REASON`. When all sessions have ended, standard output says `events E commits C`.
 
-The status is 0; 2 for a bad command line; 3 if listening, accepting, a thread or standard error failed, if memory was
+The status is 0; 2 for a bad command line; 3 if listening, a thread, a wait or the first line failed, if memory was
 refused at the start, or if the counts at the end don't add up.";
+
+/// The number of sessions that stands for no end. `--sessions` takes less.
+pub const WITHOUT_END: u64 = 65_536;
 
 /// What is to be served, and how.
 #[derive(Clone, Copy, Debug)]
@@ -26,12 +29,22 @@ pub struct Settings {
     pub options: Options,
     /// The port to listen at; 0 is any.
     pub port: u64,
-    /// How many threads serve connections.
+    /// How many threads serve connections; 0 is not given.
     pub workers: u64,
-    /// How many connections each of them serves, one after the other.
+    /// How many connections are served for each of them, or `WITHOUT_END`.
     pub sessions: u64,
-    /// Whether they serve without end instead.
+    /// Whether they are served without end, whatever `sessions` is.
     pub forever: bool,
+    /// The most connections that are open at once.
+    pub connections: u64,
+    /// The most seconds between two frames of a connection; 0 is no limit.
+    pub idle: u64,
+    /// The most seconds for which a frame may have begun and not ended; 0 is no limit.
+    pub frame: u64,
+    /// The most seconds for which a peer may take no byte of its answers; 0 is no limit.
+    pub write: u64,
+    /// Whether the end of standard input stops the server.
+    pub watches_input: bool,
 }
 
 // An option without a value.
@@ -45,28 +58,49 @@ fn flag<'a>(alloc: Global, name: &'a str, help: &'a str) -> Arg<'a>
         .help(help)
 }
 
-// The options of the server: its port, its workers, and how many connections each of them serves.
+// The options of the server: its port, its workers, and how many connections it serves.
 fn socket_options<'a>(command: Command<'a>, alloc: Global) -> Result<Command<'a>, AllocError>
     ensures { IfOk result (λ r. app_of r ≡ with_socket_rules (app_of command.entry)) }
 {
     let port = "Where to listen, up to 65535; 0 is any free port [default: 0]";
-    let workers = "How many threads serve connections, 1 to 16 [default: 1]";
+    let workers =
+        "How many threads serve connections, 1 to 16 [default: as many as processors, up to 8; 1 with --sessions]";
     let sessions =
-        "How many connections each of them serves, one after the other, up to 65535 [default: 1]";
+        "How many connections are served for each of --workers, up to 65535 [default: no end]";
+    let connections =
+        "How many connections may be open at once, 1 to 1000000; one more is closed [default: 10000]";
     command
         .arg(number_option(alloc, "port", 0, 65535, port))?
         .arg(number_option(alloc, "workers", 1, 16, workers))?
-        .arg(number_option(alloc, "sessions", 0, 65535, sessions))
+        .arg(number_option(alloc, "sessions", 0, 65535, sessions))?
+        .arg(number_option(alloc, "connections", 1, 1000000, connections))
+}
+
+// The limits of time, in seconds.
+fn limit_options<'a>(command: Command<'a>, alloc: Global) -> Result<Command<'a>, AllocError>
+    ensures { IfOk result (λ r. app_of r ≡ with_limit_rules (app_of command.entry)) }
+{
+    let idle = "The most seconds between two frames, up to 86400; 0 is no limit [default: 0]";
+    let frame =
+        "The most seconds from a frame's first byte to its last, up to 86400; 0 is no limit [default: 30]";
+    let write =
+        "The most seconds for which a client takes no byte, up to 86400; 0 is no limit [default: 30]";
+    command
+        .arg(number_option(alloc, "idle-timeout", 0, 86400, idle))?
+        .arg(number_option(alloc, "frame-timeout", 0, 86400, frame))?
+        .arg(number_option(alloc, "write-timeout", 0, 86400, write))
 }
 
 fn command<'a>(alloc: Global) -> Result<Command<'a>, AllocError>
     ensures { IfOk result (λ command. app_of command ≡ mtserve_app) }
 {
-    let forever = "Serves until the process is ended, instead of --sessions";
+    let forever = "Serves until the process is ended, whatever --sessions says";
+    let stop = "Stops when standard input, a pipe, ends: frames that came are answered first";
     let named = Command::new(alloc, "mtserve").about(ABOUT).after_help(MORE);
     let no_tidies = "Makes no tidies after removes, so that emptied nodes stay";
-    let flagged = socket_options(named, alloc)?
+    let flagged = limit_options(socket_options(named, alloc)?, alloc)?
         .arg(flag(alloc, "forever", forever))?
+        .arg(flag(alloc, "stop-at-end-of-input", stop))?
         .arg(flag(alloc, "no-tidies", no_tidies))?;
     index_options(flagged, alloc)
 }
@@ -82,9 +116,14 @@ fn settings_of(matches: &ArgMatches<'_>) -> Settings
             tidies: !matches.get_flag("no-tidies"),
         },
         port: number(matches, "port", 0),
-        workers: number(matches, "workers", 1),
-        sessions: number(matches, "sessions", 1),
+        workers: number(matches, "workers", 0),
+        sessions: number(matches, "sessions", WITHOUT_END),
         forever: matches.get_flag("forever"),
+        connections: number(matches, "connections", 10_000),
+        idle: number(matches, "idle-timeout", 0),
+        frame: number(matches, "frame-timeout", 30),
+        write: number(matches, "write-timeout", 30),
+        watches_input: matches.get_flag("stop-at-end-of-input"),
     }
 }
 

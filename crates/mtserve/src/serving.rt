@@ -1,31 +1,26 @@
-//! The workers: each serves connections, one after the other, with a pass of its own.
+//! An index that is opened, served and closed.
 
-use crate::command_line::Settings;
-use mt_serve::frames::Frames;
-use mt_serve::session::session;
-use mt_shared::driving::Shared;
-use mt_shared::holding::HoldingDoor;
+use crate::command_line::{Settings, WITHOUT_END};
+use mt_loop::limits::Limits;
+use mt_loop::serving::{Plan, serve};
 use mt_shared::map::SharedMap;
-use mt_shared::pass::Pass;
 use mt_shared::settling::Totals;
-use mt_streams::sink::Sink;
-use mt_types::event::Event;
 use mt_types::refusal::Refusal;
-use std::alloc::{AllocError, AllocFailed, Global};
-use std::io::ErrorKind;
-use std::net::{Net, OpenListener, TcpListener, TcpStream};
+use std::alloc::Global;
+use std::net::{Ipv4Addr, Net, SocketAddr};
 use std::sync::Wait;
 use std::thread::Threads;
+use std::time::Clock;
 use std::{io, thread};
 use thiserror::Error;
 
-// How many events of one call a worker makes at most while it holds the lock.
-const EVENTS: u32 = 128;
+// The most workers that there are if no number is given.
+const WORKERS: u64 = 8;
 
 /// Why there is nothing to serve, or no end of it.
 #[derive(Debug, Error, Drop)]
 pub enum ServeError {
-    /// Listening, accepting, a thread or standard error failed.
+    /// Listening, a thread, a wait or the first line failed.
     #[error("{0}")]
     Io(#[from] io::Error),
     /// The index wasn't opened, or its end didn't add up.
@@ -33,97 +28,55 @@ pub enum ServeError {
     Index(#[from] Refusal),
 }
 
-impl From<AllocError> for ServeError {
-    fn from(_: AllocError) -> ServeError {
-        ServeError::Index(Refusal::NoMemory)
-    }
-}
-
-impl<T: Drop> From<AllocFailed<T>> for ServeError {
-    fn from(_: AllocFailed<T>) -> ServeError {
-        ServeError::Index(Refusal::NoMemory)
-    }
-}
-
-// Serves one connection: a session on the index; then the epoch rises, and retired nodes are freed.
-fn serve<R: Wait + Eprint>(
-    rt: &R,
-    alloc: Global,
-    index: &SharedMap,
-    stream: &TcpStream,
-    pass: &mut Pass,
-) -> io::Result<()> {
-    // (a reply goes out in one write, and is not to wait for more)
-    let _ = stream.set_nodelay(true);
-    let mut door = HoldingDoor::new(index, rt, EVENTS);
-    let mut frames = Frames::new(alloc, stream);
-    let mut writer = Sink::new(stream);
-    if let Err(fault) = session(alloc, &mut frames, &mut writer, &mut door, pass) {
-        eprintln!(rt; "session fault {}: {fault}", fault.number())?;
-    }
-    let _epoch = door.event(alloc, pass, &Event::Advance);
-    let _freed = door.event(alloc, pass, &Event::Collect);
-    Ok(())
-}
-
-// Serves the next connection. One that was reset before it was accepted has ended.
-fn serve_next<R: Wait + Eprint>(
-    rt: &R,
-    alloc: Global,
-    index: &SharedMap,
-    listener: &TcpListener,
-    pass: &mut Pass,
-) -> io::Result<()> {
-    match listener.accept() {
-        Ok((stream, _)) => serve(rt, alloc, index, &stream, pass),
-        Err(error) if error.kind() == ErrorKind::ConnectionAborted => Ok(()),
-        Err(error) => Err(error),
-    }
-}
-
-// Serves connections as the settings ask. It gives the pass back, since `close` asks for all of them.
-fn work<R: Wait + Eprint>(
-    rt: &R,
-    alloc: Global,
-    index: &SharedMap,
-    listener: &TcpListener,
-    settings: Settings,
-    mut pass: Pass,
-) -> io::Result<Pass> {
-    if settings.forever {
-        for _ in rt.forever() {
-            serve_next(rt, alloc, index, listener, &mut pass)?;
-        }
+// How many sessions there are to be, if they are counted: some for each worker that was asked for.
+fn session_count(settings: Settings) -> Option<u64> {
+    if settings.forever || settings.sessions >= WITHOUT_END {
+        None
     } else {
-        for _ in 0..settings.sessions {
-            serve_next(rt, alloc, index, listener, &mut pass)?;
-        }
+        Some(settings.sessions.saturating_mul(settings.workers.max(1)))
     }
-    Ok(pass)
 }
 
-/// Opens an empty index, and serves it on 127.0.0.1 until each worker has served its connections. Returns how many
-/// events and commits were made.
+// How many workers there are: as many as processors if no number is given, and sessions aren't counted.
+fn worker_count<R: Threads>(rt: &R, settings: Settings) -> u64 {
+    if settings.workers > 0 {
+        return settings.workers;
+    }
+    if session_count(settings).is_some() {
+        return 1;
+    }
+    match thread::available_parallelism(rt) {
+        Ok(count) => (count.get() as u64).min(WORKERS),
+        Err(_) => 1,
+    }
+}
+
+fn plan_of(settings: Settings) -> Plan {
+    Plan {
+        limits: Limits {
+            connections: settings.connections,
+            idle: settings.idle,
+            frame: settings.frame,
+            write: settings.write,
+        },
+        sessions: session_count(settings),
+        watches_input: settings.watches_input,
+    }
+}
+
+/// Opens an empty index, and serves it on 127.0.0.1 as the settings ask. Returns how many events and commits were made.
 ///
 /// # Errors
 ///
-/// If listening, accepting, a thread or printing failed; if the index can't be opened with these options; or if the
+/// If listening, a thread, a wait or the first line failed; if the index can't be opened with these options; or if the
 /// counts at its end don't add up.
 pub fn serve_all<R>(rt: &R, alloc: Global, settings: Settings) -> Result<Totals, ServeError>
 where
-    R: Net<Listener = TcpListener, Stream = TcpStream> + Threads + Wait + Sync + Eprint,
+    R: Net + Threads + Wait + Clock + Sync + Eprint,
 {
-    let (index, passes) = SharedMap::start(alloc, settings.options, settings.workers)?;
-    let listener = TcpListener::bind(rt, ("127.0.0.1", settings.port.min(65535) as u16))?;
-    eprintln!(rt; "listening {}", listener.local_addr()?.port())?;
-    let worked = thread::map_vec(
-        rt,
-        passes,
-        &|pass| { work(rt, alloc, &index, &listener, settings, pass) },
-    )?;
-    let mut passes = Vec::new(alloc);
-    for pass in worked {
-        passes.push(pass?)?;
-    }
+    let (index, passes) = SharedMap::start(alloc, settings.options, worker_count(rt, settings))?;
+    let port = settings.port.min(65535) as u16;
+    let address = SocketAddr::from((Ipv4Addr::LOCALHOST, port));
+    let passes = serve(rt, alloc, &index, passes, address, plan_of(settings))?;
     Ok(index.close(passes)?)
 }

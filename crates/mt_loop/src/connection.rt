@@ -1,0 +1,270 @@
+//! One connection: its stream, and its session.
+
+use crate::limits::{Limits, is_over};
+use crate::weight::{TURN, only_reads, weight_of};
+use mio::net::TcpStream;
+use mt_serve::answerer::Answerer;
+use mt_serve::fault::SessionFault;
+use mt_shared::driving::Shared;
+use mt_shared::pass::Pass;
+use mt_talk::talk::Talk;
+use std::alloc::Global;
+use std::io::{ErrorKind, Read, Write};
+
+// From how many bytes on that are to go no more frames are answered.
+const MOST_OUTPUT: usize = 1_048_576;
+
+/// What the frame at the front of a connection asks for.
+#[derive(Clone, Copy, Debug, PartialEq, Eq)]
+pub enum Front {
+    /// No frame is to be answered now.
+    Nothing,
+    /// Gets and ranges alone.
+    Reads,
+    /// Others too.
+    Others,
+}
+
+/// A connection.
+#[derive(Drop)]
+pub struct Connection {
+    pub stream: TcpStream,
+    talk: Talk,
+    /// What the frame at the front asks for, as `find` has found.
+    pub front: Front,
+    /// Whether it is in the list of a round.
+    pub is_listed: bool,
+    // What that frame weighs, what may still be asked for in this round, and whether more frames may be there.
+    weight: usize,
+    budget: usize,
+    has_more: bool,
+    // Whether bytes may be there that weren't read, and whether the peer has ended its stream after them.
+    is_unread: bool,
+    is_hung_up: bool,
+    // Whether all bytes were read.
+    has_ended: bool,
+    fault: Option<SessionFault>,
+    // Seconds of the server: when bytes came last, when the frame that is there in part began, and when bytes went last.
+    came: u64,
+    began: Option<u64>,
+    went: u64,
+}
+
+impl Connection {
+    /// Returns a connection that was accepted at this time.
+    pub fn new(alloc: Global, stream: TcpStream, now: u64) -> Connection {
+        Connection {
+            stream,
+            talk: Talk::new(alloc),
+            front: Front::Nothing,
+            is_listed: false,
+            weight: 0,
+            budget: 0,
+            has_more: false,
+            is_unread: false,
+            is_hung_up: false,
+            has_ended: false,
+            fault: None,
+            came: now,
+            began: None,
+            went: now,
+        }
+    }
+
+    /// Notes whether bytes are there, and whether the peer has ended its stream after them.
+    pub fn wake(&mut self, is_readable: bool, is_hung_up: bool) {
+        self.is_unread = self.is_unread || is_readable || is_hung_up;
+        self.is_hung_up = self.is_hung_up || is_hung_up;
+    }
+
+    // The session ends with this fault, unless it has met another one before.
+    fn fail(&mut self, fault: SessionFault) {
+        if self.fault.is_none() {
+            self.fault = Some(fault);
+        }
+    }
+
+    // Whether so much is to go that no more is answered.
+    fn is_full(&self) -> bool {
+        self.talk.output().len() >= MOST_OUTPUT
+    }
+
+    // Takes what a read gave. A read of less than the buffer has given all that was there.
+    fn take(&mut self, piece: &[u8], is_all: bool) {
+        self.is_unread = !is_all || self.is_hung_up;
+        if self.talk.feed(piece).is_err() {
+            self.fail(SessionFault::NoMemory);
+        }
+    }
+
+    // Reads one piece.
+    fn read_piece(&mut self, piece: &mut [u8], now: u64) {
+        match self.stream.read(piece) {
+            Ok(0) => {
+                self.is_unread = false;
+                self.has_ended = true;
+            }
+            Ok(count) => {
+                self.came = now;
+                let is_all = count < piece.len();
+                self.take(&piece[..count], is_all);
+            }
+            Err(error) if error.kind() == ErrorKind::WouldBlock => self.is_unread = false,
+            Err(error) if error.kind() == ErrorKind::Interrupted => {}
+            Err(_) => self.fail(SessionFault::Read),
+        }
+    }
+
+    /// Begins a round: writes what is to go, and reads one piece if no whole frame is there and bytes may be.
+    pub fn begin(&mut self, piece: &mut [u8], now: u64) {
+        self.is_listed = false;
+        self.budget = TURN;
+        if !self.talk.output().is_empty() {
+            self.flush(now);
+        }
+        self.find();
+        if self.front == Front::Nothing
+            && self.is_unread
+            && self.fault.is_none()
+            && !self.is_full()
+        {
+            self.read_piece(piece, now);
+        }
+    }
+
+    /// Finds the frame at the front, if one is to be answered in this round.
+    pub fn find(&mut self) {
+        self.front = Front::Nothing;
+        self.has_more = self.budget == 0 || self.is_full();
+        if self.has_more || self.fault.is_some() {
+            return;
+        }
+        match self.talk.find() {
+            Ok(true) => self.look(),
+            Ok(false) => {
+                if self.has_ended && !self.talk.is_between_frames() {
+                    self.fail(SessionFault::Cut);
+                }
+            }
+            Err(fault) => self.fail(SessionFault::from(fault)),
+        }
+    }
+
+    // Looks what the frame at the front asks for.
+    fn look(&mut self) {
+        if let Some(frame) = self.talk.front() {
+            self.weight = weight_of(frame);
+            self.front = if only_reads(frame) {
+                Front::Reads
+            } else {
+                Front::Others
+            };
+        }
+    }
+
+    /// Answers the frame at the front.
+    pub fn answer<S: Shared>(&mut self, answerer: &mut Answerer, shared: &mut S, pass: &mut Pass) {
+        self.front = Front::Nothing;
+        self.began = None;
+        self.budget = self.budget.saturating_sub(self.weight);
+        if let Err(fault) = self.talk.turn(answerer, shared, pass) {
+            self.fail(SessionFault::from(fault));
+        }
+    }
+
+    // Writes what is to go, as much as the system takes. Returns how much that was.
+    fn write_some(&mut self) -> Result<usize, SessionFault> {
+        let mut sent = 0usize;
+        let len = self.talk.output().len();
+        for _ in 0..=len {
+            let output = self.talk.output();
+            if sent >= output.len() {
+                break;
+            }
+            match self.stream.write(&output[sent..]) {
+                Ok(0) => return Err(SessionFault::Write),
+                Ok(taken) => sent = sent.saturating_add(taken),
+                Err(error) if error.kind() == ErrorKind::WouldBlock => break,
+                Err(error) if error.kind() == ErrorKind::Interrupted => {}
+                Err(_) => return Err(SessionFault::Write),
+            }
+        }
+        Ok(sent)
+    }
+
+    // Writes what is to go, as much as the system takes. After a failed write nothing is to go.
+    fn flush(&mut self, now: u64) {
+        match self.write_some() {
+            Ok(sent) => {
+                let count = sent.min(self.talk.output().len());
+                if count > 0 {
+                    self.went = now;
+                }
+                if self.talk.sent(count).is_err() {
+                    self.fail(SessionFault::NoMemory);
+                    self.talk.clear_output();
+                }
+            }
+            Err(fault) => {
+                self.fail(fault);
+                self.talk.clear_output();
+            }
+        }
+    }
+
+    /// Ends a round: writes what is to go, and notes whether a frame has begun.
+    pub fn end(&mut self, now: u64) {
+        if self.talk.output().is_empty() {
+            self.went = now;
+        } else {
+            self.flush(now);
+        }
+        if self.talk.is_between_frames() {
+            self.began = None;
+        } else if self.began.is_none() {
+            self.began = Some(now);
+        }
+    }
+
+    /// Returns whether more is to be done at once: frames are there, or bytes that weren't read.
+    pub fn is_ready(&self) -> bool {
+        self.fault.is_none() && !self.is_full() && (self.is_unread || self.has_more)
+    }
+
+    /// Returns whether its session has ended and all of its answers have gone.
+    pub fn is_over(&self) -> bool {
+        self.talk.output().is_empty()
+            && (self.fault.is_some() || self.has_ended && self.talk.is_between_frames())
+    }
+
+    /// Returns why its session was broken off, if it was.
+    pub fn fault(&self) -> Option<SessionFault> {
+        self.fault
+    }
+
+    /// Returns whether bytes are to go.
+    pub fn has_output(&self) -> bool {
+        !self.talk.output().is_empty()
+    }
+
+    /// If one of the limits is over, breaks the session off, and returns whether one is. A session that waits between
+    /// frames ends without a fault.
+    pub fn is_late(&mut self, limits: Limits, now: u64) -> bool {
+        if self.has_output() {
+            if is_over(limits.write, self.went, now) {
+                self.fail(SessionFault::Write);
+                return true;
+            }
+            return false;
+        }
+        self.talk.free_output();
+        match self.began {
+            Some(began) if is_over(limits.frame, began, now) => {
+                self.fail(SessionFault::Cut);
+                true
+            }
+            Some(_) => false,
+            None => is_over(limits.idle, self.came, now),
+        }
+    }
+}

@@ -1,0 +1,11 @@
+//! A loop that serves many connections by each of a few threads: it reads what is ready, answers and writes.
+#![tactic(auto)]
+
+pub mod accepting;
+pub mod connection;
+pub mod desk;
+pub mod limits;
+pub mod serving;
+pub mod stop;
+mod weight;
+pub mod worker;

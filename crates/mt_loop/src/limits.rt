@@ -1,0 +1,19 @@
+//! What ends connections that do nothing, and how many there may be.
+
+/// The limits of connections. A time of 0 is no limit.
+#[derive(Clone, Copy, Debug, PartialEq, Eq)]
+pub struct Limits {
+    /// The most connections that are open at once.
+    pub connections: u64,
+    /// The most seconds between two frames.
+    pub idle: u64,
+    /// The most seconds for which a frame may have begun and not ended.
+    pub frame: u64,
+    /// The most seconds for which a peer may take no byte of what is to go.
+    pub write: u64,
+}
+
+/// Returns whether more seconds than this limit have passed since a time.
+pub fn is_over(limit: u64, since: u64, now: u64) -> bool {
+    limit > 0 && now.saturating_sub(since) > limit
+}
