@@ -31,15 +31,18 @@ with_limit_rules app =
     (number_rule (codes "frame-timeout") 0 86400))
     (number_rule (codes "write-timeout") 0 86400)
 
+-- the options without a value
+abbrev pub with_flag_rules : App → App
+with_flag_rules app =
+    with_rule
+    (with_rule
+    (with_rule app (flag_rule (codes "forever")))
+    (flag_rule (codes "stop-at-end-of-input")))
+    (flag_rule (codes "no-tidies"))
+
 -- the options of mtserve
 abbrev pub mtserve_app : App
-mtserve_app =
-    with_index_rules
-    (with_rule
-    (with_rule
-    (with_rule (with_limit_rules (with_socket_rules (new_app (codes "mtserve")))) (flag_rule (codes "forever")))
-    (flag_rule (codes "stop-at-end-of-input")))
-    (flag_rule (codes "no-tidies")))
+mtserve_app = with_index_rules (with_flag_rules (with_limit_rules (with_socket_rules (new_app (codes "mtserve")))))
 
 -- what was found on a command line
 pub record AreFound (matches : ArgMatches) (settings : Settings) : Type 0 where

@@ -1,8 +1,8 @@
 //! What the command line says.
 
-ghost use Rattle.std.specs.Prelude.{◌≡◌, false, map, string_bytes, IfOk};
-ghost use Rattle.clap.specs.Words.{app_of, rule_of};
-ghost use Rattle.mtserve.specs.CommandLine.{flag_rule, with_socket_rules, with_limit_rules, mtserve_app, AreFound, AreSaid};
+ghost use Rattle.std.specs.Prelude.{◌≡◌, false, map, string_bytes, codes, IfOk};
+ghost use Rattle.clap.specs.Words.{app_of, new_app, rule_of};
+ghost use Rattle.mtserve.specs.CommandLine.{flag_rule, with_socket_rules, with_limit_rules, with_flag_rules, mtserve_app, AreFound, AreSaid};
 
 use clap::{Arg, ArgAction, ArgMatches, Command, Error};
 use mt_command_line::numbers::{number, number_option};
@@ -91,17 +91,32 @@ fn limit_options<'a>(command: Command<'a>, alloc: Global) -> Result<Command<'a>,
         .arg(number_option(alloc, "write-timeout", 0, 86400, write))
 }
 
-fn command<'a>(alloc: Global) -> Result<Command<'a>, AllocError>
-    ensures { IfOk result (λ command. app_of command ≡ mtserve_app) }
+// The options without a value.
+fn flag_options<'a>(command: Command<'a>, alloc: Global) -> Result<Command<'a>, AllocError>
+    ensures { IfOk result (λ r. app_of r ≡ with_flag_rules (app_of command.entry)) }
 {
     let forever = "Serves until the process is ended, whatever --sessions says";
     let stop = "Stops when standard input, a pipe, ends: frames that came are answered first";
-    let named = Command::new(alloc, "mtserve").about(ABOUT).after_help(MORE);
     let no_tidies = "Makes no tidies after removes, so that emptied nodes stay";
-    let flagged = limit_options(socket_options(named, alloc)?, alloc)?
+    command
         .arg(flag(alloc, "forever", forever))?
         .arg(flag(alloc, "stop-at-end-of-input", stop))?
-        .arg(flag(alloc, "no-tidies", no_tidies))?;
+        .arg(flag(alloc, "no-tidies", no_tidies))
+}
+
+// The command, without an option.
+fn named<'a>(alloc: Global) -> Command<'a>
+    ensures { app_of result ≡ new_app (codes "mtserve") }
+{
+    Command::new(alloc, "mtserve").about(ABOUT).after_help(MORE)
+}
+
+fn command<'a>(alloc: Global) -> Result<Command<'a>, AllocError>
+    ensures { IfOk result (λ command. app_of command ≡ mtserve_app) }
+{
+    let of_sockets = socket_options(named(alloc), alloc)?;
+    let limited = limit_options(of_sockets, alloc)?;
+    let flagged = flag_options(limited, alloc)?;
     index_options(flagged, alloc)
 }
 

@@ -1,20 +1,11 @@
-use Rattle.std.proofs.Common.{◌≡◌, false, refl, ap, ◌∙◌}
+use Rattle.std.proofs.Common.{refl}
 use Rattle.std.specs.Prelude.{codes}
 use Rattle.std.proofs.lemmas.Result.{IfOk-weaker}
-use Rattle.clap.specs.Built.{AddsArg}
-use Rattle.clap.specs.Words.{App, Rule, app_of, rule_of, with_rule}
-use Rattle.clap.specs.declared.builder.arg.Arg.{Arg}
+use Rattle.clap.specs.Words.{app_of}
 use Rattle.clap.specs.declared.builder.command.Command.{Command}
 use Rattle.mt_command_line.specs.Opening.{aliased_rule, columns_rule}
+use Rattle.mt_command_line.proofs.Options.{with_option}
 use Rattle.mt_command_line.proofs.opening.index_options.Goals as goal
-
--- one more option
-with_option : (old new : Command) (option : Arg) (app : App) (rule : Rule) → option.global ≡ false → rule_of option ≡ rule
-    → app_of old ≡ app → AddsArg old option new → app_of new ≡ with_rule app rule
-with_option old new option app rule local is so_far adds =
-    adds.shape local
-    ∙ ap (λ (more : Rule). with_rule (app_of old) more) is
-    ∙ ap (λ (before : App). with_rule before rule) so_far
 
 pub returns : goal.returns
 returns c =
