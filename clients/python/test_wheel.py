@@ -38,6 +38,8 @@ def ignored() -> str:
 
 
 IGNORED = ignored()
+# what `rowan serve` adds to the options
+STOPS = "--stop-at-end-of-input"
 # runs `rowan`, but no mode of a file can be set
 WITHOUT_CHMOD = ("import os, pathlib, sys\n"
                  "def refused(*_, **__): raise PermissionError(1, 'refused')\n"
@@ -214,14 +216,14 @@ class InstalledTest(Folder):
         self.assertEqual((status, errors), (0, ""))
         self.assertIn("--build SPEC", output)
         self.check_mirror()
-        self.assertEqual(run([self.rowan, "serve", "--port", "7"])[:2], (0, f"--port 7\n{IGNORED}\n"))
+        self.assertEqual(run([self.rowan, "serve", "--port", "7"])[:2], (0, f"--port 7 {STOPS}\n{IGNORED}\n"))
         # an installer that drops the mode
         (package / "bin" / "mtserve").chmod(0o644)
-        self.assertEqual(run([self.rowan, "serve", "a b"])[:2], (0, f"a b\n{IGNORED}\n"))
+        self.assertEqual(run([self.rowan, "serve", "a b"])[:2], (0, f"a b {STOPS}\n{IGNORED}\n"))
         # which isn't allowed to be set again
         (package / "bin" / "mtserve").chmod(0o644)
         status, output, errors = run([self.python, "-c", WITHOUT_CHMOD, "serve", "x"])
-        self.assertEqual((status, output.split("\n")[0], errors), (0, "x", ""))
+        self.assertEqual((status, output.split("\n")[0], errors), (0, f"x {STOPS}", ""))
         self.assertFalse(os.access(package / "bin" / "mtserve", os.X_OK))
         # the library of the package's own folder is the first that is tried
         status, output, errors = run([self.rowan, "--embedded", "get", "61", "all"])
@@ -256,7 +258,8 @@ class ServeTest(Folder):
         return run([sys.executable, str(HERE / "rowan"), "serve", *options], **environment)
 
     def test_the_named_server(self) -> None:
-        self.assertEqual(self.serve(self.server, "--port", "70", "--forever")[1].split("\n")[0], "--port 70 --forever")
+        self.assertEqual(self.serve(self.server, "--port", "70", "--forever")[1].split("\n")[0],
+                         f"--port 70 --forever {STOPS}")
         self.assertEqual(self.serve(self.server, "--help")[1].split("\n")[0], "--help")
         self.server.write_text("#!/bin/sh\nexit 7\n")
         self.assertEqual(self.serve(self.server), (7, "", ""))
@@ -272,6 +275,37 @@ class ServeTest(Folder):
     def test_signals(self) -> None:
         self.assertEqual(signal.getsignal(signal.SIGPIPE), signal.SIG_IGN)
         self.assertEqual(self.serve(self.server)[1].split("\n")[1], IGNORED)
+
+    def started(self, text: str) -> subprocess.Popen[bytes]:
+        """`rowan serve` over a server that is this script, after the script's first line."""
+        self.server.write_text(f"#!/bin/sh\necho began\n{text}")
+        process = subprocess.Popen([sys.executable, str(HERE / "rowan"), "serve"], stdin=subprocess.DEVNULL,
+                                   stdout=subprocess.PIPE, env={**os.environ, "ROWANSPAN_MTSERVE": str(self.server)})
+        self.addCleanup(process.kill)
+        assert process.stdout is not None
+        self.addCleanup(process.stdout.close)
+        self.assertEqual(process.stdout.readline(), b"began\n")
+        return process
+
+    def test_a_graceful_end(self) -> None:
+        for number in (signal.SIGTERM, signal.SIGINT):
+            process = self.started("cat\necho ended\nexit 5\n")
+            process.send_signal(number)
+            output, _ = process.communicate(timeout=SECONDS)
+            self.assertEqual((process.returncode, output), (5, b"ended\n"))
+
+    def test_a_second_signal(self) -> None:
+        process = self.started("cat\necho waits\nexec sleep 300\n")
+        process.terminate()
+        assert process.stdout is not None
+        self.assertEqual(process.stdout.readline(), b"waits\n")
+        process.terminate()
+        self.assertEqual(process.wait(SECONDS), 128 + signal.SIGKILL)
+
+    def test_the_end_of_rowan(self) -> None:
+        process = self.started("cat\necho ended\n")
+        process.kill()
+        self.assertEqual(process.communicate(timeout=SECONDS)[0], b"ended\n")
 
 
 class VersionTest(unittest.TestCase):

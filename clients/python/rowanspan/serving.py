@@ -1,15 +1,21 @@
-"""The server of the package: where the program mtserve is, and how this process becomes it."""
+"""The server of the package: where the program mtserve is, and how it is run so that a signal ends it gracefully."""
 from __future__ import annotations
 
 import os
 import signal
+import subprocess
 from pathlib import Path
-from typing import List, NoReturn, Sequence
+from typing import List, NoReturn, Optional, Sequence, Tuple, Union
 
 from .core import RowanspanError
 from .places import PACKAGE, checkout, none_at
 
-__all__ = ["NoServer", "server_paths", "become_server"]
+__all__ = ["NoServer", "server_paths", "serve"]
+
+# with it the server finishes what has come and ends, when its standard input ends
+STOPS = "--stop-at-end-of-input"
+# with these the server says something and ends; or another process holds its standard input
+ALONE = {"-h", "--help", "-V", "--version", STOPS}
 
 
 class NoServer(RowanspanError):
@@ -26,22 +32,80 @@ def server_paths() -> List[Path]:
     return [own] if top is None else [own, top / "crates" / "mtserve" / "out" / "mtserve"]
 
 
+def serve(options: Sequence[str]) -> int:
+    """Runs mtserve with these options until it ends, and returns its status. At SIGTERM or SIGINT the server finishes
+    what has come, and ends; at a second one it is killed. If this process is killed, the server ends too. Raises
+    `NoServer` if there is none, or it can't run."""
+    if ALONE.intersection(options):
+        become_server(options)
+    program, stop = find_server(), Stop()
+    for number in (signal.SIGTERM, signal.SIGINT):
+        signal.signal(number, stop)
+    try:
+        file, kept = runnable(program)
+        # (a session of its own: the terminal's signals come to this process alone)
+        with subprocess.Popen(["mtserve", *options, STOPS], executable=file, pass_fds=kept, stdin=subprocess.PIPE,
+                              start_new_session=True) as server:
+            stop.of(server)
+            status = server.wait()
+    except (OSError, ValueError) as fault:
+        raise NoServer(f"{program} can't be run: {fault}") from fault
+    return status if status >= 0 else 128 - status
+
+
+class Stop:
+    """What a signal does: the first ends the standard input of a server, the second kills it."""
+
+    def __init__(self) -> None:
+        self._server: Optional[subprocess.Popen[bytes]] = None
+        self._signals = 0
+
+    def of(self, server: subprocess.Popen[bytes]) -> None:
+        """The server has started. A signal may have come before."""
+        self._server = server
+        self._act()
+
+    def __call__(self, *_: object) -> None:
+        self._signals += 1
+        self._act()
+
+    def _act(self) -> None:
+        if self._server is None or self._signals == 0:
+            return
+        if self._signals > 1:
+            self._server.kill()
+        elif self._server.stdin is not None:
+            self._server.stdin.close()
+
+
 def become_server(options: Sequence[str]) -> NoReturn:
     """Runs mtserve with these options instead of this process. Raises `NoServer` if there is none, or it can't run."""
-    tried = server_paths()
-    program = next((path for path in tried if path.is_file()), None)
-    if program is None:
-        raise NoServer(none_at("server", tried))
+    program = find_server()
     # Python ignores these signals, and a program that it becomes would ignore them too
     signal.signal(signal.SIGPIPE, signal.SIG_DFL)
     signal.signal(signal.SIGXFSZ, signal.SIG_DFL)
     try:
-        words = ["mtserve", *options]
-        if may_run(program):
-            os.execv(program, words)
-        os.execve(copy_in_memory(program), words, os.environ)
+        os.execv(runnable(program)[0], ["mtserve", *options])
     except (OSError, ValueError) as fault:
         raise NoServer(f"{program} can't be run: {fault}") from fault
+
+
+def find_server() -> Path:
+    """The program mtserve. Raises `NoServer` if there is none."""
+    tried = server_paths()
+    program = next((path for path in tried if path.is_file()), None)
+    if program is None:
+        raise NoServer(none_at("server", tried))
+    return program
+
+
+def runnable(program: Path) -> Tuple[Union[Path, str], Tuple[int, ...]]:
+    """The path by which a program can be run, and the descriptors that have to stay open for it."""
+    if may_run(program):
+        return program, ()
+    copy = copy_in_memory(program)
+    os.set_inheritable(copy, True)
+    return f"/proc/self/fd/{copy}", (copy,)
 
 
 def may_run(program: Path) -> bool:

@@ -10,7 +10,7 @@ from typing import TYPE_CHECKING, Any, Callable, Iterable, List, Optional, Seque
 from .client import Client
 from .core import BadColumn, BadReply, ConnectionLost, NoLibrary, Refused, TooLong
 from .places import third_party, version
-from .serving import NoServer, become_server
+from .serving import NoServer, serve
 from .text import HEX, TEXT, BadLine, Notation, outcome_line, read_query
 from .wire import (Build, Get, GetRange, Outcome, Put, PutIf, Query, Remove, Reply, Tidy, ViewDrop, ViewRead,
                    spelled_query)
@@ -242,7 +242,7 @@ def main(arguments: Optional[Sequence[str]] = None) -> int:
     given = list(sys.argv[1:] if arguments is None else arguments)
     try:
         if given[:1] == ["serve"]:
-            become_server(given[1:])
+            return serve(given[1:])
         if given[:1] == ["board"]:
             from .board.command import main as show_board
 
