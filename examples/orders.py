@@ -1,7 +1,7 @@
 #!/usr/bin/env python3
 """Orders at random, written into a server until it is interrupted: something to look at with `rowan board`.
 
-    rowan serve --port 7070 --forever --workers 4 --columns 2 &
+    rowan serve --port 7070 --columns 2 &
     python3 examples/orders.py -p 7070 &
     rowan board -p 7070 --text --columns-as number --build 'prefix open/ any' --build 'prefix closed/ any'
 
