@@ -1,7 +1,8 @@
 /* A library to preload before a program (LD_PRELOAD): its reads and writes fail, or move fewer bytes than they might.
  * By the environment:
  *   FAULTY_READ, FAULTY_WRITE   the number of the read or write that fails (the first is 1)
- *   FAULTY_SHORT                how many bytes a read or write moves at most
+ *   FAULTY_SHORT                how many bytes a read or write moves at most, but for reads of sockets: a program may
+ *                               rely on it that a short one has taken all that was there, as epoll(7) says
  * Of reads those from standard input and from sockets count, of writes those to standard output and to sockets.
  * Built by `cc -std=c11 -shared -fPIC -o faulty.so faulty.c`.
  */
@@ -55,8 +56,11 @@ ssize_t __write(int file, const void *from, size_t length)
 
 ssize_t recv(int socket, void *to, size_t length, int flags)
 {
+    size_t whole = length;
+
     if (fails(&reads, "FAULTY_READ", &length))
         return -1;
+    length = whole;
     return syscall(SYS_recvfrom, socket, to, length, flags, NULL, NULL);
 }
 
