@@ -80,7 +80,7 @@ impl Map {
     ///
     /// `KeyTooLong`, `BadColumn` or `ColumnTooLong` for the first limit that is broken, whatever memory there is;
     /// `FeedFull`, with the number of commits of the view that is furthest behind, if views hold as many commits as the
-    /// option `feed` allows; `ArenaFull`, `Spent` and `NoMemory`. Nothing has changed then.
+    /// option `log_capacity` allows; `ArenaFull`, `Spent` and `NoMemory`. Nothing has changed then.
     pub fn put(&mut self, key: &[u8], sets: &[Set<'_>]) -> Result<u64, Refusal>
         ensures { MapComesTo self.old (Put key.now (sets_of sets.now)) (answered_by Stored result) self.new }
     {

@@ -101,8 +101,9 @@ impl Map {
     ///
     /// # Errors
     ///
-    /// `BadColumn` unless `columns` is from 1 to `MAX_COLUMNS`; `BadLimit` unless `feed` is from 1 to `MAX_LOG_CAPACITY` and
-    /// `keep` is at most `MAX_LOG_RETENTION`; `NoMemory` if an allocation is refused. The first of these that applies.
+    /// `BadColumn` unless `columns` is from 1 to `MAX_COLUMNS`; `BadLimit` unless `log_capacity` is from 1 to
+    /// `MAX_LOG_CAPACITY` and `log_retention` is at most `MAX_LOG_RETENTION`; `NoMemory` if an allocation is refused. The
+    /// first of these that applies.
     pub fn open(alloc: Global, options: Options) -> Result<Map, Refusal>
         ensures opened { IfOk result (λ map. (map.machine.columns ≡ options.columns)
             × HasBounds options.log_capacity options.log_retention map.machine.log × Stands map.machine []) }
