@@ -1,6 +1,6 @@
 //! The limits of an index, each with the refusal that guards it, and the tests of requests and options against them.
-//! A call is tested when it begins, and its steps rely on that. `mt_asked` has tests of its own with the same results:
-//! it tests borrowed bytes before it copies them.
+//! A call is tested when it begins, and its steps rely on that. `mt_map` has tests of its own with the same results: it
+//! tests borrowed bytes before it copies them.
 
 ghost use Rattle.std.specs.Prelude.{◌≡◌, ◌==◌, Some, nat_lt, length, map};
 ghost use Rattle.std.specs.List.{list_any};
