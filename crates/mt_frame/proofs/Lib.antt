@@ -9,4 +9,4 @@ mod FrontLaws
 -- What is spelled is read.
 mod Contents
 mod Bodies
-mod FrameLaws
+pub mod FrameLaws

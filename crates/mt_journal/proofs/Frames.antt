@@ -1,0 +1,138 @@
+-- Logs as lists of frames: one after another, and read one way.
+use Rattle.std.proofs.Common.{◌≡◌, ℕ, zero, suc, ◌+◌, ◌<◌, ◌≤◌, List, [], ◌∷◌, ◌++◌, length, take, drop, refl, sym, ap, subst, ◌∙◌, append_assoc, arith, length-append}
+use Rattle.std.specs.Prelude.{IsTrue}
+use Rattle.std.proofs.lemmas.List.{append-nil}
+use Rattle.mt_frame.specs.declared.entry.Entry.{Entry}
+use Rattle.mt_frame.specs.declared.entry.Entry.TheVariants.{Header, Commits as Group, Closed}
+use Rattle.mt_frame.specs.declared.entry.LogHeader.{LogHeader}
+use Rattle.mt_frame.specs.Spelling.{frame_of, frames_of, framed}
+use Rattle.mt_frame.specs.Fits.{HasFrame}
+use Rattle.mt_frame.specs.Ends.{ends}
+use Rattle.mt_frame.proofs.FrameLaws.{frames_read_one_way, frames_do_not_end}
+use Rattle.mt_journal.specs.Log.{last_number, AreNumbered, HaveFrames, header_frame, log_spelling, MaySay, IsLog}
+use Rattle.mt_journal.specs.Laws.{LogsReadOneWay}
+
+-- ---- one list of frames after another
+
+pub frames_append : (generation place : ℕ) (xs ys : List Entry)
+    → frames_of generation place (xs ++ ys) ≡ frames_of generation place xs ++ frames_of generation (place + length (frames_of generation place xs)) ys
+frames_append generation place [] ys = ap (λ (p : ℕ). frames_of generation p ys) (omega arith)
+frames_append generation place (x ∷ xs) ys =
+    let f = frame_of generation place x in
+    let p = place + length f in
+    let more = frames_append generation p xs ys in
+    let same : p + length (frames_of generation p xs) ≡ place + length (f ++ frames_of generation p xs) = omega (arith, length-append f (frames_of generation p xs)) in
+    ap (λ (l : List ℕ). f ++ l) (more ∙ ap (λ (q : ℕ). frames_of generation p xs ++ frames_of generation q ys) same)
+    ∙ sym (append_assoc f (frames_of generation p xs) (frames_of generation (place + length (f ++ frames_of generation p xs)) ys))
+
+pub log_append : (header : LogHeader) (xs ys : List Entry)
+    → log_spelling header (xs ++ ys) ≡ log_spelling header xs ++ frames_of header.generation (length (log_spelling header xs)) ys
+log_append header xs ys =
+    let h = header_frame header in
+    let g = header.generation in
+    let fs = frames_of g (length h) xs in
+    let same : length h + length fs ≡ length (h ++ fs) = omega (arith, length-append h fs) in
+    ap (λ (l : List ℕ). h ++ l) (frames_append g (length h) xs ys ∙ ap (λ (q : ℕ). fs ++ frames_of g q ys) same)
+    ∙ sym (append_assoc h fs (frames_of g (length (h ++ fs)) ys))
+
+pub have_append : (generation place : ℕ) (xs ys : List Entry) → HaveFrames generation place xs → HaveFrames generation (place + length (frames_of generation place xs)) ys → HaveFrames generation place (xs ++ ys)
+have_append generation place [] ys have more = subst (λ (p : ℕ). HaveFrames generation p ys) (omega arith) more
+have_append generation place (x ∷ xs) ys have more =
+    let f = frame_of generation place x in
+    let p = place + length f in
+    let same : place + length (f ++ frames_of generation p xs) ≡ p + length (frames_of generation p xs) = omega (arith, length-append f (frames_of generation p xs)) in
+    (have.0, have_append generation p xs ys have.1 (subst (λ (q : ℕ). HaveFrames generation q ys) same more))
+
+pub have_parts : (generation place : ℕ) (xs ys : List Entry) → HaveFrames generation place (xs ++ ys) → HaveFrames generation place xs × HaveFrames generation (place + length (frames_of generation place xs)) ys
+have_parts generation place [] ys have = (tt, subst (λ (p : ℕ). HaveFrames generation p ys) (omega arith) have)
+have_parts generation place (x ∷ xs) ys have =
+    let f = frame_of generation place x in
+    let p = place + length f in
+    let more = have_parts generation p xs ys have.1 in
+    let same : p + length (frames_of generation p xs) ≡ place + length (f ++ frames_of generation p xs) = omega (arith, length-append f (frames_of generation p xs)) in
+    ((have.0, more.0), subst (λ (q : ℕ). HaveFrames generation q ys) same more.1)
+
+-- ---- numbers
+
+pub last_append : (n : ℕ) (xs ys : List Entry) → last_number n (xs ++ ys) ≡ last_number (last_number n xs) ys
+last_append n [] ys = refl
+last_append n (Header h ∷ xs) ys = last_append n xs ys
+last_append n (Group c ∷ xs) ys = last_append (n + length c.records) xs ys
+last_append n (Closed m ∷ xs) ys = last_append n xs ys
+
+pub last_least : (n : ℕ) (xs : List Entry) → n ≤ last_number n xs
+last_least n [] = omega arith
+last_least n (Header h ∷ xs) = last_least n xs
+last_least n (Group c ∷ xs) = omega (arith, last_least (n + length c.records) xs)
+last_least n (Closed m ∷ xs) = last_least n xs
+
+pub numbered_append : (n : ℕ) (xs ys : List Entry) → AreNumbered n xs → AreNumbered (last_number n xs) ys → AreNumbered n (xs ++ ys)
+numbered_append n [] ys are more = more
+numbered_append n (Header h ∷ xs) ys are more = are
+numbered_append n (Group c ∷ xs) ys are more = (are.0, numbered_append (n + length c.records) xs ys are.1 more)
+numbered_append n (Closed m ∷ xs) ys are more = (are.0, numbered_append n xs ys are.1 more)
+
+pub numbered_front : (n : ℕ) (xs ys : List Entry) → AreNumbered n (xs ++ ys) → AreNumbered n xs
+numbered_front n [] ys are = tt
+numbered_front n (Header h ∷ xs) ys are = are
+numbered_front n (Group c ∷ xs) ys are = (are.0, numbered_front (n + length c.records) xs ys are.1)
+numbered_front n (Closed m ∷ xs) ys are = (are.0, numbered_front n xs ys are.1)
+
+-- ---- the first entries
+
+pub take_over : (xs ys : List Entry) (k : ℕ) → take (length xs + k) (xs ++ ys) ≡ xs ++ take k ys
+take_over [] ys k = ap (λ (n : ℕ). take n ys) (omega arith)
+take_over (x ∷ xs) ys k =
+    let n : length (x ∷ xs) + k ≡ suc (length xs + k) = omega arith in
+    ap (λ (m : ℕ). take m (x ∷ (xs ++ ys))) n ∙ ap (λ (l : List Entry). x ∷ l) (take_over xs ys k)
+
+pub says_front : (header : LogHeader) (xs ys : List Entry) → MaySay header (xs ++ ys) → MaySay header xs
+says_front header xs ys says = record {
+  begins = says.begins;
+  have = (have_parts header.generation (length (header_frame header)) xs ys says.have).0;
+  numbered = numbered_front header.base xs ys says.numbered;
+}
+
+-- ---- read one way
+
+frames_one_way : (generation place : ℕ) (xs ys : List Entry) (a b : List ℕ) → HaveFrames generation place xs → HaveFrames generation place ys → IsTrue (ends a) → IsTrue (ends b)
+    → frames_of generation place xs ++ a ≡ frames_of generation place ys ++ b → xs ≡ ys
+frames_one_way generation place [] [] a b have_x have_y ends_a ends_b e = refl
+frames_one_way generation place [] (y ∷ ys) a b have_x have_y ends_a ends_b e =
+    let f = frame_of generation place y in
+    let rest = frames_of generation (place + length f) ys ++ b in
+    absurd (frames_do_not_end generation place y rest have_y.0 (subst (λ (l : List ℕ). IsTrue (ends l)) (e ∙ append_assoc f (frames_of generation (place + length f) ys) b) ends_a))
+frames_one_way generation place (x ∷ xs) [] a b have_x have_y ends_a ends_b e =
+    let f = frame_of generation place x in
+    let rest = frames_of generation (place + length f) xs ++ a in
+    absurd (frames_do_not_end generation place x rest have_x.0 (subst (λ (l : List ℕ). IsTrue (ends l)) (sym e ∙ append_assoc f (frames_of generation (place + length f) xs) a) ends_b))
+frames_one_way generation place (x ∷ xs) (y ∷ ys) a b have_x have_y ends_a ends_b e =
+    let f = frame_of generation place x in
+    let k = frame_of generation place y in
+    let apart = sym (append_assoc f (frames_of generation (place + length f) xs) a) ∙ e ∙ append_assoc k (frames_of generation (place + length k) ys) b in
+    let s = frames_read_one_way generation place x y (frames_of generation (place + length f) xs ++ a) (frames_of generation (place + length k) ys ++ b) have_x.0 have_y.0 apart in
+    let p : place + length k ≡ place + length f = ap (λ (z : Entry). place + length (frame_of generation place z)) (sym s.0) in
+    let rest = s.1 ∙ ap (λ (q : ℕ). frames_of generation q ys ++ b) p in
+    let more = frames_one_way generation (place + length f) xs ys a b have_x.1 (subst (λ (q : ℕ). HaveFrames generation q ys) p have_y.1) ends_a ends_b rest in
+    ap (λ (z : Entry). z ∷ xs) s.0 ∙ ap (λ (l : List Entry). y ∷ l) more
+
+same_header : (h k : LogHeader) → Header h ≡ Header k → h ≡ k
+same_header h k e = cc
+
+pub logs_read_one_way : LogsReadOneWay
+logs_read_one_way header other entries others bytes one two =
+    let h = header_frame header in
+    let k = header_frame other in
+    let fs = frames_of header.generation (length h) entries in
+    let gs = frames_of other.generation (length k) others in
+    let apart : h ++ (fs ++ one.rest) ≡ k ++ (gs ++ two.rest) = sym (append_assoc h fs one.rest) ∙ sym one.parts ∙ two.parts ∙ append_assoc k gs two.rest in
+    let s = frames_read_one_way 0 0 (Header header) (Header other) (fs ++ one.rest) (gs ++ two.rest) one.says.begins two.says.begins apart in
+    let same = same_header header other s.0 in
+    let place : (g : LogHeader) → List ℕ = λ g. frames_of g.generation (length (header_frame g)) others ++ two.rest in
+    let rest = s.1 ∙ ap place (sym same) in
+    let have : HaveFrames header.generation (length h) others = subst (λ (g : LogHeader). HaveFrames g.generation (length (header_frame g)) others) (sym same) two.says.have in
+    (same, frames_one_way header.generation (length h) entries others one.rest two.rest one.says.have have one.ended two.ended rest)
+
+pub frame_some : (generation place : ℕ) (entry : Entry) → 0 < length (frame_of generation place entry)
+unfolding framed
+frame_some generation place entry = omega arith

@@ -1,0 +1,9 @@
+//! A log of commits in one file, which a crash leaves whole up to some frame. README.md describes it.
+#![tactic(auto)]
+
+pub mod error;
+mod growing;
+pub mod journal;
+pub mod laws;
+pub mod position;
+mod steps;
