@@ -1,5 +1,5 @@
 -- Frames are read as they were written, and a torn one ends the log.
-use Rattle.std.proofs.Common.{◌≡◌, ◌⊎◌, ℕ, ◌+◌, ◌≤◌, ◌||◌, Bool, true, false, cond, ltb, List, [], ◌∷◌, ◌++◌, length, take, drop, Option, Some, None, Result, Ok, Err, refl, sym, ap, subst, ◌∙◌, append_assoc, arith, inl, inr, length-append}
+use Rattle.std.proofs.Common.{zero, suc, ◌<◌, ◌&&◌, ◌≡◌, ◌⊎◌, ℕ, ◌+◌, ◌≤◌, ◌||◌, Bool, true, false, cond, ltb, List, [], ◌∷◌, ◌++◌, length, take, drop, Option, Some, None, Result, Ok, Err, refl, sym, ap, subst, ◌∙◌, append_assoc, arith, inl, inr, length-append}
 use Rattle.std.specs.Prelude.{IsTrue, IfOk, IfSome, IfNone, not}
 use Rattle.std.specs.Int.{w64, to_be_bytes}
 use Rattle.std.proofs.lemmas.Bool.{ltb-false}
@@ -15,7 +15,7 @@ use Rattle.mt_frame.specs.Digest.{digest}
 use Rattle.mt_frame.specs.Spelling.{entry_spelling, text_of, length_spelling, framed, frame_of}
 use Rattle.mt_frame.specs.Fits.{HasFrame}
 use Rattle.mt_frame.specs.Ends.{has_zero, is_length, announced, length_part, text_part, ends}
-use Rattle.mt_frame.specs.Laws.{OldOrNew, FramesReadOneWay, FramesDoNotEnd, TornFramesEnd}
+use Rattle.mt_frame.specs.Laws.{OldOrNew, FramesReadOneWay, FramesDoNotEnd, TornFramesEnd, EndsStay}
 use Rattle.mt_frame.specs.Faults.{front, text_says, with_length, after_front, frame_at, Reads}
 use Rattle.mt_frame.proofs.Escapes.{escaped_clean, escaped_longer}
 use Rattle.mt_frame.proofs.Lengths.{announced_again, length_clean, is_length_again, length_back}
@@ -310,3 +310,63 @@ torn_text text left rest is mixed =
 
 pub torn_frames_end : TornFramesEnd
 torn_frames_end generation place entry left rest has mixed = torn_text (text_of generation place entry) left rest (text_is generation place entry has) mixed
+
+-- ---- an end stays
+
+zero_stays : (n : ℕ) (ws cs : List ℕ) → OldOrNew ws cs → has_zero (take n ws) ≡ true → has_zero (take n cs) ≡ true
+zero_stays zero ws cs mixed z = z
+zero_stays (suc n) [] [] mixed z = z
+zero_stays (suc n) [] (c ∷ cs) mixed z = absurd mixed
+zero_stays (suc n) (w ∷ ws) [] mixed z = absurd mixed
+zero_stays (suc n) (w ∷ ws) (c ∷ cs) mixed z = elim mixed.0 [
+  | inr lost ↦ rw lost refl
+  | inl same ↦ elim (eqb_tells w 0) [
+    | inl none ↦ rw (same, none.0) refl
+    | inr some ↦
+        let rest : has_zero (take n ws) ≡ true = sym (rw some.0 refl) ∙ z in
+        rw (same, some.0) (zero_stays n ws cs mixed.1 rest)
+  ]
+]
+
+old_take : (n : ℕ) (ws cs : List ℕ) → OldOrNew ws cs → OldOrNew (take n ws) (take n cs)
+old_take zero ws cs mixed = tt
+old_take (suc n) [] [] mixed = tt
+old_take (suc n) [] (c ∷ cs) mixed = absurd mixed
+old_take (suc n) (w ∷ ws) [] mixed = absurd mixed
+old_take (suc n) (w ∷ ws) (c ∷ cs) mixed = (mixed.0, old_take n ws cs mixed.1)
+
+old_drop : (n : ℕ) (ws cs : List ℕ) → OldOrNew ws cs → OldOrNew (drop n ws) (drop n cs)
+old_drop zero ws cs mixed = mixed
+old_drop (suc n) [] [] mixed = tt
+old_drop (suc n) [] (c ∷ cs) mixed = absurd mixed
+old_drop (suc n) (w ∷ ws) [] mixed = absurd mixed
+old_drop (suc n) (w ∷ ws) (c ∷ cs) mixed = old_drop n ws cs mixed.1
+
+ends_by_parts : (a b c : Bool) → (a || (b && c)) ≡ true → (a ≡ true) ⊎ ((b ≡ true) × (c ≡ true))
+ends_by_parts true b c e = inl refl
+ends_by_parts false true true e = inr (refl, refl)
+ends_by_parts false true false e = absurd (cc)
+ends_by_parts false false c e = absurd (cc)
+
+ends_parts : (bytes : List ℕ) → ends bytes ≡ true → (has_zero (length_part bytes) ≡ true) ⊎ ((is_length (length_part bytes) ≡ true) × (has_zero (text_part bytes) ≡ true))
+unfolding ends
+ends_parts bytes e = ends_by_parts (has_zero (length_part bytes)) (is_length (length_part bytes)) (has_zero (text_part bytes)) e
+
+pub ends_stay : EndsStay
+ends_stay bytes left mixed e = elim (ends_parts bytes e) [
+  | inl z ↦ ends_in_length left (zero_stays LENGTH_BYTES bytes left mixed z)
+  | inr more ↦ elim (torn_zero (length_part bytes) (length_part left) (old_take LENGTH_BYTES bytes left mixed)) [
+    | inr torn ↦ ends_in_length left torn
+    | inl same ↦
+        let l = ap is_length same ∙ more.0 in
+        let rest = old_drop LENGTH_BYTES bytes left mixed in
+        let t = zero_stays (announced (length_part bytes)) (drop LENGTH_BYTES bytes) (drop LENGTH_BYTES left) rest more.1 in
+        let n : announced (length_part left) ≡ announced (length_part bytes) = ap announced same in
+        ends_in_text left l (ap (λ (k : ℕ). has_zero (take k (drop LENGTH_BYTES left))) n ∙ t)
+  ]
+]
+
+pub ends_some : (bytes : List ℕ) → ends bytes ≡ true → 0 < length bytes
+unfolding ends
+ends_some [] e = absurd (cc)
+ends_some (b ∷ bytes) e = omega arith

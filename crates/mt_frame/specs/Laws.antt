@@ -31,3 +31,7 @@ TornFramesEnd =
     (generation place : ℕ) (entry : Entry) (left rest : List ℕ) → HasFrame generation place entry
     → OldOrNew (frame_of generation place entry) left
     → (left ≡ frame_of generation place entry) ⊎ IsTrue (ends (left ++ rest))
+
+-- where a log ends it still ends if a crash sets some of the bytes to zero
+abbrev pub EndsStay : Type 0
+EndsStay = (bytes left : List ℕ) → OldOrNew bytes left → IsTrue (ends bytes) → IsTrue (ends left)

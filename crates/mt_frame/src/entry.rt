@@ -16,7 +16,7 @@ pub enum Entry {
 }
 
 /// Which log this is.
-#[derive(Debug, PartialEq, Eq, Drop)]
+#[derive(Clone, Copy, Debug, PartialEq, Eq)]
 pub struct LogHeader {
     /// How many columns each row has.
     pub columns: u8,

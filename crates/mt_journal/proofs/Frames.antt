@@ -1,5 +1,5 @@
 -- Logs as lists of frames: one after another, and read one way.
-use Rattle.std.proofs.Common.{◌≡◌, ℕ, zero, suc, ◌+◌, ◌<◌, ◌≤◌, List, [], ◌∷◌, ◌++◌, length, take, drop, refl, sym, ap, subst, ◌∙◌, append_assoc, arith, length-append}
+use Rattle.std.proofs.Common.{◌≡◌, ℕ, suc, ◌+◌, ◌<◌, ◌≤◌, List, [], ◌∷◌, ◌++◌, length, take, refl, sym, ap, subst, ◌∙◌, append_assoc, arith, length-append}
 use Rattle.std.specs.Prelude.{IsTrue}
 use Rattle.std.proofs.lemmas.List.{append-nil}
 use Rattle.mt_frame.specs.declared.entry.Entry.{Entry}
@@ -9,7 +9,7 @@ use Rattle.mt_frame.specs.Spelling.{frame_of, frames_of, framed}
 use Rattle.mt_frame.specs.Fits.{HasFrame}
 use Rattle.mt_frame.specs.Ends.{ends}
 use Rattle.mt_frame.proofs.FrameLaws.{frames_read_one_way, frames_do_not_end}
-use Rattle.mt_journal.specs.Log.{last_number, AreNumbered, HaveFrames, header_frame, log_spelling, MaySay, IsLog}
+use Rattle.mt_journal.specs.Log.{last_number, AreNumbered, HaveFrames, header_frame, log_spelling, MaySay}
 use Rattle.mt_journal.specs.Laws.{LogsReadOneWay}
 
 -- ---- one list of frames after another
@@ -92,6 +92,28 @@ says_front header xs ys says = record {
   have = (have_parts header.generation (length (header_frame header)) xs ys says.have).0;
   numbered = numbered_front header.base xs ys says.numbered;
 }
+
+-- one more entry
+pub says_next : (header : LogHeader) (entries : List Entry) (entry : Entry) (generation place n : ℕ) → MaySay header entries → generation ≡ header.generation → place ≡ length (log_spelling header entries)
+    → n ≡ last_number header.base entries → HasFrame generation place entry → AreNumbered n (entry ∷ []) → MaySay header (entries ++ entry ∷ [])
+says_next header entries entry generation place n says same end newest has numbered =
+    let h = length (header_frame header) in
+    let g = header.generation in
+    let here : place ≡ h + length (frames_of g h entries) = end ∙ length-append (header_frame header) (frames_of g h entries) in
+    let has_here : HasFrame g (h + length (frames_of g h entries)) entry = subst (λ (p : ℕ). HasFrame g p entry) here (subst (λ (k : ℕ). HasFrame k place entry) same has) in
+    record {
+      begins = says.begins;
+      have = have_append g h entries (entry ∷ []) says.have (has_here, tt);
+      numbered = numbered_append header.base entries (entry ∷ []) says.numbered (subst (λ (k : ℕ). AreNumbered k (entry ∷ [])) newest numbered);
+    }
+
+-- the frames with one more
+pub log_next : (header : LogHeader) (entries : List Entry) (entry : Entry) (generation place : ℕ) → generation ≡ header.generation → place ≡ length (log_spelling header entries)
+    → log_spelling header (entries ++ entry ∷ []) ≡ log_spelling header entries ++ frame_of generation place entry
+log_next header entries entry generation place same end =
+    let log = log_spelling header entries in
+    log_append header entries (entry ∷ [])
+    ∙ ap (λ (l : List ℕ). log ++ l) (append-nil (frame_of header.generation (length log) entry) ∙ ap (λ (k : ℕ). frame_of header.generation k entry) (sym end) ∙ ap (λ (k : ℕ). frame_of k place entry) (sym same))
 
 -- ---- read one way
 

@@ -1,5 +1,5 @@
 -- The steps of a journal keep it.
-use Rattle.std.proofs.Common.{◌≡◌, ◌⊎◌, ℕ, zero, suc, ◌+◌, ◌-◌, ◌^◌, ◌<◌, ◌≤◌, List, [], ◌∷◌, ◌++◌, length, get_or, take, drop, replicate, refl, sym, ap, subst, ◌∙◌, append_assoc, arith, inl, inr, length-append, Result, Ok, Err}
+use Rattle.std.proofs.Common.{◌≡◌, ◌⊎◌, ℕ, ◌+◌, ◌-◌, ◌<◌, ◌≤◌, List, [], ◌∷◌, ◌++◌, length, take, drop, replicate, refl, sym, ap, subst, ◌∙◌, append_assoc, arith, inl, inr, length-append, Result, Ok, Err}
 use Rattle.std.specs.Prelude.{OnOk}
 use Rattle.std.proofs.lemmas.List.{append-nil, take-append-le, get_or-replicate, replicate-append-replicate, length-replicate}
 use Rattle.std.proofs.lemmas.List.Prefix.{at_from_reads}
@@ -10,11 +10,11 @@ use Rattle.mt_frame.specs.Spelling.{frame_of, frames_of}
 use Rattle.mt_frame.specs.Fits.{HasFrame}
 use Rattle.mt_frame.specs.Laws.{OldOrNew}
 use Rattle.mt_journal.specs.declared.position.Position.{Position}
-use Rattle.mt_journal.specs.Log.{last_number, AreNumbered, header_frame, log_spelling, MaySay, IsLog}
+use Rattle.mt_journal.specs.Log.{last_number, AreNumbered, log_spelling, MaySay, IsLog}
 use Rattle.mt_journal.specs.Keeping.{IsTorn, Keeps, HasZeros, AllSurvive}
-use Rattle.mt_journal.proofs.Frames.{frames_append, log_append, have_append, numbered_append, last_append, last_least}
+use Rattle.mt_journal.proofs.Frames.{frames_append, log_append, says_next, last_append, last_least}
 use Rattle.mt_journal.proofs.Torn.{survives}
-use Rattle.mt_journal.proofs.Writes.{IsOver, same_front, holds_over, mixed_zeros}
+use Rattle.mt_journal.proofs.Writes.{same_front, holds_over, mixed_zeros}
 
 old_append : (a b c d : List ℕ) → OldOrNew a c → OldOrNew b d → OldOrNew (a ++ b) (c ++ d)
 old_append [] b [] d mixed more = more
@@ -28,7 +28,7 @@ same_length [] (c ∷ cs) mixed = absurd mixed
 same_length (w ∷ ws) [] mixed = absurd mixed
 same_length (w ∷ ws) (c ∷ cs) mixed = omega (arith, same_length ws cs mixed.1)
 
-split_zeros : (n z : ℕ) (rest : List ℕ) → n ≤ z → replicate z 0 ++ rest ≡ replicate n 0 ++ (replicate (z - n) 0 ++ rest)
+pub split_zeros : (n z : ℕ) (rest : List ℕ) → n ≤ z → replicate z 0 ++ rest ≡ replicate n 0 ++ (replicate (z - n) 0 ++ rest)
 split_zeros n z rest few =
     let k : n + (z - n) ≡ z = omega (arith, few) in
     ap (λ (j : ℕ). replicate j 0 ++ rest) (sym k) ∙ ap (λ (l : List ℕ). l ++ rest) (sym (replicate-append-replicate n (z - n) 0)) ∙ append_assoc (replicate n 0) (replicate (z - n) 0) rest
@@ -285,16 +285,7 @@ survive_more header entries more durable may all = λ left may_left.
 
 pub says_more : (at : Position) (seen : List ℕ) (may : List ℕ → Type 0) (header : LogHeader) (entries : List Entry) (entry : Entry) → Keeps at seen may header entries
     → HasFrame at.generation at.end entry → AreNumbered at.newest (entry ∷ []) → MaySay header (entries ++ entry ∷ [])
-says_more at seen may header entries entry keeps has numbered =
-    let h = length (header_frame header) in
-    let g = header.generation in
-    let place : at.end ≡ h + length (frames_of g h entries) = keeps.end ∙ length-append (header_frame header) (frames_of g h entries) in
-    let here : HasFrame g (h + length (frames_of g h entries)) entry = subst (λ (p : ℕ). HasFrame g p entry) place (subst (λ (k : ℕ). HasFrame k at.end entry) keeps.generation has) in
-    record {
-      begins = keeps.says.begins;
-      have = have_append g h entries (entry ∷ []) keeps.says.have (here, tt);
-      numbered = numbered_append header.base entries (entry ∷ []) keeps.says.numbered (subst (λ (n : ℕ). AreNumbered n (entry ∷ [])) keeps.newest numbered);
-    }
+says_more at seen may header entries entry keeps has numbered = says_next header entries entry at.generation at.end at.newest keeps.says keeps.generation keeps.end keeps.newest has numbered
 
 -- a step that syncs or not loses nothing that is durable
 pub durable_after : (at : Position) (seen : List ℕ) (may : List ℕ → Type 0) (new : Position) (header : LogHeader) (entries : List Entry) → Keeps at seen may header entries

@@ -5,3 +5,6 @@ mod Writes
 -- What a crash leaves of a log, and the steps of a journal.
 mod Torn
 mod Kept
+-- Recovery.
+mod Reading
+mod Repairs

@@ -1,13 +1,13 @@
 -- Of a torn log the first entries are read, among them all that were synced.
-use Rattle.std.proofs.Common.{◌≡◌, ◌⊎◌, ℕ, zero, suc, ◌+◌, ◌<◌, ◌≤◌, ◌||◌, Bool, true, false, List, [], ◌∷◌, ◌++◌, length, take, drop, replicate, refl, sym, ap, subst, ◌∙◌, append_assoc, arith, inl, inr, length-append}
+use Rattle.std.proofs.Common.{◌≡◌, ℕ, zero, suc, ◌+◌, ◌<◌, ◌≤◌, true, List, [], ◌∷◌, ◌++◌, length, take, drop, replicate, refl, sym, ap, subst, ◌∙◌, append_assoc, arith, inl, inr, length-append}
 use Rattle.std.specs.Prelude.{IsTrue}
-use Rattle.std.proofs.lemmas.List.{append-nil, take-append-drop}
+use Rattle.std.proofs.lemmas.List.{take-append-drop}
 use Rattle.mt_frame.specs.declared.entry.Entry.{Entry}
 use Rattle.mt_frame.specs.declared.entry.LogHeader.{LogHeader}
 use Rattle.mt_frame.specs.Spelling.{frame_of, frames_of}
-use Rattle.mt_frame.specs.Ends.{has_zero, is_length, length_part, text_part, ends}
+use Rattle.mt_frame.specs.Ends.{ends}
 use Rattle.mt_frame.specs.Laws.{OldOrNew}
-use Rattle.mt_frame.proofs.FrameLaws.{torn_frames_end, IsCut, cut_mixed}
+use Rattle.mt_frame.proofs.FrameLaws.{torn_frames_end, cut_mixed}
 use Rattle.mt_journal.specs.Log.{last_number, HaveFrames, header_frame, log_spelling, MaySay, IsLog}
 use Rattle.mt_journal.specs.Keeping.{Survives, IsTorn}
 use Rattle.mt_journal.proofs.Frames.{log_append, have_parts, last_append, last_least, take_over, says_front}

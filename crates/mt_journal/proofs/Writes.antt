@@ -1,5 +1,5 @@
 -- What a write leaves of a list of bytes, part by part.
-use Rattle.std.proofs.Common.{◌≡◌, ◌⊎◌, ℕ, zero, suc, ◌+◌, ◌-◌, ◌<◌, ◌≤◌, List, [], ◌∷◌, ◌++◌, length, get_or, take, drop, replicate, refl, sym, ap, subst, ◌∙◌, append_assoc, arith, inl, inr, length-append}
+use Rattle.std.proofs.Common.{◌≡◌, ◌⊎◌, ℕ, suc, ◌+◌, ◌<◌, List, [], ◌∷◌, ◌++◌, length, get_or, take, drop, refl, sym, ap, ◌∙◌, arith, inl, inr, length-append}
 use Rattle.std.proofs.lemmas.List.{append-nil, take-append-drop, length-take, length-drop, get_or_append_left, get_or-append-add, drop-drop}
 use Rattle.std.proofs.lemmas.List.Prefix.{front_from_reads, at_from_reads}
 use Rattle.sqlite_disk.specs.Disk.{Holds, Torn, Mixed}

@@ -3,5 +3,6 @@ pub mod Log
 pub mod Keeping
 pub mod Appending
 pub mod Laws
--- Contracts of private calls speak of this.
+-- Contracts of private calls speak of these.
 pub mod Growing
+pub mod Recovery

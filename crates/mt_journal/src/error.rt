@@ -1,7 +1,7 @@
 //! Why a log was not opened, and why nothing was written.
 
 use mt_frame::fault::{EncodeError, FrameFault};
-use std::alloc::AllocError;
+use std::alloc::{AllocError, AllocFailed};
 use std::io;
 use thiserror::Error;
 
@@ -39,7 +39,7 @@ pub enum JournalError {
     DiskFull,
     /// The disk failed.
     #[error("the disk failed: {0}")]
-    Disk(io::Error),
+    Disk(#[from] io::Error),
     /// A call of the disk failed before. Nothing more is asked of the file.
     #[error("the log was given up after a failure of the disk")]
     GivenUp,
@@ -53,6 +53,12 @@ pub enum JournalError {
 
 impl From<AllocError> for JournalError {
     fn from(_: AllocError) -> JournalError {
+        JournalError::NoMemory
+    }
+}
+
+impl<T: Drop> From<AllocFailed<T>> for JournalError {
+    fn from(_: AllocFailed<T>) -> JournalError {
         JournalError::NoMemory
     }
 }

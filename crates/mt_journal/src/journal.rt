@@ -11,11 +11,12 @@ use crate::error::JournalError;
 use crate::growing::{GrowError, grow};
 use crate::position::Position;
 use crate::steps::{sync_log, write_frame};
+use crate::zeros::zeros;
 use mt_frame::encode::encode;
 use mt_frame::entry::{Commits, Entry, Record};
 use mt_types::items::Items;
 use sqlite_disk::{Disk, is_no_room};
-use std::alloc::{AllocError, Global};
+use std::alloc::Global;
 
 /// How many zeros are written ahead at once.
 pub const ZEROS_AHEAD: usize = 1_048_576;
@@ -26,15 +27,6 @@ pub struct Journal<D: Disk> {
     disk: D,
     at: Position,
     is_given_up: bool,
-}
-
-// As many zeros.
-fn zeros(alloc: Global, count: usize) -> Result<Vec<u8>, AllocError>
-    ensures { IfOk result (λ zeros. zeros.items ≡ replicate count 0) }
-{
-    let mut zeros = Vec::new(alloc);
-    zeros.resize(count, 0)?;
-    Ok(zeros)
 }
 
 impl<D: Disk + Drop> Journal<D> {

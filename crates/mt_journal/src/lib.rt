@@ -5,5 +5,8 @@ pub mod error;
 mod growing;
 pub mod journal;
 pub mod laws;
+pub mod opening;
 pub mod position;
+pub mod recovery;
 mod steps;
+mod zeros;

@@ -1,4 +1,4 @@
-use Rattle.std.proofs.Common.{◌≡◌, ℕ, List, length}
+use Rattle.std.proofs.Common.{length}
 use Rattle.mt_journal.proofs.Kept.{all_survive, grown, unless_err}
 use Rattle.mt_journal.proofs.growing.grow.Goals as goal
 

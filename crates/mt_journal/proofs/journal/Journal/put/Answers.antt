@@ -1,6 +1,5 @@
-use Rattle.std.proofs.Common.{◌≡◌, ◌⊎◌, ℕ, ◌+◌, ◌≤◌, List, [], ◌∷◌, ◌++◌, sym, ap, subst, ◌∙◌, inl, inr, arith}
+use Rattle.std.proofs.Common.{◌≡◌, ℕ, ◌+◌, [], ◌∷◌, ◌++◌, sym, ap, ◌∙◌}
 use Rattle.mt_frame.specs.Spelling.{frame_of}
-use Rattle.mt_frame.specs.declared.entry.Entry.{Entry}
 use Rattle.mt_journal.specs.Log.{last_number}
 use Rattle.mt_journal.proofs.Kept.{all_survive, survive_more, survive_less, says_more, durable_after, unless_err}
 use Rattle.mt_journal.proofs.journal.Journal.put.Goals as goal
