@@ -158,3 +158,51 @@ logs_read_one_way header other entries others bytes one two =
 pub frame_some : (generation place : ℕ) (entry : Entry) → 0 < length (frame_of generation place entry)
 unfolding framed
 frame_some generation place entry = omega arith
+
+-- ---- the entries of a log after those that were read
+
+pub record IsAhead (generation place : ℕ) (front whole : List Entry) (bytes rest : List ℕ) : Type 0 where
+  pub more : List Entry
+  pub joined : whole ≡ front ++ more
+  pub parts : bytes ≡ frames_of generation (place + length (frames_of generation place front)) more ++ rest
+  pub have : HaveFrames generation (place + length (frames_of generation place front)) more
+
+pub frames_ahead : (generation place : ℕ) (xs ys : List Entry) (a b : List ℕ) → HaveFrames generation place xs → HaveFrames generation place ys → IsTrue (ends b)
+    → frames_of generation place xs ++ a ≡ frames_of generation place ys ++ b → IsAhead generation place xs ys a b
+frames_ahead generation place [] ys a b have_x have_y ends_b e =
+    let here : place ≡ place + length {A = ℕ} [] = omega arith in
+    record {
+      more = ys;
+      joined = refl;
+      parts = e ∙ ap (λ (p : ℕ). frames_of generation p ys ++ b) here;
+      have = subst (λ (p : ℕ). HaveFrames generation p ys) here have_y;
+    }
+frames_ahead generation place (x ∷ xs) [] a b have_x have_y ends_b e =
+    let f = frame_of generation place x in
+    absurd (frames_do_not_end generation place x (frames_of generation (place + length f) xs ++ a) have_x.0 (subst (λ (l : List ℕ). IsTrue (ends l)) (sym e ∙ append_assoc f (frames_of generation (place + length f) xs) a) ends_b))
+frames_ahead generation place (x ∷ xs) (y ∷ ys) a b have_x have_y ends_b e =
+    let f = frame_of generation place x in
+    let k = frame_of generation place y in
+    let apart = sym (append_assoc f (frames_of generation (place + length f) xs) a) ∙ e ∙ append_assoc k (frames_of generation (place + length k) ys) b in
+    let s = frames_read_one_way generation place x y (frames_of generation (place + length f) xs ++ a) (frames_of generation (place + length k) ys ++ b) have_x.0 have_y.0 apart in
+    let p : place + length k ≡ place + length f = ap (λ (z : Entry). place + length (frame_of generation place z)) (sym s.0) in
+    let rest = s.1 ∙ ap (λ (q : ℕ). frames_of generation q ys ++ b) p in
+    let more = frames_ahead generation (place + length f) xs ys a b have_x.1 (subst (λ (q : ℕ). HaveFrames generation q ys) p have_y.1) ends_b rest in
+    let here : place + length f + length (frames_of generation (place + length f) xs) ≡ place + length (f ++ frames_of generation (place + length f) xs) = omega (arith, length-append f (frames_of generation (place + length f) xs)) in
+    record {
+      more = more.more;
+      joined = ap (λ (l : List Entry). y ∷ l) more.joined ∙ ap (λ (z : Entry). z ∷ (xs ++ more.more)) (sym s.0);
+      parts = more.parts ∙ ap (λ (q : ℕ). frames_of generation q more.more ++ b) here;
+      have = subst (λ (q : ℕ). HaveFrames generation q more.more) here more.have;
+    }
+
+pub numbered_rest : (n : ℕ) (xs ys : List Entry) → AreNumbered n (xs ++ ys) → AreNumbered (last_number n xs) ys
+numbered_rest n [] ys are = are
+numbered_rest n (Header h ∷ xs) ys are = absurd are
+numbered_rest n (Group c ∷ xs) ys are = numbered_rest (n + length c.records) xs ys are.1
+numbered_rest n (Closed m ∷ xs) ys are = numbered_rest n xs ys are.1
+
+pub numbered_first : (n : ℕ) (x : Entry) (ys : List Entry) → AreNumbered n (x ∷ ys) → AreNumbered n (x ∷ [])
+numbered_first n (Header h) ys are = are
+numbered_first n (Group c) ys are = (are.0, tt)
+numbered_first n (Closed m) ys are = (are.0, tt)

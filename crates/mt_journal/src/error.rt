@@ -1,5 +1,7 @@
 //! Why a log was not opened, and why nothing was written.
 
+ghost use Rattle.std.specs.Prelude.{◌≡◌};
+
 use mt_frame::fault::{EncodeError, FrameFault};
 use std::alloc::{AllocError, AllocFailed};
 use std::io;
@@ -52,12 +54,20 @@ pub enum JournalError {
 }
 
 impl From<AllocError> for JournalError {
+    ghost use Rattle.mt_journal.specs.declared.error.JournalError.TheVariants.{NoMemory};
+
+    ghost from_gives = { λ _ error. error ≡ NoMemory };
+
     fn from(_: AllocError) -> JournalError {
         JournalError::NoMemory
     }
 }
 
 impl<T: Drop> From<AllocFailed<T>> for JournalError {
+    ghost use Rattle.mt_journal.specs.declared.error.JournalError.TheVariants.{NoMemory};
+
+    ghost from_gives = { λ _ error. error ≡ NoMemory };
+
     fn from(_: AllocFailed<T>) -> JournalError {
         JournalError::NoMemory
     }

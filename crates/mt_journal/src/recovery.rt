@@ -1,10 +1,11 @@
 //! A log, read from the bytes of its file.
 
-ghost use Rattle.std.specs.Prelude.{◌≡◌, ◌+◌, ◌++◌, ◌∷◌, ◌<◌, ◌≤◌, ℕ, List, [], length, drop, IsTrue, OnOk, IfOk, IfSome, IfNone};
+ghost use Rattle.std.specs.Prelude.{◌≡◌, ◌+◌, ◌++◌, ◌∷◌, ◌<◌, ◌≤◌, ◌^◌, ℕ, List, [], length, drop, IsTrue, OnOk, IfOk, IfErr, MatchResult, IfSome, IfNone};
 ghost use Rattle.mt_frame.specs.declared.entry.Entry.{Entry};
 ghost use Rattle.mt_frame.specs.declared.entry.LogHeader.{LogHeader};
+ghost use Rattle.mt_frame.specs.declared.entry.Entry.TheVariants.{Header};
 ghost use Rattle.mt_frame.specs.Ends.{ends};
-ghost use Rattle.mt_journal.specs.Log.{AreNumbered, last_number};
+ghost use Rattle.mt_journal.specs.Log.{AreNumbered, last_number, IsLog};
 ghost use Rattle.mt_journal.specs.Recovery.{HasRead, HasReadAll};
 
 use crate::error::{Damage, JournalError};
@@ -27,12 +28,14 @@ pub struct Recovered {
 
 // The number of the last commit after this entry, if the entry follows the commit `newest`.
 fn number_after(newest: u64, entry: &Entry) -> Option<u64>
-    ensures { IfSome result (λ number. AreNumbered newest (entry.now ∷ [])
+    ensures some { IfSome result (λ number. AreNumbered newest (entry.now ∷ [])
         × (number ≡ last_number newest (entry.now ∷ []))) }
+    ensures none { IfNone result (AreNumbered newest (entry.now ∷ []) → 2 ^ 64 ≤ last_number newest (entry.now ∷ [])) }
 {
     match entry {
         Entry::Commits(commits) => {
-            if newest == u64::MAX || commits.first != newest + 1 {
+            let first = commits.first;
+            if first == 0 || first - 1 != newest {
                 return None;
             }
             newest.checked_add(commits.records.len() as u64)
@@ -65,6 +68,9 @@ fn next_entry(alloc: Global, bytes: &[u8], at: &mut Position) -> Result<Option<E
     ensures within { at.new.end ≤ length bytes.now }
     ensures none { IfOk result (λ read. IfNone read (IsTrue (ends (drop at.new.end bytes.now)) × (at.new ≡ at.old))) }
     ensures room { at.new.room ≡ at.old.room }
+    ensures refused { (header : LogHeader) (entries others : List Entry) → HasRead header entries at.old bytes.now
+        → IsLog header others bytes.now → last_number header.base others < 2 ^ 64
+        → IfErr result (λ error. error ≡ JournalError.NoMemory) }
 {
     match decode(alloc, at.generation, at.end as u64, rest_of(bytes, at.end)) {
         Ok(None) => Ok(None),
@@ -93,6 +99,9 @@ fn all_entries(alloc: Global, bytes: &[u8], at: &mut Position) -> Result<Vec<Ent
     ensures read { (header : LogHeader) → HasRead header [] at.old bytes.now
         → IfOk result (λ entries. HasRead header entries.items at.new bytes.now) }
     ensures ended { OnOk result (IsTrue (ends (drop at.new.end bytes.now))) }
+    ensures refused { (header : LogHeader) (others : List Entry) → HasRead header [] at.old bytes.now
+        → IsLog header others bytes.now → last_number header.base others < 2 ^ 64
+        → IfErr result (λ error. error ≡ JournalError.NoMemory) }
     ensures within { at.new.end ≤ length bytes.now }
     ensures room { at.new.room ≡ at.old.room }
 {
@@ -105,16 +114,32 @@ fn all_entries(alloc: Global, bytes: &[u8], at: &mut Position) -> Result<Vec<Ent
     }
 }
 
+// The header that an entry is.
+fn header_of(entry: Entry) -> Option<LogHeader>
+    ensures some { IfSome result (λ header. entry ≡ Header header) }
+    ensures none { IfNone result ((header : LogHeader) → entry ≡ Header header → ⊥) }
+{
+    match entry {
+        Entry::Header(header) => Some(header),
+        Entry::Commits(_) | Entry::Closed(_) => None,
+    }
+}
+
 // The header at the front, and where it ends.
 fn read_header(
     alloc: Global,
     bytes: &[u8],
     columns: u8,
 ) -> Result<(LogHeader, Position), JournalError>
-    ensures { IfOk result (λ read. HasRead read.0 [] read.1 bytes.now × (read.1.room ≡ length bytes.now)) }
+    ensures read { IfOk result (λ read. HasRead read.0 [] read.1 bytes.now × (read.1.room ≡ length bytes.now)) }
+    ensures refused { (header : LogHeader) (others : List Entry) → IsLog header others bytes.now → header.columns ≡ columns
+        → MatchResult result (λ read. read.0 ≡ header) (λ error. error ≡ JournalError.NoMemory) }
 {
     match decode(alloc, 0, 0, bytes) {
-        Ok(Some((Entry::Header(header), count))) => {
+        Ok(Some((entry, count))) => {
+            let Some(header) = header_of(entry) else {
+                return Err(JournalError::NotALog);
+            };
             if header.columns != columns {
                 return Err(JournalError::OtherColumns {
                     found: header.columns,
@@ -129,7 +154,6 @@ fn read_header(
             };
             Ok((header, at))
         }
-        Ok(Some(_)) => Err(JournalError::NotALog),
         Ok(None) => Err(JournalError::NoLog),
         Err(DecodeError::NoMemory) => Err(JournalError::NoMemory),
         Err(DecodeError::Faulty(fault)) => Err(no_header(fault)),
@@ -157,6 +181,9 @@ fn no_header(fault: FrameFault) -> JournalError {
 pub fn read_log(alloc: Global, bytes: &[u8], columns: u8) -> Result<Recovered, JournalError>
     ensures read { IfOk result (λ read. HasReadAll read.header read.entries.items read.at bytes.now) }
     ensures within { IfOk result (λ read. read.at.end ≤ length bytes.now) }
+    ensures refused { (header : LogHeader) (others : List Entry) → IsLog header others bytes.now → header.columns ≡ columns
+        → last_number header.base others < 2 ^ 64
+        → IfErr result (λ error. error ≡ JournalError.NoMemory) }
 {
     let (header, mut at) = read_header(alloc, bytes, columns)?;
     let entries = all_entries(alloc, bytes, &mut at)?;
