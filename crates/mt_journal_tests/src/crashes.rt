@@ -29,16 +29,29 @@ fn all_entries(alloc: Global) -> Result<Vec<Entry>, Fail> {
     Ok(read_back(alloc, &bytes)??.0)
 }
 
-// The bytes of `new` at the chosen places, and those of `old` at the others.
-fn mixed(
-    alloc: Global,
-    old: &[u8],
-    new: &[u8],
-    chosen: impl Fn(usize) -> bool,
-) -> Result<Vec<u8>, Fail> {
+// Which unsynced bytes a crash leaves new. The others are old.
+#[derive(Clone, Copy)]
+enum Torn {
+    Before(usize),
+    AllBut(usize),
+    Only(usize),
+}
+
+impl Torn {
+    fn is_new(self, place: usize) -> bool {
+        match self {
+            Torn::Before(end) => place < end,
+            Torn::AllBut(lost) => place != lost,
+            Torn::Only(kept) => place == kept,
+        }
+    }
+}
+
+// What the crash leaves of a file.
+fn left_by(alloc: Global, torn: Torn, old: &[u8], new: &[u8]) -> Result<Vec<u8>, Fail> {
     let mut bytes = Vec::new(alloc);
     for (place, (before, after)) in old.iter().zip(new).enumerate() {
-        bytes.push(if chosen(place) { *after } else { *before })?;
+        bytes.push(if torn.is_new(place) { *after } else { *before })?;
     }
     Ok(bytes)
 }
@@ -59,12 +72,8 @@ fn a_crash_leaves_the_first_entries(rt: HostRuntime) -> Result<(), Fail> {
             continue;
         }
         for at in 0..KEPT {
-            let images = [
-                mixed(alloc, &synced, &written, |place| place < at)?,
-                mixed(alloc, &synced, &written, |place| place != at)?,
-                mixed(alloc, &synced, &written, |place| place == at)?,
-            ];
-            for image in images {
+            for torn in [Torn::Before(at), Torn::AllBut(at), Torn::Only(at)] {
+                let image = left_by(alloc, torn, &synced, &written)?;
                 let (entries, last) = read_back(alloc, &image)??;
                 assert!(rt; are_first(&entries, &all));
                 assert!(rt; durable <= last && last <= newest);
