@@ -1,0 +1,10 @@
+-- Logs as lists of frames.
+mod Frames
+-- What a write leaves of a list of bytes.
+mod Writes
+-- What a crash leaves of a log, and the steps of a journal.
+mod Torn
+mod Kept
+-- Recovery.
+mod Reading
+mod Repairs

@@ -1,0 +1,6 @@
+use Rattle.mt_journal.proofs.Kept.{all_survive}
+use Rattle.mt_journal.proofs.journal.Journal.position.Goals as goal
+
+pub returns-clause-survive : goal.returns-clause-survive
+returns-clause-survive g c = λ header entries keeps.
+    all_survive c.args.self.now.at (g.D.Disk.seen c.args.self.now.disk) (g.D.Disk.may_leave c.args.self.now.disk) (g.D.Disk.may_leave c.args.self.now.disk) header entries keeps (λ left may_left. may_left)

@@ -1,0 +1,11 @@
+-- Laws of logs, each of them proved as the contract of a function of src/laws.rt.
+use Rattle.std.specs.Prelude.{◌≡◌, ℕ, List}
+use Rattle.mt_frame.specs.declared.entry.Entry.{Entry}
+use Rattle.mt_frame.specs.declared.entry.LogHeader.{LogHeader}
+use Rattle.mt_journal.specs.Log.{IsLog}
+
+-- no bytes are two logs
+abbrev pub LogsReadOneWay : Type 0
+LogsReadOneWay =
+    (header other : LogHeader) (entries others : List Entry) (bytes : List ℕ) → IsLog header entries bytes
+    → IsLog other others bytes → (header ≡ other) × (entries ≡ others)

@@ -1,0 +1,63 @@
+//! Zeros written ahead of the end of a log.
+
+ghost use Rattle.std.specs.Prelude.{◌≡◌, ◌⊎◌, ◌+◌, ◌<◌, ◌^◌, ℕ, List, length, replicate, OnOk, IsTrue};
+ghost use Rattle.mt_frame.specs.declared.entry.Entry.{Entry};
+ghost use Rattle.mt_frame.specs.declared.entry.LogHeader.{LogHeader};
+ghost use Rattle.mt_journal.specs.Keeping.{Keeps, AllSurvive, HasZeros};
+ghost use Rattle.mt_journal.specs.Growing.{IsGrown};
+
+use crate::position::Position;
+use sqlite_disk::Disk;
+use std::io;
+
+/// Which call of the disk failed as zeros were added.
+#[derive(Debug, Drop)]
+pub enum GrowError {
+    /// The write: the journal is as before.
+    Write(io::Error),
+    /// The sync: nothing more may be asked of the file.
+    Sync(io::Error),
+}
+
+/// Writes zeros after the room. One call of the disk.
+fn write_zeros<D: Disk>(disk: &mut D, at: &Position, zeros: &[u8]) -> io::Result<()>
+    requires usable { IsTrue (D.Disk.is_usable disk.old) }
+    requires zeros { zeros.now ≡ replicate (length zeros.now) 0 }
+    ensures kept { (header : LogHeader) (entries : List Entry)
+        → Keeps at.now (D.Disk.seen disk.old) (D.Disk.may_leave disk.old) header entries
+        → Keeps at.now (D.Disk.seen disk.new) (D.Disk.may_leave disk.new) header entries }
+    ensures ahead { (header : LogHeader) (entries : List Entry)
+        → Keeps at.now (D.Disk.seen disk.old) (D.Disk.may_leave disk.old) header entries
+        → OnOk result (HasZeros at.now (length zeros.now) (D.Disk.seen disk.new) header entries) }
+    ensures usable { IsTrue (D.Disk.is_usable disk.new) }
+{
+    disk.write_at(at.room, zeros)
+}
+
+/// Adds zeros after the room and makes them durable, and with them all that was written. Two calls of the disk.
+pub fn grow<D: Disk>(disk: &mut D, at: &mut Position, zeros: &[u8]) -> Result<(), GrowError>
+    requires usable { IsTrue (D.Disk.is_usable disk.old) }
+    requires zeros { zeros.now ≡ replicate (length zeros.now) 0 }
+    requires fits { at.old.room + length zeros.now < 2 ^ 64 }
+    ensures kept { (header : LogHeader) (entries : List Entry)
+        → Keeps at.old (D.Disk.seen disk.old) (D.Disk.may_leave disk.old) header entries
+        → IsGrown result (Keeps at.new (D.Disk.seen disk.new) (D.Disk.may_leave disk.new) header entries) }
+    ensures crash { (header : LogHeader) (entries : List Entry)
+        → Keeps at.old (D.Disk.seen disk.old) (D.Disk.may_leave disk.old) header entries
+        → AllSurvive header entries at.old.durable (D.Disk.may_leave disk.new) }
+    ensures room { OnOk result (at.new.room ≡ at.old.room + length zeros.now) }
+    ensures end { at.new.end ≡ at.old.end }
+    ensures newest { at.new.newest ≡ at.old.newest }
+    ensures durable { (at.new.durable ≡ at.old.durable) ⊎ (at.new.durable ≡ at.old.newest) }
+    ensures usable { IsGrown result (IsTrue (D.Disk.is_usable disk.new)) }
+{
+    if let Err(error) = write_zeros(disk, at, zeros) {
+        return Err(GrowError::Write(error));
+    }
+    if let Err(error) = disk.sync() {
+        return Err(GrowError::Sync(error));
+    }
+    at.room += zeros.len();
+    at.durable = at.newest;
+    Ok(())
+}

@@ -1,0 +1,8 @@
+//! Laws of logs, each of them the contract of a function that does nothing.
+
+ghost use Rattle.mt_journal.specs.Laws.{LogsReadOneWay};
+
+/// No bytes are two logs.
+pub fn logs_are_read_one_way()
+    ensures { LogsReadOneWay }
+{}

@@ -1,0 +1,175 @@
+//! Logs, made and opened.
+
+ghost use Rattle.std.specs.Prelude.{◌≡◌, ◌⊎◌, ◌++◌, ◌+◌, ◌<◌, ◌≤◌, ◌^◌, ℕ, List, [], length, replicate, OnOk, IfOk, IsTrue};
+ghost use Rattle.mt_frame.specs.declared.entry.Entry.{Entry};
+ghost use Rattle.mt_frame.specs.declared.entry.LogHeader.{LogHeader};
+ghost use Rattle.sqlite_disk.specs.Disk.{Only};
+ghost use Rattle.mt_journal.specs.Log.{IsLog, header_frame};
+ghost use Rattle.mt_frame.specs.Fits.{HasFrame};
+ghost use Rattle.mt_frame.specs.declared.entry.Entry.TheVariants.{Header};
+ghost use Rattle.mt_journal.specs.Keeping.{Keeps, AllAreLogs};
+ghost use Rattle.mt_journal.specs.Recovery.{HasReadAll, Mixes};
+
+use crate::error::JournalError;
+use crate::journal::{Journal, ZEROS_AHEAD};
+use crate::position::Position;
+use crate::recovery::{Recovered, read_log};
+use crate::zeros::zeros;
+use mt_frame::encode::encode;
+use mt_frame::entry::{Entry, LogHeader};
+use sqlite_disk::Disk;
+use std::alloc::Global;
+use std::io;
+
+// Sets what follows the end of a log to zero. Two calls of the disk.
+fn repair<D: Disk>(disk: &mut D, at: &Position, zeros: &[u8]) -> io::Result<()>
+    requires usable { IsTrue (D.Disk.is_usable disk.old) }
+    requires zeros { zeros.now ≡ replicate (length zeros.now) 0 }
+    requires tail { at.now.end + length zeros.now ≡ at.now.room }
+    requires fits { at.now.room < 2 ^ 64 }
+    ensures kept { (header : LogHeader) (entries : List Entry)
+        → HasReadAll header entries at.now (D.Disk.seen disk.old)
+        → OnOk result (Keeps at.now (D.Disk.seen disk.new) (D.Disk.may_leave disk.new) header entries) }
+    ensures crash { (header : LogHeader) (entries : List Entry)
+        → HasReadAll header entries at.now (D.Disk.seen disk.old) → Mixes D.Disk.is_mixing
+        → Only (D.Disk.seen disk.old) (D.Disk.may_leave disk.old)
+        → AllAreLogs header entries (D.Disk.may_leave disk.new) }
+    ensures clean { IsTrue (D.Disk.is_clean disk.new) → IsTrue (D.Disk.is_clean disk.old) }
+{
+    disk.write_at(at.end, zeros)?;
+    disk.sync()
+}
+
+// The bytes of the file.
+fn read_file<D: Disk>(alloc: Global, disk: &mut D) -> Result<Vec<u8>, JournalError>
+    requires { IsTrue (D.Disk.is_usable disk.old) }
+    ensures bytes { IfOk result (λ bytes. IsTrue (D.Disk.is_clean disk.new) → bytes.items ≡ D.Disk.seen disk.old) }
+    ensures seen { D.Disk.seen disk.new ≡ D.Disk.seen disk.old }
+    ensures crash { (left : List ℕ) → D.Disk.may_leave disk.new left → D.Disk.may_leave disk.old left }
+    ensures clean { IsTrue (D.Disk.is_clean disk.new) → IsTrue (D.Disk.is_clean disk.old) }
+    ensures usable { IsTrue (D.Disk.is_usable disk.new) }
+{
+    let count = disk.len()?;
+    if count == 0 {
+        return Err(JournalError::NoLog);
+    }
+    let mut bytes = zeros(alloc, count)?;
+    disk.read_at(0, &mut bytes)?;
+    Ok(bytes)
+}
+
+/// Reads the log of a file, and sets what follows its end to zero, so that frames may be appended. The file must be a log
+/// of an index with so many columns. Up to five calls of the disk. It keeps the bytes of the file in memory meanwhile.
+///
+/// A crash during the call leaves what a crash could leave before, or a log of the same entries.
+///
+/// # Errors
+///
+/// `NoLog`, `NotALog`, `UnknownFormat`, `OtherColumns`, `Damaged`: nothing was written. `Disk`: the disk failed. `GivenUp`
+/// if a sync of the file failed before. `NoMemory`: nothing was written. The call can be made again.
+pub fn recover<D: Disk>(alloc: Global, disk: &mut D, columns: u8) -> Result<Recovered, JournalError>
+    ensures read { IfOk result (λ read. IsTrue (D.Disk.is_clean disk.new) → IsLog read.header read.entries.items (D.Disk.seen disk.old)) }
+    ensures kept { IfOk result (λ read. IsTrue (D.Disk.is_clean disk.new)
+        → Keeps read.at (D.Disk.seen disk.new) (D.Disk.may_leave disk.new) read.header read.entries.items) }
+    ensures crash { (header : LogHeader) (entries : List Entry) → IsLog header entries (D.Disk.seen disk.old)
+        → IsTrue (D.Disk.is_clean disk.new) → Mixes D.Disk.is_mixing
+        → (left : List ℕ) → D.Disk.may_leave disk.new left → D.Disk.may_leave disk.old left ⊎ IsLog header entries left }
+{
+    if !disk.may_be_used() {
+        return Err(JournalError::GivenUp);
+    }
+    disk.sync()?;
+    let bytes = read_file(alloc, disk)?;
+    let recovered = read_log(alloc, &bytes, columns)?;
+    let tail = zeros(alloc, bytes.len() - recovered.at.end)?;
+    repair(disk, &recovered.at, &tail)?;
+    Ok(recovered)
+}
+
+/// A log that was opened, with what it says.
+#[derive(Drop)]
+pub struct Opened<D: Disk> {
+    pub journal: Journal<D>,
+    pub header: LogHeader,
+    /// The entries after the header, in their order.
+    pub entries: Vec<Entry>,
+}
+
+/// Opens the log of a file, as `recover`, and continues it.
+///
+/// # Errors
+///
+/// Those of `recover`.
+pub fn open<D: Disk + Drop>(
+    alloc: Global,
+    mut disk: D,
+    columns: u8,
+) -> Result<Opened<D>, JournalError>
+    ensures read { IfOk result (λ opened. IsTrue (D.Disk.is_clean opened.journal.disk)
+        → IsLog opened.header opened.entries.items (D.Disk.seen disk)) }
+    ensures kept { IfOk result (λ opened. IsTrue (D.Disk.is_clean opened.journal.disk)
+        → Keeps opened.journal.at (D.Disk.seen opened.journal.disk) (D.Disk.may_leave opened.journal.disk) opened.header opened.entries.items) }
+{
+    let Recovered {
+        header,
+        entries,
+        at,
+    } = recover(alloc, &mut disk, columns)?;
+    Ok(Opened {
+        journal: Journal::new(disk, at),
+        header,
+        entries,
+    })
+}
+
+// Writes the frame of a header over zeros. Two calls of the disk.
+fn put_header<D: Disk>(
+    disk: &mut D,
+    frame: &[u8],
+    header: &LogHeader,
+    room: usize,
+) -> Result<Position, JournalError>
+    requires usable { IsTrue (D.Disk.is_usable disk.old) }
+    requires frame { frame.now ≡ header_frame header.now }
+    requires has { HasFrame 0 0 (Header header.now) }
+    requires room { length frame.now < room }
+    ensures { IfOk result (λ at. (rest : List ℕ) → D.Disk.seen disk.old ≡ replicate room 0 ++ rest
+        → Keeps at (D.Disk.seen disk.new) (D.Disk.may_leave disk.new) header.now []) }
+{
+    disk.write_at(0, frame)?;
+    disk.sync()?;
+    Ok(Position {
+        generation: header.generation,
+        end: frame.len(),
+        room,
+        newest: header.base,
+        durable: header.base,
+    })
+}
+
+/// Makes a log with this header and no entries, over whatever the file has. Six calls of the disk. The log is there only
+/// if the call returns `Ok`: after a crash before, the file can be anything.
+///
+/// # Errors
+///
+/// `Disk`: the disk failed. `GivenUp` if a sync of the file failed before. `NoMemory` if an allocation is refused.
+pub fn create<D: Disk + Drop>(
+    alloc: Global,
+    mut disk: D,
+    header: LogHeader,
+) -> Result<Journal<D>, JournalError>
+    ensures { IfOk result (λ journal. Keeps journal.at (D.Disk.seen journal.disk) (D.Disk.may_leave journal.disk) header []) }
+{
+    if !disk.may_be_used() {
+        return Err(JournalError::GivenUp);
+    }
+    let frame = encode(alloc, 0, 0, &Entry::Header(header))?;
+    let room = disk.len()?.max(ZEROS_AHEAD);
+    if room <= frame.len() {
+        return Err(JournalError::TooLong);
+    }
+    disk.write_at(0, &zeros(alloc, room)?)?;
+    disk.sync()?;
+    let at = put_header(&mut disk, &frame, &header, room)?;
+    Ok(Journal::new(disk, at))
+}

@@ -1,0 +1,12 @@
+//! Tests of the frames and the journal by the public surface of their crates. There is nothing else here: a crate of its
+//! own, so that the crates below are proved once.
+#![tactic(auto)]
+
+#[cfg(test)]
+mod crashes;
+#[cfg(test)]
+mod failures;
+#[cfg(test)]
+mod frames;
+#[cfg(test)]
+mod logs;

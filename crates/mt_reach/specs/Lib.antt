@@ -1,0 +1,2 @@
+-- Which rows and numbers of commits some legal history leads to.
+pub mod Reach
