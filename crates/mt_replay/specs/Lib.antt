@@ -1,0 +1,2 @@
+-- The commits of a log's records, made again.
+pub mod Replay

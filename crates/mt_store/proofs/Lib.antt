@@ -1,0 +1,7 @@
+pub mod ExtendLemmas
+pub mod RecordLemmas
+pub mod StoreLemmas
+pub mod OpenLemmas
+pub mod NumberedLemmas
+pub mod MakingLemmas
+pub mod WrittenLemmas

@@ -1,0 +1,48 @@
+-- Commits made again, one more of them.
+use Rattle.std.proofs.Common.{◌≡◌, ℕ, ◌<◌, ◌≤◌, ◌+◌, ◌∙◌, ◌++◌, ◌∷◌, List, [], length, map, take, get_or, ap, sym, refl, subst}
+use Rattle.std.proofs.lemmas.List.{append-nil, map-append, take_all, take_more}
+use Rattle.mt_types.specs.declared.row.Change.{Change}
+use Rattle.mt_index.specs.Stands.{MachineView}
+use Rattle.mt_frame.specs.declared.entry.Commits.{Commits}
+use Rattle.mt_frame.specs.declared.entry.Entry.{Entry}
+use Rattle.mt_frame.specs.declared.entry.Entry.TheVariants.{Header, Commits as Group, Closed}
+use Rattle.mt_frame.specs.declared.entry.Record.{Record}
+use Rattle.mt_replay.specs.Replay.{change_again}
+use Rattle.mt_store.specs.Extending.{Adds}
+use Rattle.mt_store.specs.Stored.{records_in}
+use Rattle.mt_store.proofs.ExtendLemmas.{adds_both}
+use Rattle.mt_store.proofs.RecordLemmas.{records-append}
+
+take_item : {A : Type 0} (n : ℕ) (xs : List A) (x : A) → n < length xs → x ≡ get_or xs n x → take (n + 1) xs ≡ take n xs ++ (x ∷ [])
+take_item n xs x less is = take_more xs n x less ∙ ap (λ y. take n xs ++ (y ∷ [])) (sym is)
+
+-- ---- records
+module _ (first mid last : MachineView) (records : List Record) (n : ℕ) where
+  pub one_more : (r : Record) → n < length records → r ≡ get_or records n r → Adds first (map change_again (take n records)) mid → Adds mid (change_again r ∷ []) last → Adds first (map change_again (take (n + 1) records)) last
+  one_more r less is so_far one = subst (λ (cs : List Change). Adds first cs last) (sym (ap (map change_again) (take_item n records r less is) ∙ map-append change_again (take n records) (r ∷ [])))
+      (adds_both first mid last (map change_again (take n records)) (change_again r ∷ []) so_far one)
+
+  pub all_made : length records ≤ n → Adds first (map change_again (take n records)) mid → Adds first (map change_again records) mid
+  all_made all so_far = subst (λ (rs : List Record). Adds first (map change_again rs) mid) (take_all n records all) so_far
+
+-- ---- entries
+module _ (first mid last : MachineView) (entries : List Entry) (n : ℕ) where
+  pub entry_more : (entry : Entry) (records : List Record) → n < length entries → entry ≡ get_or entries n entry → records_in (entry ∷ []) ≡ records → Adds first (map change_again (records_in (take n entries))) mid → Adds mid (map change_again records) last
+      → Adds first (map change_again (records_in (take (n + 1) entries))) last
+  entry_more entry records less is own so_far more =
+      let whole : records_in (take (n + 1) entries) ≡ records_in (take n entries) ++ records =
+      ap records_in (take_item n entries entry less is) ∙ (records-append (take n entries) (entry ∷ []) ∙ ap (λ (rs : List Record). records_in (take n entries) ++ rs) own) in
+      subst (λ (cs : List Change). Adds first cs last) (sym (ap (map change_again) whole ∙ map-append change_again (records_in (take n entries)) records))
+      (adds_both first mid last (map change_again (records_in (take n entries))) (map change_again records) so_far more)
+
+  pub all_entries : length entries ≤ n → Adds first (map change_again (records_in (take n entries))) mid → Adds first (map change_again (records_in entries)) mid
+  all_entries all so_far = subst (λ (es : List Entry). Adds first (map change_again (records_in es)) mid) (take_all n entries all) so_far
+
+-- the records of one entry
+pub of_commits : (entry : Entry) (commits : Commits) → entry ≡ Group commits → records_in (entry ∷ []) ≡ commits.records
+of_commits entry commits is = ap (λ (e : Entry). records_in (e ∷ [])) is ∙ append-nil commits.records
+
+pub of_others : (entry : Entry) → ((commits : Commits) → entry ≡ Group commits → ⊥) → records_in (entry ∷ []) ≡ []
+of_others (Header header) other = refl
+of_others (Group commits) other = absurd (other commits refl)
+of_others (Closed number) other = refl

@@ -1,0 +1,5 @@
+use Rattle.mt_store.proofs.StoreLemmas.{found_as_it_is}
+use Rattle.mt_store.proofs.store.Store.durable.Goals as goal
+
+pub returns-clause-found : goal.returns-clause-found
+returns-clause-found g c = λ st. found_as_it_is _ _ _ _ st _ _ (c.position.ensures.survive st.header st.entries st.keeps)

@@ -1,0 +1,67 @@
+-- A map and the log of its commits: what the log has, and what is found after a crash.
+use Rattle.std.specs.Prelude.{◌≡◌, ℕ, ◌≤◌, List, [], ◌∷◌, ◌++◌, length, take}
+use Rattle.mt_types.specs.declared.row.Change.{Change}
+use Rattle.mt_types.specs.Rows.{after}
+use Rattle.mt_promise.specs.History.{History, moment, rows}
+use Rattle.mt_index.specs.Stands.{MachineView, Stands}
+use Rattle.mt_frame.specs.declared.entry.Entry.{Entry}
+use Rattle.mt_frame.specs.declared.entry.Entry.TheVariants.{Header, Commits as Group, Closed}
+use Rattle.mt_frame.specs.declared.entry.LogHeader.{LogHeader}
+use Rattle.mt_frame.specs.declared.entry.Record.{Record}
+use Rattle.mt_journal.specs.declared.position.Position.{Position}
+use Rattle.mt_journal.specs.Keeping.{Keeps}
+use Rattle.mt_journal.specs.Log.{IsLog}
+use Rattle.mt_replay.specs.Replay.{records_of}
+
+-- the records of the commits that entries have
+abbrev pub records_in : List Entry → List Record
+records_in [] = []
+records_in (Header header ∷ entries) = records_in entries
+records_in (Group commits ∷ entries) = commits.records ++ records_in entries
+records_in (Closed number ∷ entries) = records_in entries
+
+-- a log of an index of C columns that begins with its first commit
+pub record IsOf (C : ℕ) (header : LogHeader) : Type 0 where
+  pub columns : header.columns ≡ C
+  pub base : header.base ≡ 0
+
+-- THE LOG HAS the first commits of the map, in their order: as many as it says
+pub record IsStored (s : MachineView) (at : Position) (seen : List ℕ) (may_leave : List ℕ → Type 0) : Type 0 where
+  pub h : History
+  pub stands : Stands s h
+  pub header : LogHeader
+  pub own : IsOf s.columns header
+  pub entries : List Entry
+  pub keeps : Keeps at seen may_leave header entries
+  pub within : at.newest ≤ length (moment h).commits
+  pub written : records_in entries ≡ take at.newest (records_of s.columns (moment h).commits)
+
+-- WHAT IS FOUND: these bytes are a log of exactly the first of these commits, and of as many at least as are durable
+pub record Recovers (C : ℕ) (changes : List Change) (durable : ℕ) (left : List ℕ) : Type 0 where
+  pub header : LogHeader
+  pub own : IsOf C header
+  pub entries : List Entry
+  pub log : IsLog header entries left
+  pub count : ℕ
+  pub within : count ≤ length changes
+  pub kept : durable ≤ count
+  pub records : records_in entries ≡ take count (records_of C changes)
+
+-- AFTER A CRASH, whatever of the file it leaves, that is found of the map's commits
+pub record AllRecover (s : MachineView) (durable : ℕ) (may_leave : List ℕ → Type 0) : Type 0 where
+  pub h : History
+  pub stands : Stands s h
+  pub found : (left : List ℕ) → may_leave left → Recovers s.columns (moment h).commits durable left
+
+-- WHAT IS OPENED AGAIN over what a crash has left of these commits: exactly the rows after the first of them, with their
+-- versions, and after as many at least as were durable. The index continues with the next number, and its log has them.
+pub record FindsAgain (C : ℕ) (changes : List Change) (durable : ℕ) (s : MachineView) (at : Position) (seen : List ℕ)
+    (may_leave : List ℕ → Type 0) : Type 0 where
+  pub count : ℕ
+  pub within : count ≤ length changes
+  pub kept : durable ≤ count
+  pub h : History
+  pub stands : Stands s h
+  pub commits : length (moment h).commits ≡ count
+  pub same_rows : rows C (moment h) ≡ after C (take count changes)
+  pub stored : IsStored s at seen may_leave
