@@ -1,6 +1,7 @@
 //! Calls that a caller asks for in borrowed bytes, and the requests that are made from them.
 
-ghost use Rattle.std.specs.Prelude.{◌≡◌, Err, IfErr, IfOk, MatchOption, Some as SomeOf};
+ghost use Rattle.std.specs.Prelude.{◌≡◌, ◌++◌, Err, IfErr, IfOk, MatchOption, Some as SomeOf};
+ghost use Rattle.std.specs.List.{flat_map};
 ghost use Rattle.mt_types.specs.Limits.{request_fault};
 ghost use Rattle.mt_types.specs.declared.view.ViewSpec.TheVariants.{Range as RangeOf};
 ghost use Rattle.mt_asked.specs.Borrowed.{request_of, sets_of, spec_of, test_of};
@@ -62,14 +63,48 @@ pub fn numbers_of(alloc: Global, columns: &[u8]) -> Result<ColumnNumbers, NoMemo
     Ok(Items::from_vec(made))
 }
 
-fn sets_of(alloc: Global, from: &[Set<'_>]) -> Result<Sets, NoMemory>
+// How many bytes a key and the columns that are set have.
+fn room_of(key: &[u8], sets: &[Set<'_>]) -> usize {
+    let mut room = key.len();
+    for set in sets {
+        room = room.saturating_add(set.bytes.len());
+    }
+    room
+}
+
+// The bytes of a key and of the columns that are set, one after another, in one block.
+fn joined(alloc: Global, key: &[u8], sets: &[Set<'_>]) -> Result<Bytes, NoMemory>
+    ensures { IfOk result (λ all. all ≡ key.now ++ flat_map (λ set. set.bytes.now) sets.now) }
+{
+    let mut all = Vec::with_capacity(alloc, room_of(key, sets))?;
+    all.extend_from_slice(key)?;
+    for set in sets {
+        all.extend_from_slice(set.bytes)?;
+    }
+    Ok(Bytes::from_vec(all)?)
+}
+
+// Cuts the bytes of the columns that are set, which these are, one after another.
+fn sets_from(alloc: Global, all: Bytes, from: &[Set<'_>]) -> Result<Sets, NoMemory>
+    requires { all ≡ flat_map (λ set. set.bytes.now) from.now }
     ensures { IfOk result (λ sets. sets ≡ sets_of from.now) }
 {
+    let mut rest = all;
     let mut sets = Vec::with_capacity(alloc, from.len())?;
     for set in from {
-        sets.push((set.column, Bytes::copy_from_slice(alloc, set.bytes)?))?;
+        sets.push((set.column, rest.split_to(set.bytes.len())?))?;
     }
     Ok(Items::from_vec(sets))
+}
+
+// Copies of a key and of the columns that are set. They share one block.
+fn put_of(alloc: Global, key: &[u8], sets: &[Set<'_>]) -> Result<(Bytes, Sets), NoMemory>
+    ensures key { IfOk result (λ made. made.0 ≡ key.now) }
+    ensures sets { IfOk result (λ made. made.1 ≡ sets_of sets.now) }
+{
+    let mut all = joined(alloc, key, sets)?;
+    let key = all.split_to(key.len())?;
+    Ok((key, sets_from(alloc, all, sets)?))
 }
 
 fn test_of(alloc: Global, test: &Test<'_>) -> Result<RowTest, NoMemory>
@@ -115,7 +150,7 @@ impl<'a> Asked<'a> {
     ///
     ///     let request = Asked::Remove { key: b"apple" }.checked(alloc, 1)?;
     ///
-    /// O(n) in the bytes, with an allocation for each key and each column that isn't short.
+    /// O(n) in the bytes. The key and the columns of a put share one block.
     ///
     /// # Errors
     ///
@@ -152,15 +187,15 @@ impl<'a> Asked<'a> {
                 limit: *limit,
                 columns: numbers_of(alloc, columns)?,
             }),
-            Asked::Put { key, sets } => Ok(Request::Put {
-                key: Bytes::copy_from_slice(alloc, key)?,
-                sets: sets_of(alloc, sets)?,
-            }),
-            Asked::PutIf { key, sets, version } => Ok(Request::PutIf {
-                key: Bytes::copy_from_slice(alloc, key)?,
-                sets: sets_of(alloc, sets)?,
-                version: *version,
-            }),
+            Asked::Put { key, sets } => {
+                let (key, sets) = put_of(alloc, key, sets)?;
+                Ok(Request::Put { key, sets })
+            }
+            Asked::PutIf { key, sets, version } => {
+                let (key, sets) = put_of(alloc, key, sets)?;
+                let version = *version;
+                Ok(Request::PutIf { key, sets, version })
+            }
             Asked::Remove { key } => Ok(Request::Remove {
                 key: Bytes::copy_from_slice(alloc, key)?,
             }),

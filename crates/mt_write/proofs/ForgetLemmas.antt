@@ -1,9 +1,8 @@
 -- The end of a remove: its border is marked, and the row that it has hidden is dropped.
-use Rattle.std.proofs.Common.{ℕ, zero, suc, ◌≡◌, ◌<◌, ◌≤◌, inl, Bool, true, false, List, [], ◌∷◌, ◌++◌, length, take, drop, Option, Some, None, IsSome, refl, sym, ap, subst, ◌∙◌, arith}
+use Rattle.std.proofs.Common.{ℕ, zero, suc, ◌≡◌, ◌<◌, inl, Bool, true, false, List, [], ◌∷◌, ◌++◌, length, take, drop, Option, Some, None, IsSome, refl, sym, ap, subst, ◌∙◌, arith}
 use Rattle.std.specs.Prelude.{IsSomeAnd}
 use Rattle.mt_commit.specs.Log.{LogView}
 use Rattle.mt_word.specs.Version.{VersionView}
-use Rattle.mt_word.specs.declared.permutation_word.TheConstants.{SLOTS}
 use Rattle.mt_border.specs.Border.{BorderView, first_held, inserting_version, with_forgotten, with_hidden, with_inserting}
 use Rattle.mt_border.specs.Order.{IsBorder}
 use Rattle.mt_border.specs.Table.{left_slots}
@@ -13,7 +12,7 @@ use Rattle.mt_border.specs.declared.unwritten.Unwritten.TheVariants.{Nothing}
 use Rattle.mt_border.proofs.BorderLemmas.{border_hidden, inserting_deleted}
 use Rattle.mt_arena.specs.Node.{border_at}
 use Rattle.mt_arena.specs.Arena.{ArenaView, with_border_changed}
-use Rattle.mt_chart.specs.Tree.{Among, first}
+use Rattle.mt_chart.specs.Tree.{first}
 use Rattle.mt_tree.specs.BorderSteps.{MayForget}
 use Rattle.mt_tree.specs.Keeping.{KeepsTree}
 use Rattle.mt_tree.proofs.AgeLemmas.{ages_forgotten, ages_inserting}

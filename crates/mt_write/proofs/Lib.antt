@@ -27,4 +27,5 @@ pub mod LoneWrites
 pub mod RunLemmas
 pub mod PassLemmas
 pub mod FinishLemmas
+pub mod HalvingLemmas
 pub mod UnreadLemmas

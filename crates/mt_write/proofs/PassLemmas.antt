@@ -236,15 +236,20 @@ module _ (C : ℕ) (a locked : ArenaView) (log : LogView) (write : Write) (may :
           finds_there : (there : There) × HasRead C locked log write (state a log write) (1 + (2 + length b.live + values_read (found_for key_rest b.live))) (Here there)
           finds_there = let (there, here) = ends_here key_rest (with_locked b) none is all.0 all.2 all.3 in (there, reads_to (Here there) here)
 
-      -- at the border of its key
-      pub at_key : (found : Found) → Finds a write.key write.way found → IsSomeAnd (border_at a.nodes write.way.node.0) (λ x. visit_border key_rest x ≡ VisitHere) → IsSomeAnd (border_at a.nodes write.way.node.0) (λ x. IsStraight write.edit x found)
-          → (n : ℕ) → n ≡ 2 + length b.live + values_read found → AtKey C a locked log write found n
-      at_key found finds here straight n count =
+      -- at the border of its key it has read all
+      pub reads_key : (found : Found) → Finds a write.key write.way found → IsSomeAnd (border_at a.nodes write.way.node.0) (λ x. visit_border key_rest x ≡ VisitHere) → (n : ℕ) → n ≡ 2 + length b.live + values_read found → (there : There) × HasRead C locked log write (state a log write) (1 + n) (Here there)
+      reads_key found finds here n count =
           let (none, last) = leads key_rest b VisitHere (sym (some_at (λ (x : BorderView). visit_border key_rest x ≡ VisitHere) (border_at a.nodes write.way.node.0) b here named)) (some_at _ (border_at a.nodes write.way.node.0) b lock named).2 in
           let (there, reads) = finds_there none last in
           let same : values_read found ≡ values_read (found_for key_rest b.live) = ap values_read (found_is a write.key write.way found finds b named) in
           let fields : 1 + (2 + length b.live + values_read (found_for key_rest b.live)) ≡ 1 + n = omega (arith, same, count) in
-          let read = subst (λ (k : ℕ). HasRead C locked log write (state a log write) k (Here there)) fields reads in
+          (there, subst (λ (k : ℕ). HasRead C locked log write (state a log write) k (Here there)) fields reads)
+
+      -- and may make ready, if it needs no split
+      pub at_key : (found : Found) → Finds a write.key write.way found → IsSomeAnd (border_at a.nodes write.way.node.0) (λ x. visit_border key_rest x ≡ VisitHere) → IsSomeAnd (border_at a.nodes write.way.node.0) (λ x. IsStraight write.edit x found)
+          → (n : ℕ) → n ≡ 2 + length b.live + values_read found → AtKey C a locked log write found n
+      at_key found finds here straight n count =
+          let (there, read) = reads_key found finds here n count in
           record {
             there = there;
             act = record {

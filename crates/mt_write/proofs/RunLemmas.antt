@@ -1,6 +1,6 @@
 -- Runs of a put or remove: what a step leaves for the next one, and runs that grow.
 use Rattle.std.proofs.Common.{ℕ, ◌≡◌, ◌≤◌, ◌+◌, ◌-◌, ◌∙◌, min, List, [], ◌∷◌, ◌++◌, length, drop, refl, sym, ap, subst, arith}
-use Rattle.std.specs.Prelude.{All, sum_by}
+use Rattle.std.specs.Prelude.{sum_by}
 use Rattle.std.proofs.lemmas.List.{length-append}
 use Rattle.std.proofs.lemmas.List.Elements.{All-append, All-nil, All-push}
 use Rattle.std.proofs.lemmas.List.Sums.{sum_by-append}

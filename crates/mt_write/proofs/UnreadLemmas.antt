@@ -29,7 +29,7 @@ use Rattle.mt_steps.specs.declared.progress.Progress.TheVariants.{Committed, Mov
 use Rattle.mt_write.specs.declared.writing.Write.{Write}
 use Rattle.mt_write.specs.declared.writing.Edit.TheVariants.{Put as PutEdit, Remove as RemoveEdit}
 use Rattle.mt_write.specs.declared.writing.Stage.{Stage}
-use Rattle.mt_write.specs.declared.writing.Stage.TheVariants.{Failed, Filled, KeyWritten, Searched, Made, Reserved, Stored, Taken}
+use Rattle.mt_write.specs.declared.writing.Stage.TheVariants.{Failed, Filled, KeyWritten, Searched, Made, Reserved, Taken}
 use Rattle.mt_write.specs.Ready.{Inserts, Prepares, Reserves, put_delta, remove_delta, with_room}
 use Rattle.mt_write.specs.Causes.{FailsBy, IsNotFailed, ReadyFor, RemoveFailsBy, fill_fault, put_fault, remove_fault, version_fault}
 use Rattle.mt_write.specs.Follows.{WriteStep}

@@ -1,5 +1,5 @@
 -- A split: what it makes of what was read of the border, the halves, and what is true while it is under way.
-use Rattle.std.specs.Prelude.{ℕ, ◌≡◌, ◌+◌, ◌==◌, ◌⊎◌, if◌then◌else◌, List, [], ◌∷◌, ◌++◌, length, map, slice_get, slice_index, Option, Some, ◌-◌, take, ◌≢◌, ◌<◌, ◌≤◌, drop, Bool, true, false}
+use Rattle.std.specs.Prelude.{ℕ, zero, suc, ◌≡◌, ◌+◌, ◌==◌, ◌⊎◌, if◌then◌else◌, List, [], ◌∷◌, ◌++◌, length, map, slice_get, slice_index, Option, Some, ◌-◌, take, ◌≢◌, ◌<◌, ◌≤◌, drop, Bool, true, false}
 use Rattle.mt_types.specs.declared.numbers.NodeNo.{NodeNo}
 use Rattle.mt_word.specs.declared.permutation_word.TheConstants.{SLOTS}
 use Rattle.mt_border.specs.declared.entry.Content.TheVariants.{Link}
@@ -132,6 +132,12 @@ pub record CopiesValue (a : ArenaView) (number : ℕ) (outline : Outline) (place
   pub entry : Entry
   pub is : entry_copied key value ≡ Some entry
   pub more : copies ≡ entries ++ (entry ∷ [])
+
+-- THIS NUMBER OF ENTRIES MORE are copied, after these
+abbrev pub CopiesFrom : ArenaView → ℕ → Outline → ℕ → List Entry → ℕ → List Entry → Type 0
+CopiesFrom a number outline cut entries zero copies = copies ≡ entries
+CopiesFrom a number outline cut entries (suc n) copies = (before : List Entry)
+    × CopiesFrom a number outline cut entries n before × CopiesValue a number outline (cut + length before) before copies
 
 -- of the upper half, the next entry; or it is to give the half back, if out of memory
 abbrev pub CopiesOn : ArenaView → ℕ → NodeNo → ℕ → ℕ → Outline → List Entry → Stage → Type 0

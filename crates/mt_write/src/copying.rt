@@ -46,7 +46,7 @@ fn entry_of(alloc: Global, key: &SlotKey, value: &ValuePart<'_>) -> Result<Entry
 
 // Reads the value of the slot at a place of the border under a number, of which this was read, and returns the entries
 // with the one that it makes with the key there.
-fn copy_next(
+pub(crate) fn copy_next(
     alloc: Global,
     tree: &Tree,
     number: NodeNo,

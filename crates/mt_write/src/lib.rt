@@ -8,6 +8,7 @@ mod cut;
 mod ending;
 mod finishing;
 mod forgetting;
+mod halving;
 mod inserting;
 pub mod laws;
 mod layering;

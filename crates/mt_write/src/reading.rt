@@ -143,7 +143,7 @@ impl Write {
     }
 
     // The same, if its border is full and has no place for its key: a put splits it.
-    fn ready_full(
+    pub(crate) fn ready_full(
         &self,
         alloc: Global,
         columns: u8,
@@ -157,6 +157,7 @@ impl Write {
             (Stage.Searched (There.Full place outline)) Progress.Moved (record self.now { stage = stage })) }
         ensures none { (log : LogView) → MayStage columns tree.old log self.now (Stage.Searched (There.Full place outline))
             → result ≡ None → FindsNone columns tree.old tree.new log log self.now (There.Full place outline) }
+        ensures put { result ≡ None → self.now.edit ≡ Edit.Remove }
     {
         let _bytes = rest_of(&self.key, self.way.layer);
         let _border = tree.border(self.way.node);

@@ -1,7 +1,9 @@
 //! Runs of a put or remove: its steps one after the other, while nobody else steps.
 
-ghost use Rattle.std.specs.Prelude.{◌≡◌, ◌≤◌, ◌<◌, ◌↔◌, max, IsTrue, IsFalse};
+ghost use Rattle.std.specs.Prelude.{◌≡◌, ◌≢◌, ◌≤◌, ◌<◌, ◌↔◌, length, max, IsTrue, None};
+ghost use Rattle.std.specs.Option.{IfSome};
 ghost use Rattle.mt_commit.specs.Log.{trimmed};
+ghost use Rattle.mt_word.specs.declared.permutation_word.TheConstants.{SLOTS};
 ghost use Rattle.mt_write.specs.Runs.{Advances, HasRun, IsStraight, IsTrimmed, MayRun, commits_in, state};
 
 use crate::writing::{Edit, Write};
@@ -48,11 +50,19 @@ fn trim_after(log: &mut Log, progress: &Progress) -> u64
     1
 }
 
-// Whether a write splits the border where it has found this.
-fn splits(edit: &Edit, border: &Border, found: Found) -> bool
-    ensures { IsFalse result → IsStraight edit.now border.now found }
+// How many steps a put makes at most, from the lock of a border that it splits until the new row is to be made for a half.
+const STEPS_OF_SPLIT: u64 = 37;
+
+// The place of its key in the border that a write splits, where it has found this.
+fn split_place(edit: &Edit, border: &Border, found: Found) -> Option<usize>
+    ensures some { IfSome result (λ place. (found ≡ Found.Absent place) × (length border.now.live ≡ SLOTS)
+        × (edit.now ≢ Edit.Remove)) }
+    ensures none { result ≡ None → IsStraight edit.now border.now found }
 {
-    matches!(edit, Edit::Put { .. }) && matches!(found, Found::Absent(_)) && border.is_full()
+    match (edit, found) {
+        (Edit::Put { .. }, Found::Absent(place)) if border.is_full() => Some(place),
+        _ => None,
+    }
 }
 
 // Returns what a step came to that was no commit.
@@ -68,7 +78,13 @@ fn one_step(last: Progress) -> WriteRun
 
 impl Write {
     // Makes one step, as its stage requires.
-    fn step_once(&mut self, alloc: Global, columns: u8, tree: &mut Tree, log: &mut Log) -> WriteRun
+    pub(crate) fn step_once(
+        &mut self,
+        alloc: Global,
+        columns: u8,
+        tree: &mut Tree,
+        log: &mut Log,
+    ) -> WriteRun
         requires may { MayRun columns (state tree.old log.old self.old) }
         requires trimmed { IsTrimmed log.old }
         ensures runs { HasRun columns (state tree.old log.old self.old) result (state tree.new log.new self.new) }
@@ -90,7 +106,7 @@ impl Write {
     }
 
     // Makes one step. At a border that it need not split, if twenty-four are left, it makes all from the lock to the
-    // unlock.
+    // unlock; at one that it splits, if thirty-seven are left, all from the lock to the cut.
     fn advance(
         &mut self,
         alloc: Global,
@@ -117,10 +133,13 @@ impl Write {
         }
         let border = tree.border(self.way.node);
         match arrive(border, rest_of(&self.key, self.way.layer)) {
-            Ok(found) if splits(&self.edit, border, found) => {
-                self.step_once(alloc, columns, tree, log)
-            }
-            Ok(found) => self.finish(alloc, columns, tree, log, found),
+            Ok(found) => match split_place(&self.edit, border, found) {
+                Some(place) if most >= STEPS_OF_SPLIT => {
+                    self.halve(alloc, columns, tree, log, place)
+                }
+                Some(_) => self.step_once(alloc, columns, tree, log),
+                None => self.finish(alloc, columns, tree, log, found),
+            },
             Err(visit) => self.pass(tree, visit),
         }
     }
@@ -128,8 +147,8 @@ impl Write {
     /// Makes steps, one after the other, until one of them ends the call or waits, or `most` are made. At least one is
     /// made, also if `most` is 0. After each the log is trimmed.
     ///
-    /// Costs what the steps cost. A border is searched once, if twenty-four steps are left when it is reached; one that a put
-    /// splits is read one field a step.
+    /// Costs what the steps cost. A border is searched once, if twenty-four steps are left when it is reached, or
+    /// thirty-seven if a put splits it; otherwise it is read field by field.
     pub fn run(
         &mut self,
         alloc: Global,

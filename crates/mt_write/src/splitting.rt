@@ -178,7 +178,9 @@ impl Write {
         entries: Items<Entry>,
     ) -> Progress
         requires { MayBeAt tree.old self.old (Stage.Spared half cut place right entries) }
-        ensures { TreeStep tree.old tree.new self.old (Stage.Spared half cut place right entries) result self.new }
+        ensures step { TreeStep tree.old tree.new self.old (Stage.Spared half cut place right entries) result self.new }
+        ensures moves { result ≡ Progress.Moved }
+        ensures turns { self.new ≡ record self.old { stage = Stage.HalfFilled half cut place } }
     {
         tree.fill_border(half, entries, right);
         self.turn_to(Stage::HalfFilled { half, cut, place });
@@ -195,7 +197,9 @@ impl Write {
         place: usize,
     ) -> Progress
         requires { MayBeAt tree.old self.old (Stage.HalfFilled half cut place) }
-        ensures { TreeStep tree.old tree.new self.old (Stage.HalfFilled half cut place) result self.new }
+        ensures step { TreeStep tree.old tree.new self.old (Stage.HalfFilled half cut place) result self.new }
+        ensures moves { result ≡ Progress.Moved }
+        ensures turns { self.new ≡ record self.old { stage = Stage.HalfLinked half cut place } }
     {
         tree.link_half(self.way.node, half, cut);
         self.turn_to(Stage::HalfLinked { half, cut, place });
@@ -212,7 +216,8 @@ impl Write {
         place: usize,
     ) -> Progress
         requires { MayBeAt tree.old self.old (Stage.HalfLinked half cut place) }
-        ensures { TreeStep tree.old tree.new self.old (Stage.HalfLinked half cut place) result self.new }
+        ensures step { TreeStep tree.old tree.new self.old (Stage.HalfLinked half cut place) result self.new }
+        ensures moves { result ≡ Progress.Moved }
     {
         let left = self.way.node;
         let (way, place) = half_of(tree, self.way, &self.key, half, cut, place);

@@ -1,7 +1,7 @@
 -- Both steps at once.
 use Rattle.std.proofs.Common.{refl}
 use Rattle.mt_write.proofs.ForgetLemmas.{marked_is, may_forget}
-use Rattle.mt_write.proofs.FinishLemmas.{has_hidden, forgets_both, forgets_none, forgets_not, hidden_there}
+use Rattle.mt_write.proofs.FinishLemmas.{has_hidden, forgets_both, forgets_not, hidden_there}
 use Rattle.mt_write.proofs.writing.Write.forget_hidden.Goals as goal
 
 pub forget_row-requires : goal.forget_row-requires

@@ -48,19 +48,19 @@ pub fill_spared-requires : goal.fill_spared-requires
 fill_spared-requires c = (c.args.columns, c.args.log.now, may_be c.args.columns c.args.tree.now c.args.log.now c.args.self.now c.replace.new.dest _ (sym c.replace.ensures.value ∙ c.in-Spared.is) c.requires)
 
 pub returns-in-Spared : goal.returns-in-Spared
-returns-in-Spared c = at_step c.args.columns c.args.tree.now c.fill_spared.new.tree c.args.log.now c.args.log.now c.args.self.now c.replace.new.dest _ c.fill_spared.result c.fill_spared.new.self (sym c.replace.ensures.value ∙ c.in-Spared.is) (c.fill_spared.ensures c.args.columns c.args.log.now)
+returns-in-Spared c = at_step c.args.columns c.args.tree.now c.fill_spared.new.tree c.args.log.now c.args.log.now c.args.self.now c.replace.new.dest _ c.fill_spared.result c.fill_spared.new.self (sym c.replace.ensures.value ∙ c.in-Spared.is) (c.fill_spared.ensures.step c.args.columns c.args.log.now)
 
 pub link-requires : goal.link-requires
 link-requires c = (c.args.columns, c.args.log.now, may_be c.args.columns c.args.tree.now c.args.log.now c.args.self.now c.replace.new.dest _ (sym c.replace.ensures.value ∙ c.in-HalfFilled.is) c.requires)
 
 pub returns-in-HalfFilled : goal.returns-in-HalfFilled
-returns-in-HalfFilled c = at_step c.args.columns c.args.tree.now c.link.new.tree c.args.log.now c.args.log.now c.args.self.now c.replace.new.dest _ c.link.result c.link.new.self (sym c.replace.ensures.value ∙ c.in-HalfFilled.is) (c.link.ensures c.args.columns c.args.log.now)
+returns-in-HalfFilled c = at_step c.args.columns c.args.tree.now c.link.new.tree c.args.log.now c.args.log.now c.args.self.now c.replace.new.dest _ c.link.result c.link.new.self (sym c.replace.ensures.value ∙ c.in-HalfFilled.is) (c.link.ensures.step c.args.columns c.args.log.now)
 
 pub cut-requires : goal.cut-requires
 cut-requires c = (c.args.columns, c.args.log.now, may_be c.args.columns c.args.tree.now c.args.log.now c.args.self.now c.replace.new.dest _ (sym c.replace.ensures.value ∙ c.in-HalfLinked.is) c.requires)
 
 pub returns-in-HalfLinked : goal.returns-in-HalfLinked
-returns-in-HalfLinked c = at_step c.args.columns c.args.tree.now c.cut.new.tree c.args.log.now c.args.log.now c.args.self.now c.replace.new.dest _ c.cut.result c.cut.new.self (sym c.replace.ensures.value ∙ c.in-HalfLinked.is) (c.cut.ensures c.args.columns c.args.log.now)
+returns-in-HalfLinked c = at_step c.args.columns c.args.tree.now c.cut.new.tree c.args.log.now c.args.log.now c.args.self.now c.replace.new.dest _ c.cut.result c.cut.new.self (sym c.replace.ensures.value ∙ c.in-HalfLinked.is) (c.cut.ensures.step c.args.columns c.args.log.now)
 
 pub reserve_in_half-requires : goal.reserve_in_half-requires
 reserve_in_half-requires c = may_be c.args.columns c.args.tree.now c.args.log.now c.args.self.now c.replace.new.dest _ (sym c.replace.ensures.value ∙ c.in-Halved.is) c.requires
