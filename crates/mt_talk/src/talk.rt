@@ -21,7 +21,7 @@ pub trait Answers<S, P> {
     ghost answers: { Self → S → P → Frame Query → Frame Response → Self → S → P → Type 0 };
 
     // what it may have done for a frame when memory ran out
-    ghost gives_up: { S → P → Frame Query → S → P → Type 0 };
+    ghost gives_up: { Self → S → P → Frame Query → S → P → Type 0 };
 
     /// Answers a frame: appends the frame of its answers to `out`.
     ///
@@ -39,7 +39,7 @@ pub trait Answers<S, P> {
         ensures reply { OnOk result ((reply : Frame Response)
             × answers self.old shared.old pass.old frame reply self.new shared.new pass.new
             × (out.new.items ≡ out.old.items ++ reply_frame reply)) }
-        ensures err { OnErr result (gives_up shared.old pass.old frame shared.new pass.new
+        ensures err { OnErr result (gives_up self.old shared.old pass.old frame shared.new pass.new
             × (out.new.items ≡ out.old.items)) };
 }
 
@@ -196,7 +196,7 @@ impl Talk {
             × (self.new.bytes ≡ self.old.bytes) × (self.new.output ≡ self.old.output)
             × (shared.new ≡ shared.old) × (pass.new ≡ pass.old)) }
         ensures memory { IsErrOf result WireFault.NoMemory
-            → GivesUp A.gives_up shared.old pass.old self.old self.new shared.new pass.new }
+            → GivesUp (A.gives_up answerer.old) shared.old pass.old self.old self.new shared.new pass.new }
     {
         let Some(frame) = self.take_front()? else {
             return Ok(false);
