@@ -9,11 +9,11 @@ use Rattle.mt_wire.specs.declared.response.Response.{Response}
 use Rattle.mt_wire.specs.declared.response.Response.TheVariants.{Server as Served}
 use Rattle.mt_wire.specs.declared.server.Role.{Role}
 use Rattle.mt_wire.specs.declared.server.Role.TheVariants.{Read, Write, All}
-use Rattle.mt_wire.specs.declared.server.Turned.TheVariants.{NotAllowed}
+use Rattle.mt_wire.specs.declared.server.ServerRefusal.TheVariants.{NotAllowed}
 use Rattle.mt_wire.specs.declared.server.Count.{Count}
 use Rattle.mt_wire.specs.declared.server.ServerQuery.{ServerQuery}
 use Rattle.mt_wire.specs.declared.server.ServerQuery.TheVariants.{Hello, Ping, Info, Stop}
-use Rattle.mt_wire.specs.declared.server.ServerResponse.TheVariants.{Turned, Hello as Greeting, Ping as Ponged, Info as Counted, Stopped}
+use Rattle.mt_wire.specs.declared.server.ServerResponse.TheVariants.{Refused as OfServer, Hello as Greeting, Ping as Ponged, Info as Counted, Stopped}
 use Rattle.mt_talk.specs.declared.facts.Facts.{Facts}
 use Rattle.mt_talk.specs.declared.server.Keeper.{Keeper}
 use Rattle.mt_talk.specs.Tokens.{Admits}
@@ -46,7 +46,7 @@ may_all role queries = not (list_any (λ query. not (may role query)) queries)
 
 -- each query is refused, whatever it is
 abbrev pub refusals : List Query → List Response
-refusals queries = map (λ (query : Query). Served (Turned NotAllowed)) queries
+refusals queries = map (λ (query : Query). Served (OfServer NotAllowed)) queries
 
 -- the version up to which both know the wire
 abbrev pub common_version : ℕ → ℕ
@@ -68,7 +68,7 @@ IsTold facts (Ping number) response = response ≡ Served (Ponged number facts.c
 IsTold facts Info response =
     (counts : List Count) × (response ≡ Served (Counted counts)) × (map (λ (count : Count). count.number) counts ≡ numbers facts)
 IsTold facts (Stop is_at_once) response = response ≡ Served (Stopped facts.commits)
-IsTold facts (Hello newest secret name) response = response ≡ Served (Turned NotAllowed)
+IsTold facts (Hello newest secret name) response = response ≡ Served (OfServer NotAllowed)
 
 -- the query of the server that is alone in its frame
 abbrev pub alone : List Query → Option ServerQuery

@@ -15,7 +15,8 @@ use mt_types::event::Request;
 use mt_types::items::Items;
 use mt_wire::query::Query;
 use mt_wire::response::Response;
-use mt_wire::server::{Role, ServerQuery, ServerResponse, Turned};
+use mt_wire::server::{Role, ServerQuery, ServerRefusal, ServerResponse};
+use mt_wire::version::WireVersion;
 use std::alloc::{AllocError, Global};
 
 /// What a server keeps for its own answers.
@@ -90,7 +91,7 @@ fn refuse_all(alloc: Global, queries: &[Query]) -> Result<Vec<Response>, AllocEr
 {
     let mut responses = Vec::new(alloc);
     for _query in queries {
-        responses.push(Response::Server(ServerResponse::Turned(Turned::NotAllowed)))?;
+        responses.push(Response::Server(ServerResponse::Refused(ServerRefusal::NotAllowed)))?;
     }
     Ok(responses)
 }
@@ -99,7 +100,7 @@ fn refuse_all(alloc: Global, queries: &[Query]) -> Result<Vec<Response>, AllocEr
 fn common_version(newest: u8) -> u8
     ensures { result ≡ common_version newest }
 {
-    newest.min(3)
+    newest.min(WireVersion::Three.byte())
 }
 
 fn greeting(facts: &Facts, newest: u8, role: Role) -> Response
@@ -199,7 +200,7 @@ impl Keeper {
                 ServerResponse::Info(Items::from_vec(self.facts.counts(self.alloc)?))
             }
             ServerQuery::Stop { .. } => ServerResponse::Stopped { commits },
-            ServerQuery::Hello { .. } => ServerResponse::Turned(Turned::NotAllowed),
+            ServerQuery::Hello { .. } => ServerResponse::Refused(ServerRefusal::NotAllowed),
         };
         Ok(Response::Server(response))
     }

@@ -6,7 +6,7 @@ use mt_types::items::Items;
 use mt_wire::fault::WireFault;
 use mt_wire::query::Query;
 use mt_wire::response::Response;
-use mt_wire::server::{Count, Role, ServerQuery, ServerResponse, Turned};
+use mt_wire::server::{Count, Role, ServerQuery, ServerResponse, ServerRefusal};
 use mt_wire::version::WireVersion;
 use std::alloc::Global;
 use std::test::Fail;
@@ -70,9 +70,9 @@ fn answers_of_a_server(rt: HostRuntime) -> Result<(), Fail> {
 #[test]
 fn refusals_of_a_server(rt: HostRuntime) -> Result<(), Fail> {
     let alloc = rt.alloc();
-    let refused = ServerResponse::Turned(Turned::NotAllowed);
+    let refused = ServerResponse::Refused(ServerRefusal::NotAllowed);
     assert!(rt; answers(alloc, refused, b"\0\0\0\x0c\x03\x01\0\x18\0\0\0\0\0\0\0\0")?);
-    let refused = ServerResponse::Turned(Turned::TooMuchAtOnce);
+    let refused = ServerResponse::Refused(ServerRefusal::TooMuchAtOnce);
     assert!(rt; answers(alloc, refused, b"\0\0\0\x0c\x03\x01\0\x19\0\0\0\0\0\0\0\0")?);
     Ok(())
 }

@@ -15,14 +15,14 @@ use Rattle.mt_types.specs.declared.refusal.Refusal.TheVariants.{FeedFull, Behind
 use Rattle.mt_types.specs.RefusalNumbers.{refusal_number, refusal_detail, refusal_of}
 use Rattle.mt_wire.specs.declared.response.Response.{Response}
 use Rattle.mt_wire.specs.declared.response.Response.TheVariants.{Refused, Done, View, Dropped, Server as Served}
-use Rattle.mt_wire.specs.declared.server.Turned.{Turned}
-use Rattle.mt_wire.specs.declared.server.Turned.TheVariants.{NotAllowed, TooMuchAtOnce}
+use Rattle.mt_wire.specs.declared.server.ServerRefusal.{ServerRefusal}
+use Rattle.mt_wire.specs.declared.server.ServerRefusal.TheVariants.{NotAllowed, TooMuchAtOnce}
 use Rattle.mt_wire.specs.declared.server.Role.{Role}
 use Rattle.mt_wire.specs.declared.server.Role.TheVariants.{Read, Write, All}
 use Rattle.mt_wire.specs.declared.server.Count.{Count}
 use Rattle.mt_wire.specs.declared.server.ServerResponse.{ServerResponse}
-use Rattle.mt_wire.specs.declared.server.ServerResponse.TheVariants.{Turned as OfServer, Hello, Ping, Info, Stopped}
-use Rattle.mt_wire.specs.ServerNumbers.{role_number, turned_number}
+use Rattle.mt_wire.specs.declared.server.ServerResponse.TheVariants.{Refused as OfServer, Hello, Ping, Info, Stopped}
+use Rattle.mt_wire.specs.ServerNumbers.{role_number, server_refusal_number}
 use Rattle.mt_wire.specs.declared.response.End.TheVariants.{Absent, Found, Committed, Rows, Tidied, Built}
 use Rattle.mt_wire.specs.Spelling.{key_spelling, sum_spelling, row_spelling, pair_spelling, pairs_spelling, refusal_spelling, rule_spelling, span_spelling, count_spelling, served_spelling, response_spelling}
 use Rattle.mt_wire.specs.Fits.{KeyFits, RowLengths, RefusalNumbers, ServedLengths, ServedNumbers, PairNumbers, ResponseFits}
@@ -202,19 +202,19 @@ zero_again x rest h = rw (n64.again 0 rest (omega arith)) refl
 zero_exact : IsExact (Unit {0}) (λ _. Unit {0}) (λ _. to_be_bytes w64 0) zero_at
 zero_exact = record { takes = zero_takes; again = zero_again }
 
-abbrev turned_spelling : Turned → List ℕ
-turned_spelling turned = turned_number turned ∷ to_be_bytes w64 0
+abbrev server_refusal_spelling : ServerRefusal → List ℕ
+server_refusal_spelling turned = server_refusal_number turned ∷ to_be_bytes w64 0
 
-no_turned : (kind : ℕ) → TakesAt (λ _. Unit {0}) turned_spelling kind (λ bytes. None)
+no_turned : (kind : ℕ) → TakesAt (λ _. Unit {0}) server_refusal_spelling kind (λ bytes. None)
 no_turned kind bytes y fits e = absurd cc
 
-turned_takes : (kind : ℕ) → TakesAt (λ _. Unit {0}) turned_spelling kind (turned_rest kind)
+turned_takes : (kind : ℕ) → TakesAt (λ _. Unit {0}) server_refusal_spelling kind (turned_rest kind)
 unfolding turned_rest
 turned_takes kind =
-    kind_or (λ _. Unit {0}) turned_spelling kind 24 _ _ (made_takes (λ _. NotAllowed) turned_spelling (λ _. Unit {0}) 24 zero_exact (λ x. refl) (λ x h. tt))
-    (kind_or (λ _. Unit {0}) turned_spelling kind 25 _ _ (made_takes (λ _. TooMuchAtOnce) turned_spelling (λ _. Unit {0}) 25 zero_exact (λ x. refl) (λ x h. tt)) (no_turned kind))
+    kind_or (λ _. Unit {0}) server_refusal_spelling kind 24 _ _ (made_takes (λ _. NotAllowed) server_refusal_spelling (λ _. Unit {0}) 24 zero_exact (λ x. refl) (λ x h. tt))
+    (kind_or (λ _. Unit {0}) server_refusal_spelling kind 25 _ _ (made_takes (λ _. TooMuchAtOnce) server_refusal_spelling (λ _. Unit {0}) 25 zero_exact (λ x. refl) (λ x h. tt)) (no_turned kind))
 
-turned_again : (x : Turned) (rest : List ℕ) → turned_rest (turned_number x) (to_be_bytes w64 0 ++ rest) ≡ Some (x, rest)
+turned_again : (x : ServerRefusal) (rest : List ℕ) → turned_rest (server_refusal_number x) (to_be_bytes w64 0 ++ rest) ≡ Some (x, rest)
 unfolding turned_rest
 turned_again NotAllowed rest = made_again (λ _. NotAllowed) zero_exact tt rest tt
 turned_again TooMuchAtOnce rest = made_again (λ _. TooMuchAtOnce) zero_exact tt rest tt
@@ -230,7 +230,7 @@ server_refused : (kind : ℕ) (bytes : List ℕ) (y : Response × List ℕ) → 
 server_refused kind bytes y fits e =
     let p = bind_some (turned_rest kind bytes) (λ x. Some (Served (OfServer x.0), x.1)) y e in
     let t = turned_takes kind bytes p.0 fits p.1 in
-    subst (λ (z : Response × List ℕ). Takes (0 ∷ kind ∷ bytes) (response_spelling z.0) z.1 × ResponseFits z.0) (some_is (Served (OfServer p.0.0), p.0.1) y p.2) (Takes-after 0 (kind ∷ bytes) (turned_spelling p.0.0) p.0.1 t.0, (tt, tt))
+    subst (λ (z : Response × List ℕ). Takes (0 ∷ kind ∷ bytes) (response_spelling z.0) z.1 × ResponseFits z.0) (some_is (Served (OfServer p.0.0), p.0.1) y p.2) (Takes-after 0 (kind ∷ bytes) (server_refusal_spelling p.0.0) p.0.1 t.0, (tt, tt))
 
 either_refused : (is_low : Bool) (kind : ℕ) (bytes : List ℕ) (y : Response × List ℕ) → IsBytes bytes → cond is_low (made (λ x. Refused x) (refusal_rest kind)) (made (λ x. Served (OfServer x)) (turned_rest kind)) bytes ≡ Some y
     → Takes (0 ∷ kind ∷ bytes) (response_spelling y.0) y.1 × ResponseFits y.0
@@ -361,7 +361,7 @@ unfolding hello_at
 hello_again version role columns run commits logged rest h =
     made_again (λ x. Hello x.0.0.0.0.0 x.0.0.0.0.1 x.0.0.0.1 x.0.0.1 x.0.1 x.1) hello_parts (((((version, role), columns), run), commits), logged) rest (((((tt, tt), tt), h.1.0), h.1.1), h.1.2)
 
-turned_served : (turned : Turned) (rest : List ℕ) → kind_at refused_rest (turned_spelling turned ++ rest) ≡ Some (Served (OfServer turned), rest)
+turned_served : (turned : ServerRefusal) (rest : List ℕ) → kind_at refused_rest (server_refusal_spelling turned ++ rest) ≡ Some (Served (OfServer turned), rest)
 unfolding kind_at byte_at refused_rest
 turned_served NotAllowed rest = rw (turned_again NotAllowed rest) refl
 turned_served TooMuchAtOnce rest = rw (turned_again TooMuchAtOnce rest) refl

@@ -9,13 +9,13 @@ use Rattle.mt_types.specs.declared.refusal.Refusal.{Refusal}
 use Rattle.mt_types.specs.RefusalNumbers.{refusal_of}
 use Rattle.mt_wire.specs.declared.response.Response.{Response}
 use Rattle.mt_wire.specs.declared.response.Response.TheVariants.{Refused, Done, View, Dropped, Server as Served}
-use Rattle.mt_wire.specs.declared.server.Turned.{Turned}
-use Rattle.mt_wire.specs.declared.server.Turned.TheVariants.{NotAllowed, TooMuchAtOnce}
+use Rattle.mt_wire.specs.declared.server.ServerRefusal.{ServerRefusal}
+use Rattle.mt_wire.specs.declared.server.ServerRefusal.TheVariants.{NotAllowed, TooMuchAtOnce}
 use Rattle.mt_wire.specs.declared.server.Role.{Role}
 use Rattle.mt_wire.specs.declared.server.Role.TheVariants.{Read, Write, All}
 use Rattle.mt_wire.specs.declared.server.Count.{Count}
 use Rattle.mt_wire.specs.declared.server.ServerResponse.{ServerResponse}
-use Rattle.mt_wire.specs.declared.server.ServerResponse.TheVariants.{Turned as OfServer, Hello, Ping, Info, Stopped}
+use Rattle.mt_wire.specs.declared.server.ServerResponse.TheVariants.{Refused as OfServer, Hello, Ping, Info, Stopped}
 use Rattle.mt_wire.specs.declared.response.End.TheVariants.{Absent, Found, Committed, Rows, Tidied, Built}
 use Rattle.mt_wire.specs.Reading.{Reader, ◌>>=◌, both, made, nothing_at, byte_at, number_at, key_at, short_at, times_at, counted_at, kind_at}
 
@@ -98,7 +98,7 @@ zero_at bytes = do
   number ← number_at w64 bytes
   if number.0 == 0 then Some (tt, number.1) else None
 
-unfoldable pub turned_rest : ℕ → Reader Turned
+unfoldable pub turned_rest : ℕ → Reader ServerRefusal
 turned_rest kind =
     if kind == 24 then made (λ _. NotAllowed) zero_at
     else if kind == 25 then made (λ _. TooMuchAtOnce) zero_at

@@ -18,7 +18,7 @@ use Rattle.mt_wire.specs.declared.response.Response.TheVariants.{Refused, Done, 
 use Rattle.mt_wire.specs.declared.server.ServerQuery.{ServerQuery}
 use Rattle.mt_wire.specs.declared.server.ServerQuery.TheVariants as asks
 use Rattle.mt_wire.specs.declared.server.ServerResponse.{ServerResponse}
-use Rattle.mt_wire.specs.declared.server.ServerResponse.TheVariants.{Turned, Hello, Ping, Info, Stopped}
+use Rattle.mt_wire.specs.declared.server.ServerResponse.TheVariants.{Refused as OfServer, Hello, Ping, Info, Stopped}
 use Rattle.mt_wire.specs.declared.response.End.{End}
 use Rattle.mt_wire.specs.declared.response.End.TheVariants.{Absent, Found, Committed, Rows, Tidied, Built}
 
@@ -130,7 +130,7 @@ EndNumbers (Tidied rule) = Unit {0}
 EndNumbers (Built view) = view.0 < 2 ^ 64
 
 abbrev pub ServedNumbers : ServerResponse → Type 0
-ServedNumbers (Turned turned) = Unit {0}
+ServedNumbers (OfServer refusal) = Unit {0}
 ServedNumbers (Hello version role columns run commits logged) =
     (run < 2 ^ 128) × (commits < 2 ^ 64) × (logged < 2 ^ 64)
 ServedNumbers (Ping number commits) = (number < 2 ^ 64) × (commits < 2 ^ 64)

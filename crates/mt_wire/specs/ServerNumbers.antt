@@ -2,14 +2,14 @@
 use Rattle.std.specs.Prelude.{ℕ}
 use Rattle.mt_wire.specs.declared.server.Role.{Role}
 use Rattle.mt_wire.specs.declared.server.Role.TheVariants.{Read, Write, All}
-use Rattle.mt_wire.specs.declared.server.Turned.{Turned}
-use Rattle.mt_wire.specs.declared.server.Turned.TheVariants.{NotAllowed, TooMuchAtOnce}
+use Rattle.mt_wire.specs.declared.server.ServerRefusal.{ServerRefusal}
+use Rattle.mt_wire.specs.declared.server.ServerRefusal.TheVariants.{NotAllowed, TooMuchAtOnce}
 
 abbrev pub role_number : Role → ℕ
 role_number Read = 1
 role_number Write = 2
 role_number All = 3
 
-abbrev pub turned_number : Turned → ℕ
-turned_number NotAllowed = 24
-turned_number TooMuchAtOnce = 25
+abbrev pub server_refusal_number : ServerRefusal → ℕ
+server_refusal_number NotAllowed = 24
+server_refusal_number TooMuchAtOnce = 25

@@ -21,9 +21,9 @@ use Rattle.mt_wire.specs.declared.response.End.TheVariants.{Absent, Found, Commi
 use Rattle.mt_wire.specs.declared.server.ServerQuery.{ServerQuery}
 use Rattle.mt_wire.specs.declared.server.ServerQuery.TheVariants as asks
 use Rattle.mt_wire.specs.declared.server.ServerResponse.{ServerResponse}
-use Rattle.mt_wire.specs.declared.server.ServerResponse.TheVariants.{Turned, Hello, Ping, Info, Stopped}
+use Rattle.mt_wire.specs.declared.server.ServerResponse.TheVariants.{Refused as OfServer, Hello, Ping, Info, Stopped}
 use Rattle.mt_wire.specs.declared.server.Count.{Count}
-use Rattle.mt_wire.specs.ServerNumbers.{role_number, turned_number}
+use Rattle.mt_wire.specs.ServerNumbers.{role_number, server_refusal_number}
 use Rattle.mt_wire.specs.declared.version.WireVersion.{WireVersion}
 use Rattle.mt_wire.specs.declared.frame.Frame.{Frame}
 use Rattle.mt_wire.specs.Versions.{version_byte}
@@ -118,7 +118,7 @@ abbrev pub count_spelling : Count → List ℕ
 count_spelling count = key_spelling count.name ++ to_be_bytes w64 count.number
 
 abbrev pub served_spelling : ServerResponse → List ℕ
-served_spelling (Turned turned) = 0 ∷ turned_number turned ∷ to_be_bytes w64 0
+served_spelling (OfServer refusal) = 0 ∷ server_refusal_number refusal ∷ to_be_bytes w64 0
 served_spelling (Hello version role columns run commits logged) =
     16 ∷ version ∷ role_number role ∷ columns
     ∷ (sum_spelling run ++ to_be_bytes w64 commits ++ to_be_bytes w64 logged)

@@ -1,7 +1,7 @@
 //! What a client asks of the server itself, and what it answers. In version 3.
 
 ghost use Rattle.std.specs.Prelude.{◌≡◌};
-ghost use Rattle.mt_wire.specs.ServerNumbers.{role_number, turned_number};
+ghost use Rattle.mt_wire.specs.ServerNumbers.{role_number, server_refusal_number};
 
 use bytes::Bytes;
 use mt_types::items::Items;
@@ -60,21 +60,21 @@ pub struct Count {
 
 /// Why a server refuses a query.
 #[derive(Clone, Copy, Debug, PartialEq, Eq)]
-pub enum Turned {
+pub enum ServerRefusal {
     /// The client may not ask it.
     NotAllowed,
     /// A query of the server isn't alone in its frame.
     TooMuchAtOnce,
 }
 
-impl Turned {
+impl ServerRefusal {
     /// Returns the number by which the refusal is spelled.
     pub fn number(self) -> u8
-        ensures { result ≡ turned_number self }
+        ensures { result ≡ server_refusal_number self }
     {
         match self {
-            Turned::NotAllowed => 24,
-            Turned::TooMuchAtOnce => 25,
+            ServerRefusal::NotAllowed => 24,
+            ServerRefusal::TooMuchAtOnce => 25,
         }
     }
 }
@@ -83,7 +83,7 @@ impl Turned {
 #[derive(Debug, PartialEq, Eq, Drop)]
 pub enum ServerResponse {
     /// The query was refused, and nothing was done for it.
-    Turned(Turned),
+    Refused(ServerRefusal),
     /// The client may go on, in this role.
     Hello {
         /// The version of the wire up to which both know it.

@@ -68,7 +68,7 @@ impl Writable for ServerResponse {
 
     fn write(&self, out: &mut Vec<u8>) -> Result<(), AllocError> {
         match self {
-            ServerResponse::Turned(turned) => {
+            ServerResponse::Refused(turned) => {
                 out.extend_from_slice(&[0, turned.number()])?;
                 number64(out, 0)
             }
@@ -101,7 +101,7 @@ impl Writable for ServerResponse {
     fn fits(&self) -> bool {
         match self {
             ServerResponse::Info(counts) => counts.len() < 0x1_0000 && all_fit(counts.as_slice()),
-            ServerResponse::Turned(_)
+            ServerResponse::Refused(_)
             | ServerResponse::Hello { .. }
             | ServerResponse::Ping { .. }
             | ServerResponse::Stopped { .. } => true,
