@@ -6,7 +6,7 @@ use mt_types::items::Items;
 use mt_wire::fault::WireFault;
 use mt_wire::query::Query;
 use mt_wire::response::Response;
-use mt_wire::server::{Count, Role, ServerQuery, ServerResponse, ServerRefusal};
+use mt_wire::server::{Count, Role, ServerQuery, ServerRefusal, ServerResponse};
 use mt_wire::version::WireVersion;
 use std::alloc::Global;
 use std::test::Fail;
