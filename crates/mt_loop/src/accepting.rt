@@ -1,6 +1,7 @@
 //! The thread that accepts: it hands each connection to the worker that has the fewest.
 
 use crate::desk::Desk;
+use crate::gauge::{Tally, open};
 use crate::stop::Stop;
 use mio::net::{TcpListener, TcpStream};
 use mio::unix::SourceFd;
@@ -81,10 +82,18 @@ impl Acceptor {
     }
 
     // Hands a connection to a worker. One that is too many is closed at once, and isn't counted.
-    fn hand_over<R: Wait + Eprint>(&mut self, rt: &R, stream: TcpStream, desks: &[Desk]) {
+    fn hand_over<R: Wait + Eprint>(
+        &mut self,
+        rt: &R,
+        stream: TcpStream,
+        desks: &[Desk],
+        tally: &Tally,
+    ) {
         if open(desks) >= self.most {
+            tally.turn_away();
             return;
         }
+        tally.accept();
         self.count();
         // (a reply goes out in one write, and is not to wait for more)
         let _ = stream.set_nodelay(true);
@@ -106,7 +115,7 @@ impl Acceptor {
     }
 
     // Accepts what waits.
-    fn accept_all<R: Wait + Clock + Eprint>(&mut self, rt: &R, desks: &[Desk]) {
+    fn accept_all<R: Wait + Clock + Eprint>(&mut self, rt: &R, desks: &[Desk], tally: &Tally) {
         for _ in rt.forever() {
             if self.left == Some(0) {
                 break;
@@ -114,7 +123,7 @@ impl Acceptor {
             match self.listener.accept() {
                 Ok((stream, _)) => {
                     self.has_failed = false;
-                    self.hand_over(rt, stream, desks);
+                    self.hand_over(rt, stream, desks, tally);
                 }
                 Err(error) if error.kind() == ErrorKind::WouldBlock => {
                     self.has_failed = false;
@@ -141,6 +150,7 @@ impl Acceptor {
         rt: &R,
         desks: &[Desk],
         stop: &Stop,
+        tally: &Tally,
     ) -> io::Result<()> {
         for _ in rt.forever() {
             if self.left == Some(0) || stop.is_stopping() {
@@ -160,7 +170,7 @@ impl Acceptor {
                 stop.stop(desks);
                 break;
             }
-            self.accept_all(rt, desks);
+            self.accept_all(rt, desks, tally);
         }
         Ok(())
     }
@@ -178,13 +188,4 @@ fn least(desks: &[Desk]) -> Option<&Desk> {
         }
     }
     found
-}
-
-// How many connections are open.
-fn open(desks: &[Desk]) -> u64 {
-    let mut open = 0u64;
-    for desk in desks {
-        open = open.saturating_add(desk.load() as u64);
-    }
-    open
 }

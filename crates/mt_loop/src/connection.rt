@@ -1,13 +1,16 @@
 //! One connection: its stream, and its session.
 
+use crate::fault::ConnectionFault;
 use crate::limits::{Limits, is_over};
-use crate::weight::{TURN, only_reads, weight_of};
+use crate::weight::{TURN, asks_server, only_reads, weight_of};
 use mio::net::TcpStream;
 use mt_serve::answerer::Answerer;
 use mt_serve::fault::SessionFault;
 use mt_shared::driving::Shared;
 use mt_shared::pass::Pass;
+use mt_talk::serving::Server;
 use mt_talk::talk::Talk;
+use mt_wire::server::Role;
 use std::alloc::Global;
 use std::io::{ErrorKind, Read, Write};
 
@@ -32,8 +35,12 @@ pub struct Connection {
     talk: Talk,
     /// What the frame at the front asks for, as `find` has found.
     pub front: Front,
+    /// Whether that is a query of the server.
+    pub asks_server: bool,
     /// Whether it is in the list of a round.
     pub is_listed: bool,
+    // What its client may do, if it was admitted.
+    role: Option<Role>,
     // What that frame weighs, what may still be asked for in this round, and whether more frames may be there.
     weight: usize,
     budget: usize,
@@ -43,21 +50,24 @@ pub struct Connection {
     is_hung_up: bool,
     // Whether all bytes were read.
     has_ended: bool,
-    fault: Option<SessionFault>,
-    // Seconds of the server: when bytes came last, when the frame that is there in part began, and when bytes went last.
+    fault: Option<ConnectionFault>,
+    // Seconds of the server: when it was accepted, when bytes came last, when the frame that is there in part began, and when bytes went last.
+    accepted: u64,
     came: u64,
     began: Option<u64>,
     went: u64,
 }
 
 impl Connection {
-    /// Returns a connection that was accepted at this time.
-    pub fn new(alloc: Global, stream: TcpStream, now: u64) -> Connection {
+    /// Returns a connection that was accepted at this time, whose client may do what `role` says.
+    pub fn new(alloc: Global, stream: TcpStream, now: u64, role: Option<Role>) -> Connection {
         Connection {
             stream,
             talk: Talk::new(alloc),
             front: Front::Nothing,
+            asks_server: false,
             is_listed: false,
+            role,
             weight: 0,
             budget: 0,
             has_more: false,
@@ -65,6 +75,7 @@ impl Connection {
             is_hung_up: false,
             has_ended: false,
             fault: None,
+            accepted: now,
             came: now,
             began: None,
             went: now,
@@ -78,7 +89,7 @@ impl Connection {
     }
 
     // The session ends with this fault, unless it has met another one before.
-    fn fail(&mut self, fault: SessionFault) {
+    fn fail(&mut self, fault: ConnectionFault) {
         if self.fault.is_none() {
             self.fault = Some(fault);
         }
@@ -93,7 +104,7 @@ impl Connection {
     fn take(&mut self, piece: &[u8], is_all: bool) {
         self.is_unread = !is_all || self.is_hung_up;
         if self.talk.feed(piece).is_err() {
-            self.fail(SessionFault::NoMemory);
+            self.fail(ConnectionFault::from(SessionFault::NoMemory));
         }
     }
 
@@ -111,7 +122,7 @@ impl Connection {
             }
             Err(error) if error.kind() == ErrorKind::WouldBlock => self.is_unread = false,
             Err(error) if error.kind() == ErrorKind::Interrupted => {}
-            Err(_) => self.fail(SessionFault::Read),
+            Err(_) => self.fail(ConnectionFault::from(SessionFault::Read)),
         }
     }
 
@@ -143,10 +154,10 @@ impl Connection {
             Ok(true) => self.look(),
             Ok(false) => {
                 if self.has_ended && !self.talk.is_between_frames() {
-                    self.fail(SessionFault::Cut);
+                    self.fail(ConnectionFault::from(SessionFault::Cut));
                 }
             }
-            Err(fault) => self.fail(SessionFault::from(fault)),
+            Err(fault) => self.fail(ConnectionFault::from(fault)),
         }
     }
 
@@ -154,6 +165,7 @@ impl Connection {
     fn look(&mut self) {
         if let Some(frame) = self.talk.front() {
             self.weight = weight_of(frame);
+            self.asks_server = asks_server(frame);
             self.front = if only_reads(frame) {
                 Front::Reads
             } else {
@@ -162,13 +174,24 @@ impl Connection {
         }
     }
 
-    /// Answers the frame at the front.
-    pub fn answer<S: Shared>(&mut self, answerer: &mut Answerer, shared: &mut S, pass: &mut Pass) {
+    /// Answers the frame at the front. A client that was not admitted, and says no hello with a right secret, is refused,
+    /// and its connection ends.
+    pub fn answer<S: Shared>(
+        &mut self,
+        server: &mut Server<Answerer>,
+        shared: &mut S,
+        pass: &mut Pass,
+    ) {
         self.front = Front::Nothing;
         self.began = None;
         self.budget = self.budget.saturating_sub(self.weight);
-        if let Err(fault) = self.talk.turn(answerer, shared, pass) {
-            self.fail(SessionFault::from(fault));
+        server.keeper.role = self.role;
+        if let Err(fault) = self.talk.turn(server, shared, pass) {
+            self.fail(ConnectionFault::from(fault));
+        }
+        self.role = server.keeper.role;
+        if self.role.is_none() {
+            self.fail(ConnectionFault::NoHello);
         }
     }
 
@@ -201,12 +224,12 @@ impl Connection {
                     self.went = now;
                 }
                 if self.talk.sent(count).is_err() {
-                    self.fail(SessionFault::NoMemory);
+                    self.fail(ConnectionFault::from(SessionFault::NoMemory));
                     self.talk.clear_output();
                 }
             }
             Err(fault) => {
-                self.fail(fault);
+                self.fail(ConnectionFault::from(fault));
                 self.talk.clear_output();
             }
         }
@@ -238,7 +261,7 @@ impl Connection {
     }
 
     /// Returns why its session was broken off, if it was.
-    pub fn fault(&self) -> Option<SessionFault> {
+    pub fn fault(&self) -> Option<ConnectionFault> {
         self.fault
     }
 
@@ -252,15 +275,19 @@ impl Connection {
     pub fn is_late(&mut self, limits: Limits, now: u64) -> bool {
         if self.has_output() {
             if is_over(limits.write, self.went, now) {
-                self.fail(SessionFault::Write);
+                self.fail(ConnectionFault::from(SessionFault::Write));
                 return true;
             }
             return false;
         }
+        if self.role.is_none() && is_over(limits.hello, self.accepted, now) {
+            self.fail(ConnectionFault::NoHello);
+            return true;
+        }
         self.talk.free_output();
         match self.began {
             Some(began) if is_over(limits.frame, began, now) => {
-                self.fail(SessionFault::Cut);
+                self.fail(ConnectionFault::from(SessionFault::Cut));
                 true
             }
             Some(_) => false,

@@ -4,8 +4,11 @@
 pub mod accepting;
 pub mod connection;
 pub mod desk;
+mod fault;
+mod gauge;
 pub mod limits;
 pub mod serving;
 pub mod stop;
+mod turns;
 mod weight;
 pub mod worker;

@@ -2,6 +2,7 @@
 
 use crate::accepting::Acceptor;
 use crate::desk::Desk;
+use crate::gauge::{Gauge, Tally};
 use crate::limits::Limits;
 use crate::stop::Stop;
 use crate::worker::{Worker, work};
@@ -10,11 +11,13 @@ use mio::net::TcpListener;
 use mt_shared::holding::HoldingDoor;
 use mt_shared::map::SharedMap;
 use mt_shared::pass::Pass;
+use mt_talk::tokens::Token;
 use std::alloc::Global;
 use std::net::{Net, SocketAddr};
+use std::random::RandomSource;
 use std::sync::Wait;
 use std::thread::Threads;
-use std::time::Clock;
+use std::time::{Clock, Instant};
 use std::{io, thread};
 
 // How many events of one call a worker makes at most while it holds the lock.
@@ -32,21 +35,19 @@ pub struct Plan {
 
 // Serves the connections of a desk. If that fails, all threads are to end.
 fn serve_desk<R: Wait + Clock + Eprint>(
-    rt: &R,
-    index: &SharedMap,
+    gauge: &Gauge<'_, R>,
     worker: Worker,
-    desks: &[Desk],
     number: usize,
     stop: &Stop,
 ) -> io::Result<Option<Pass>> {
-    let Some(desk) = desks.get(number) else {
+    let Some(desk) = gauge.desks.get(number) else {
         return Ok(None);
     };
-    let mut door = HoldingDoor::new(index, rt, EVENTS);
-    match work(rt, worker, desk, &mut door, stop) {
+    let mut door = HoldingDoor::new(gauge.index, gauge.rt, EVENTS);
+    match work(gauge, worker, desk, &mut door, stop) {
         Ok(pass) => Ok(Some(pass)),
         Err(error) => {
-            stop.stop(desks);
+            stop.stop(gauge.desks);
             Err(error)
         }
     }
@@ -54,14 +55,13 @@ fn serve_desk<R: Wait + Clock + Eprint>(
 
 // Says where it listens, and accepts until there is no more to accept.
 fn accept<R: Wait + Clock + Eprint>(
-    rt: &R,
+    gauge: &Gauge<'_, R>,
     acceptor: &mut Acceptor,
     port: u16,
-    desks: &[Desk],
     stop: &Stop,
 ) -> io::Result<()> {
-    eprintln!(rt; "listening {port}")?;
-    acceptor.run(rt, desks, stop)
+    eprintln!(gauge.rt; "listening {port}")?;
+    acceptor.run(gauge.rt, gauge.desks, stop, gauge.tally)
 }
 
 // A desk and a worker for each pass.
@@ -70,35 +70,36 @@ fn make_workers<R: Net>(
     alloc: Global,
     passes: Vec<Pass>,
     limits: Limits,
+    tokens: &[Token],
 ) -> io::Result<(Vec<Desk>, Vec<Worker>)> {
     let mut desks = Vec::new(alloc);
     let mut workers = Vec::new(alloc);
     for pass in passes {
         let poll = Poll::new(rt)?;
         desks.push(Desk::new(alloc, &poll)?)?;
-        workers.push(Worker::new(alloc, poll, pass, limits)?)?;
+        let tokens = Vec::from_slice(alloc, tokens)?;
+        workers.push(Worker::new(alloc, poll, pass, limits, tokens)?)?;
     }
     Ok((desks, workers))
 }
 
 // Runs a thread for each worker, and accepts in this one. Returns the passes when all have ended.
 fn run<R: Threads + Wait + Clock + Sync + Eprint>(
-    rt: &R,
     alloc: Global,
-    index: &SharedMap,
+    gauge: &Gauge<'_, R>,
     acceptor: &mut Acceptor,
     port: u16,
-    desks: &[Desk],
     workers: Vec<Worker>,
     stop: &Stop,
 ) -> io::Result<Vec<Pass>> {
+    let rt = gauge.rt;
     thread::scope(thread::scope_env(), rt, |scope| -> io::Result<Vec<Pass>> {
         let mut ended = Vec::with_capacity(alloc, workers.len())?;
         let mut threads = Vec::with_capacity(alloc, workers.len())?;
         let mut begun = Ok(());
         for worker in workers {
             let number = threads.len();
-            match scope.spawn(move || serve_desk(rt, index, worker, desks, number, stop)) {
+            match scope.spawn(move || serve_desk(gauge, worker, number, stop)) {
                 Ok(thread) => {
                     let _ = threads.push(thread);
                 }
@@ -106,12 +107,12 @@ fn run<R: Threads + Wait + Clock + Sync + Eprint>(
             }
         }
         if begun.is_ok() {
-            begun = accept(rt, acceptor, port, desks, stop);
+            begun = accept(gauge, acceptor, port, stop);
         }
         if begun.is_err() {
-            stop.stop(desks);
+            stop.stop(gauge.desks);
         }
-        stop.close(desks);
+        stop.close(gauge.desks);
         for thread in threads {
             if let Some(pass) = thread.join(rt)? {
                 ended.push(pass)?;
@@ -122,7 +123,14 @@ fn run<R: Threads + Wait + Clock + Sync + Eprint>(
     })
 }
 
-/// Serves an index at an address, by a worker for each pass, and prints `listening PORT` when it has begun. Returns the
+// A random name for this run of the server.
+fn run_name<R: RandomSource>(rt: &R) -> io::Result<u128> {
+    let mut bytes = [0u8; 16];
+    rt.fill_bytes(&mut bytes)?;
+    Ok(u128::from_be_bytes(bytes))
+}
+
+/// Serves an index at an address to clients with these secrets (to all if there are none), by a worker for each pass, and prints `listening PORT` when it has begun. Returns the
 /// passes when all sessions have ended.
 ///
 /// # Errors
@@ -135,9 +143,10 @@ pub fn serve<R>(
     passes: Vec<Pass>,
     address: SocketAddr,
     plan: Plan,
+    tokens: &[Token],
 ) -> io::Result<Vec<Pass>>
 where
-    R: Net + Threads + Wait + Clock + Sync + Eprint,
+    R: Net + Threads + Wait + Clock + RandomSource + Sync + Eprint,
 {
     let listener = TcpListener::bind(rt, address)?;
     let port = listener.local_addr()?.port();
@@ -148,15 +157,14 @@ where
     if plan.watches_input {
         acceptor.watch_input()?;
     }
-    let (desks, workers) = make_workers(rt, alloc, passes, plan.limits)?;
-    run(
+    let (desks, workers) = make_workers(rt, alloc, passes, plan.limits, tokens)?;
+    let tally = Tally::new(run_name(rt)?);
+    let gauge = Gauge {
         rt,
-        alloc,
         index,
-        &mut acceptor,
-        port,
-        &desks,
-        workers,
-        &stop,
-    )
+        desks: &desks,
+        tally: &tally,
+        start: Instant::now(rt)?,
+    };
+    run(alloc, &gauge, &mut acceptor, port, workers, &stop)
 }

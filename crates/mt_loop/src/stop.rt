@@ -13,6 +13,7 @@ pub const STOPPED: Token = Token(2);
 pub struct Stop {
     closing: AtomicBool,
     stopping: AtomicBool,
+    at_once: AtomicBool,
     waker: Waker,
 }
 
@@ -22,6 +23,7 @@ impl Stop {
         Ok(Stop {
             closing: AtomicBool::new(false),
             stopping: AtomicBool::new(false),
+            at_once: AtomicBool::new(false),
             waker: Waker::new(poll.registry(), STOPPED)?,
         })
     }
@@ -36,6 +38,11 @@ impl Stop {
         self.stopping.load(Ordering::SeqCst)
     }
 
+    /// Returns whether all are to end without answering the frames that came.
+    pub fn is_at_once(&self) -> bool {
+        self.at_once.load(Ordering::SeqCst)
+    }
+
     // Wakes all threads. A waker that fails belongs to a thread that has ended.
     fn wake_all(&self, desks: &[Desk]) {
         for desk in desks {
@@ -48,6 +55,12 @@ impl Stop {
     pub fn close(&self, desks: &[Desk]) {
         self.closing.store(true, Ordering::SeqCst);
         self.wake_all(desks);
+    }
+
+    /// All threads are to end, and answer no more frames.
+    pub fn stop_at_once(&self, desks: &[Desk]) {
+        self.at_once.store(true, Ordering::SeqCst);
+        self.stop(desks);
     }
 
     /// All threads are to end.

@@ -1,5 +1,10 @@
 //! What a frame asks for: only gets and ranges or more, and how much.
 
+ghost use Rattle.std.specs.Prelude.{◌≡◌, ◌≤◌, not, is_some};
+ghost use Rattle.std.specs.List.{list_any};
+ghost use Rattle.mt_talk.specs.Serving.{alone};
+ghost use Rattle.mt_loop.specs.Weights.{is_other};
+
 use mt_types::event::Request;
 use mt_wire::frame::Frame;
 use mt_wire::query::Query;
@@ -18,7 +23,9 @@ fn weight_of_query(query: &Query) -> usize {
 }
 
 /// Returns what a frame weighs: at least 1.
-pub fn weight_of(frame: &Frame<Query>) -> usize {
+pub fn weight_of(frame: &Frame<Query>) -> usize
+    ensures { 1 ≤ result }
+{
     let mut weight = 1usize;
     for query in frame.messages.as_slice() {
         weight = weight.saturating_add(weight_of_query(query));
@@ -26,13 +33,29 @@ pub fn weight_of(frame: &Frame<Query>) -> usize {
     weight
 }
 
+// Whether a query is no get and no range.
+fn asks_more(query: &Query) -> bool
+    ensures { result ≡ is_other query.now }
+{
+    !matches!(
+        query,
+        Query::Call(Request::Get { .. } | Request::Range { .. })
+    )
+}
+
+/// Returns whether a frame has a query of the server, and nothing else.
+pub fn asks_server(frame: &Frame<Query>) -> bool
+    ensures { result ≡ is_some (alone frame.now.messages) }
+{
+    matches!(frame.messages.as_slice(), [Query::Server(_)])
+}
+
 /// Returns whether a frame has nothing but gets and ranges.
-pub fn only_reads(frame: &Frame<Query>) -> bool {
+pub fn only_reads(frame: &Frame<Query>) -> bool
+    ensures { result ≡ not (list_any is_other frame.now.messages) }
+{
     for query in frame.messages.as_slice() {
-        if !matches!(
-            query,
-            Query::Call(Request::Get { .. } | Request::Range { .. })
-        ) {
+        if asks_more(query) {
             return false;
         }
     }

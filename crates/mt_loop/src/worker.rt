@@ -1,22 +1,22 @@
 //! A worker: it waits until some of its connections are ready, reads them, answers their frames, and writes.
 
-use crate::connection::{Connection, Front};
+use crate::connection::Connection;
 use crate::desk::{Desk, WAKER};
+use crate::gauge::Gauge;
 use crate::limits::Limits;
 use crate::stop::Stop;
-use crate::weight::TURN;
+use crate::turns::Turns;
 use mio::net::TcpStream;
 use mio::{Events, Interest, Poll, Token};
-use mt_serve::answerer::{Answerer, Keeping};
 use mt_serve::fault::SessionFault;
-use mt_shared::driving::{Hold, Shared};
+use mt_shared::driving::Shared;
 use mt_shared::pass::Pass;
-use mt_types::event::Event;
+use mt_talk::tokens::Token as Secret;
 use slab::Slab;
 use std::alloc::{AllocError, Global};
 use std::io::ErrorKind;
 use std::sync::Wait;
-use std::time::{Clock, Duration, Instant};
+use std::time::{Clock, Duration};
 use std::{io, mem};
 
 // How many bytes a read asks for.
@@ -24,12 +24,6 @@ const PIECE: usize = 16_384;
 
 // How many events one wait gives at most.
 const EVENTS: usize = 256;
-
-// How many queries are answered in one holding of the lock, if a frame of them doesn't have more.
-const HELD: u64 = 512;
-
-// After how many queries retired nodes are freed.
-const SWEEP: u64 = 4096;
 
 // How many milliseconds a wait lasts at most, while there are connections, and while the last answers go.
 const LONGEST: u64 = 1000;
@@ -51,25 +45,22 @@ pub struct Worker {
     // Connections of this round, and those of the next one that aren't waited for.
     keys: Vec<usize>,
     again: Vec<usize>,
-    answerer: Answerer,
-    pass: Pass,
+    turns: Turns,
     limits: Limits,
     alloc: Global,
-    // How many queries were answered since retired nodes were freed, and whether that is due for another reason.
-    queries: u64,
-    is_due: bool,
     // Seconds since the start, and at the last look for connections that are late.
     now: u64,
     looked: u64,
 }
 
 impl Worker {
-    /// Returns a worker without connections, which waits by `poll`.
+    /// Returns a worker without connections, which waits by `poll`, for clients with these secrets.
     pub fn new(
         alloc: Global,
         poll: Poll,
         pass: Pass,
         limits: Limits,
+        tokens: Vec<Secret>,
     ) -> Result<Worker, AllocError> {
         Ok(Worker {
             poll,
@@ -78,12 +69,9 @@ impl Worker {
             piece: Vec::from_elem(alloc, 0, PIECE)?,
             keys: Vec::new(alloc),
             again: Vec::new(alloc),
-            answerer: Answerer::new(alloc, Keeping::Frame),
-            pass,
+            turns: Turns::new(alloc, pass, tokens),
             limits,
             alloc,
-            queries: 0,
-            is_due: false,
             now: 0,
             looked: 0,
         })
@@ -102,7 +90,7 @@ impl Worker {
         if self.make_room().is_err() {
             return Err(ErrorKind::OutOfMemory.into());
         }
-        let fresh = Connection::new(self.alloc, stream, self.now);
+        let fresh = Connection::new(self.alloc, stream, self.now, self.turns.first_role());
         let Ok(key) = self.connections.insert(fresh) else {
             return Err(ErrorKind::OutOfMemory.into());
         };
@@ -132,18 +120,19 @@ impl Worker {
     }
 
     // Ends a connection, and says why if its session was broken off.
-    fn end<R: Eprint>(&mut self, rt: &R, key: usize, desk: &Desk) {
-        self.is_due = true;
+    fn end<R: Eprint>(&mut self, gauge: &Gauge<'_, R>, key: usize, desk: &Desk) {
+        self.turns.is_due = true;
         if let Some(connection) = self.connections.try_remove(key) {
             if let Some(fault) = connection.fault() {
-                let _ = eprintln!(rt; "session fault {}: {fault}", fault.number());
+                gauge.tally.break_off();
+                let _ = eprintln!(gauge.rt; "session fault {}: {fault}", fault.number());
             }
             desk.leave();
         }
     }
 
     // Waits until a connection is ready or the desk has new ones, for at most a second if there are any.
-    fn wait<R: Clock>(&mut self, rt: &R, start: Instant, longest: u64) -> io::Result<()> {
+    fn wait<R: Clock>(&mut self, gauge: &Gauge<'_, R>, longest: u64) -> io::Result<()> {
         let timeout = if !self.again.is_empty() {
             Some(Duration::ZERO)
         } else if self.connections.is_empty() {
@@ -156,7 +145,7 @@ impl Worker {
             Err(error) if error.kind() == ErrorKind::Interrupted => {}
             Err(error) => return Err(error),
         }
-        self.now = start.elapsed(rt)?.as_secs();
+        self.now = gauge.start.elapsed(gauge.rt)?.as_secs();
         Ok(())
     }
 
@@ -191,87 +180,15 @@ impl Worker {
         }
     }
 
-    // Finds the next frame of each connection of this round. Returns how many have gets and ranges alone, and how many
-    // others there are.
-    fn find_all(&mut self, keys: &[usize]) -> (usize, usize) {
-        let mut reads = 0usize;
-        let mut others = 0usize;
-        for key in keys {
-            if let Some(connection) = self.connections.get_mut(*key) {
-                connection.find();
-                match connection.front {
-                    Front::Nothing => {}
-                    Front::Reads => reads = reads.saturating_add(1),
-                    Front::Others => others = others.saturating_add(1),
-                }
-            }
-        }
-        (reads, others)
-    }
-
-    // Answers the frames of one kind that `find_all` has found, in holdings of the lock that end after enough queries.
-    fn answer_those<S: Shared>(
-        &mut self,
-        shared: &mut S,
-        keys: &[usize],
-        front: Front,
-        keeping: Keeping,
-    ) {
-        self.answerer.keeping = keeping;
-        let mut held = 0u64;
-        for key in keys {
-            let Some(connection) = self.connections.get_mut(*key) else {
-                continue;
-            };
-            if connection.front != front {
-                continue;
-            }
-            connection.answer(&mut self.answerer, shared, &mut self.pass);
-            held = held.saturating_add(self.answerer.count);
-            self.queries = self.queries.saturating_add(self.answerer.count);
-            if held >= HELD {
-                shared.hold(Hold::Nothing);
-                held = 0;
-            }
-        }
-        shared.hold(Hold::Nothing);
-    }
-
-    // Answers frames of the connections of this round, one of each after the other, until none is to be answered.
-    fn answer_all<S: Shared>(&mut self, shared: &mut S, keys: &[usize]) {
-        for _ in 0..=TURN {
-            let (reads, others) = self.find_all(keys);
-            if reads == 0 && others == 0 {
-                break;
-            }
-            if reads > 0 {
-                let keeping = if reads == 1 {
-                    Keeping::Frame
-                } else {
-                    Keeping::Reads
-                };
-                self.answer_those(shared, keys, Front::Reads, keeping);
-            }
-            if others > 0 {
-                let keeping = if others == 1 {
-                    Keeping::Frame
-                } else {
-                    Keeping::Changes
-                };
-                self.answer_those(shared, keys, Front::Others, keeping);
-            }
-        }
-    }
-
     // Writes the connections of this round, and ends those that are over.
-    fn end_all<R: Eprint>(&mut self, rt: &R, keys: &[usize], desk: &Desk) {
+    fn end_all<R: Eprint>(&mut self, gauge: &Gauge<'_, R>, keys: &[usize], desk: &Desk) {
         for key in keys {
             let Some(connection) = self.connections.get_mut(*key) else {
                 continue;
             };
             connection.end(self.now);
             if connection.is_over() {
-                self.end(rt, *key, desk);
+                self.end(gauge, *key, desk);
             } else if connection.is_ready() {
                 connection.is_listed = true;
                 let _ = self.again.push(*key);
@@ -290,55 +207,55 @@ impl Worker {
     }
 
     // Once a second, ends the connections that are late.
-    fn look<R: Eprint>(&mut self, rt: &R, desk: &Desk) {
+    fn look<R: Eprint>(&mut self, gauge: &Gauge<'_, R>, desk: &Desk) {
         if self.now == self.looked {
             return;
         }
         self.looked = self.now;
-        self.is_due = self.queries > 0;
+        self.turns.look();
         let keys = self.all_keys();
         for key in &keys {
             let Some(connection) = self.connections.get_mut(*key) else {
                 continue;
             };
             if connection.is_late(self.limits, self.now) {
-                self.end(rt, *key, desk);
+                self.end(gauge, *key, desk);
             }
         }
         self.keys = keys;
     }
 
-    // After enough queries, after the end of a connection, and once a second after any: raises the epoch, and frees
-    // retired nodes.
-    fn sweep<S: Shared>(&mut self, shared: &mut S) {
-        if self.is_due || self.queries >= SWEEP {
-            self.is_due = false;
-            self.queries = 0;
-            let _epoch = shared.event(self.alloc, &mut self.pass, &Event::Advance);
-            let _freed = shared.event(self.alloc, &mut self.pass, &Event::Collect);
+    // Ends all threads, if a client has asked for it.
+    fn obey<R>(&mut self, gauge: &Gauge<'_, R>, stop: &Stop) {
+        match self.turns.take_stop() {
+            Some(true) => stop.stop_at_once(gauge.desks),
+            Some(false) => stop.stop(gauge.desks),
+            None => {}
         }
     }
 
     // One round: waits, reads, answers and writes.
     fn round<R: Wait + Clock + Eprint, S: Shared>(
         &mut self,
-        rt: &R,
-        start: Instant,
+        gauge: &Gauge<'_, R>,
         desk: &Desk,
         shared: &mut S,
+        stop: &Stop,
         longest: u64,
     ) -> io::Result<()> {
-        self.wait(rt, start, longest)?;
-        self.look(rt, desk);
+        self.wait(gauge, longest)?;
+        self.look(gauge, desk);
         if self.gather() {
-            self.welcome_all(rt, desk);
+            self.welcome_all(gauge.rt, desk);
         }
         let keys = mem::replace(&mut self.keys, Vec::new(self.alloc));
         self.begin_all(&keys);
-        self.answer_all(shared, &keys);
-        self.end_all(rt, &keys, desk);
+        self.turns
+            .answer_all(gauge, shared, &mut self.connections, &keys);
+        self.obey(gauge, stop);
+        self.end_all(gauge, &keys, desk);
         self.keys = keys;
-        self.sweep(shared);
+        self.turns.sweep(shared);
         Ok(())
     }
 
@@ -355,10 +272,10 @@ impl Worker {
     // Answers the frames that came, and writes what is to go, for at most ten seconds. Then all connections are ended.
     fn finish<R: Wait + Clock + Eprint, S: Shared>(
         &mut self,
-        rt: &R,
-        start: Instant,
+        gauge: &Gauge<'_, R>,
         desk: &Desk,
         shared: &mut S,
+        stop: &Stop,
     ) -> io::Result<()> {
         let keys = self.all_keys();
         for key in &keys {
@@ -373,7 +290,7 @@ impl Worker {
             if self.now > last || self.again.is_empty() && !self.has_output() {
                 break;
             }
-            self.round(rt, start, desk, shared, LAST)?;
+            self.round(gauge, desk, shared, stop, LAST)?;
         }
         Ok(())
     }
@@ -385,27 +302,29 @@ impl Worker {
 ///
 /// If a wait failed, or the clock.
 pub fn work<R: Wait + Clock + Eprint, S: Shared>(
-    rt: &R,
+    gauge: &Gauge<'_, R>,
     worker: Worker,
     desk: &Desk,
     shared: &mut S,
     stop: &Stop,
 ) -> io::Result<Pass> {
     let mut worker = worker;
-    let start = Instant::now(rt)?;
-    for _ in rt.forever() {
-        worker.round(rt, start, desk, shared, LONGEST)?;
+    for _ in gauge.rt.forever() {
+        worker.round(gauge, desk, shared, stop, LONGEST)?;
+        if stop.is_at_once() {
+            break;
+        }
         if stop.is_stopping() {
-            worker.welcome_all(rt, desk);
-            worker.finish(rt, start, desk, shared)?;
+            worker.welcome_all(gauge.rt, desk);
+            worker.finish(gauge, desk, shared, stop)?;
             break;
         }
         if stop.is_closing() {
-            worker.welcome_all(rt, desk);
+            worker.welcome_all(gauge.rt, desk);
             if worker.connections.is_empty() {
                 break;
             }
         }
     }
-    Ok(worker.pass)
+    Ok(worker.turns.into_pass())
 }

@@ -32,7 +32,7 @@ use Rattle.mt_index.specs.Viewing.{page_outcome}
 use Rattle.mt_shared.specs.Turns.{drop_outcome}
 use Rattle.mt_wire.specs.Answered.{end_of}
 use Rattle.mt_wire.specs.declared.query.Query.{Query}
-use Rattle.mt_wire.specs.declared.query.Query.TheVariants.{Call, ViewRead, ViewDrop}
+use Rattle.mt_wire.specs.declared.query.Query.TheVariants.{Call, ViewRead, ViewDrop, Server}
 use Rattle.mt_wire.specs.declared.response.Response.{Response}
 use Rattle.mt_wire.specs.declared.response.Response.TheVariants.{Refused, Done, View, Dropped}
 use Rattle.mt_wire.specs.declared.response.End.{End}
@@ -228,6 +228,7 @@ asks_are s t (ViewRead view floor start limit) response feed close (result, inr 
     (page_is s.machine.columns (now s) (page_fault start limit) view.0 floor start limit result may (subst IsAmple is ample))
 asks_are s t (ViewDrop view) response feed close (result, (leads, (note, may)), is) ample =
     subst (IsAnswer s.machine.columns (now s) (ViewDrop view)) (sym is) (drop_is (view_of view.0 (now s).views) result may)
+asks_are s t (Server query) response feed close (same, is) ample = is
 
 pub ample_answers : AmpleAnswersAreTheirs
 ample_answers s t query response feed close (asked, asks, kept) ample = asks_are s asked query response feed close asks ample
@@ -287,6 +288,7 @@ answers_are_one C m (ViewRead view floor start limit) response other one two = b
         → MatchOption o (MatchOption (view_of view.0 m.views) (other ≡ Refused NoSuchView) (IsPage C m floor start limit other)) (λ due. other ≡ Refused due) → IsSame response other
     by_fault None one two = by_view (view_of view.0 m.views) one two
     by_fault (Some due) one two = both response other _ one two
+answers_are_one C m (Server query) response other one two = both response other _ one two
 answers_are_one C m (ViewDrop view) response other one two = by_view (view_of view.0 m.views) one two
   where
     by_view : (there : Option StandingView) → MatchOption there (response ≡ Refused NoSuchView) (λ v. response ≡ Dropped) → MatchOption there (other ≡ Refused NoSuchView) (λ v. other ≡ Dropped) → IsSame response other

@@ -21,7 +21,7 @@ use Rattle.mt_index.specs.Viewing.{page_outcome}
 use Rattle.mt_shared.specs.Turns.{drop_outcome, turn}
 use Rattle.mt_shared.specs.Inner.{InnerView, Does}
 use Rattle.mt_wire.specs.declared.query.Query.{Query}
-use Rattle.mt_wire.specs.declared.query.Query.TheVariants.{Call, ViewRead, ViewDrop}
+use Rattle.mt_wire.specs.declared.query.Query.TheVariants.{Call, ViewRead, ViewDrop, Server}
 use Rattle.mt_wire.specs.declared.response.Response.{Response}
 use Rattle.mt_wire.specs.declared.frame.Frame.{Frame}
 use Rattle.mt_serve.specs.Asking.{Asks, Answers, AnswersAll, AnswersFrames, Follows, KeepsViews, PurgesFor, changes}
@@ -55,6 +55,7 @@ asks_rise s t p q (Call request) response (result, inl (inr read), is) =
 asks_rise s t p q (ViewRead view floor start limit) response (result, inl (shown, same, pass), is) = same_rise s t same
 asks_rise s t p q (ViewRead view floor start limit) response (result, inr (must, does, told), is) = does_rises s t p q (ReadOf view floor start limit) (page_outcome result) does
 asks_rise s t p q (ViewDrop view) response (result, does, is) = does_rises s t p q (DropOf view) (drop_outcome result) does
+asks_rise s t p q (Server query) response (same, pass, is) = same_rise s t same
 
 keeps_rise : (s t : InnerView) (p q : PassView) → KeepsViews Does s p t q → s.events ≤ t.events
 keeps_rise s t p q (inl (applied, kept)) = runs_rise s t p q (kept.turned.turns ++ kept.last) kept.turned.runs
@@ -185,6 +186,12 @@ asks_plainly s t p q h (ViewDrop view) response a few (Err refusal, does, is) =
       columns = went.columns;
       plain = (Err refusal, (leads_one s t h (DropOf view) (Refused refusal) went.note went.happens, (went.note, went.may)), is);
     }
+asks_plainly s t p q h (Server query) response a few (same, pass, is) = record {
+  final = h;
+  alone = subst (λ (k : InnerView). IsAlone k q h) (sym same) (subst (λ (v : PassView). IsAlone s v h) (sym pass) a);
+  columns = ap (λ (k : InnerView). k.machine.columns) same;
+  plain = (ap (λ (k : InnerView). store_of k h) same, is);
+}
 
 -- ---- tidies
 -- what was done leaves the pass alone, at a store of which this holds

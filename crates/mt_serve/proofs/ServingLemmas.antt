@@ -20,7 +20,8 @@ use Rattle.mt_types.specs.declared.event.Answer.TheVariants.{Absent, Found, Stor
 use Rattle.mt_types.specs.declared.event.Reply.{Reply}
 use Rattle.mt_types.specs.declared.event.Request.{Request}
 use Rattle.mt_wire.specs.Answered.{end_of}
-use Rattle.mt_wire.specs.declared.query.Query.TheVariants.{Call, ViewDrop, ViewRead}
+use Rattle.mt_wire.specs.declared.query.Query.TheVariants.{Call, ViewDrop, ViewRead, Server}
+use Rattle.mt_wire.specs.declared.server.ServerQuery.{ServerQuery}
 use Rattle.mt_wire.specs.declared.response.Response.{Response}
 use Rattle.mt_wire.specs.declared.frame.Frame.{Frame}
 use Rattle.mt_types.specs.Limited.{PageIsLimited}
@@ -31,7 +32,7 @@ use Rattle.mt_wire.specs.Frames.{Holds, RequestsFit, request_frame, reply_frame}
 use Rattle.mt_serve.specs.declared.fault.SessionFault.{SessionFault}
 use Rattle.mt_serve.specs.declared.fault.SessionFault.TheVariants.{Write, NoMemory}
 use Rattle.mt_serve.specs.declared.session.Summary.{Summary}
-use Rattle.mt_serve.specs.Asking.{Answers, AnswersAll, AnswersFrame, AnswersFrames, Follows, KeepsViews, call_response, changes, drop_response, end_changes, page_response}
+use Rattle.mt_serve.specs.Asking.{not_alone, Answers, AnswersAll, AnswersFrame, AnswersFrames, Follows, KeepsViews, call_response, changes, drop_response, end_changes, page_response}
 use Rattle.mt_serve.specs.Sources.{LosesFrame, StopsAt}
 use Rattle.mt_serve.specs.Sessions.{HasServed, IsBroken, BreaksIn, requests_of, replies_of}
 
@@ -98,6 +99,9 @@ pub drop_answers : {S : Type 0} (does : EventLaw S) (shows : ReadLaw S) (pages :
     → does s p (DropOf view) (drop_outcome result) t q → Answers does shows pages looks s p (ViewDrop view) (drop_response result) t q
 drop_answers does shows pages looks s t p q view result event =
     (t, q, (result, event, refl), subst (λ (b : Bool). MatchBool b (Follows does looks (ViewDrop view) t q t q) ((t ≡ t) × (q ≡ q))) (sym (drop_changes_none result)) (refl, refl))
+
+pub server_answers : {S : Type 0} (does : EventLaw S) (shows : ReadLaw S) (pages : PageLaw S) (looks : LookLaw S) (s : S) (p : PassView) (query : ServerQuery) → Answers does shows pages looks s p (Server query) not_alone s p
+server_answers does shows pages looks s p query = (s, p, (refl, refl, refl), (refl, refl))
 
 -- ---- the answers to a frame of queries are as many, and keep the limits: so they are a frame
 pub limited_more : (responses : List Response) (response : Response) → AllByRecursion ResponseIsLimited responses → ResponseIsLimited response → AllByRecursion ResponseIsLimited (responses ++ response ∷ [])

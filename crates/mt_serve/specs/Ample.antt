@@ -15,13 +15,14 @@ use Rattle.mt_promise.specs.History.{Moment, rows, view_of}
 use Rattle.mt_promise.specs.Legal.{begin_fault, page_of}
 use Rattle.mt_promise.specs.Alone.{IsRangeOfMap}
 use Rattle.mt_wire.specs.declared.query.Query.{Query}
-use Rattle.mt_wire.specs.declared.query.Query.TheVariants.{Call, ViewRead, ViewDrop}
+use Rattle.mt_wire.specs.declared.query.Query.TheVariants.{Call, ViewRead, ViewDrop, Server}
 use Rattle.mt_wire.specs.declared.response.Response.{Response}
 use Rattle.mt_wire.specs.declared.response.Response.TheVariants.{Refused, Done, View, Dropped}
 use Rattle.mt_wire.specs.declared.response.End.{End}
 use Rattle.mt_wire.specs.declared.response.End.TheVariants.{Absent, Found, Committed, Rows as RowsEnd, Tidied, Built}
 use Rattle.mt_shared.specs.Turns.{furthest}
 use Rattle.mt_serve.specs.Store.{Store, now, Leads}
+use Rattle.mt_serve.specs.Asking.{not_alone}
 use Rattle.mt_serve.specs.Plain.{PlainlyAnswers, NoneBehind, RanOut, MayBeTidied}
 
 -- nothing was changed, or one change was made
@@ -72,6 +73,7 @@ IsAnswer C m (ViewRead view floor start limit) response =
     (λ due. response ≡ Refused due)
 IsAnswer C m (ViewDrop view) response =
     MatchOption (view_of view.0 m.views) (response ≡ Refused NoSuchView) (λ v. response ≡ Dropped)
+IsAnswer C m (Server query) response = response ≡ not_alone
 
 -- the store was not short of memory, of nodes or of numbers
 abbrev pub IsAmple : Response → Type 0

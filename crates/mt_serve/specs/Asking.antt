@@ -11,9 +11,11 @@ use Rattle.mt_shared.specs.Pages.{PageLaw, PageIsRead}
 use Rattle.mt_shared.specs.Tidies.{IsShort, LookLaw, PurgesAfter}
 use Rattle.mt_shared.specs.Turns.{drop_outcome, KeepsUp, IsStopped}
 use Rattle.mt_wire.specs.declared.query.Query.{Query}
-use Rattle.mt_wire.specs.declared.query.Query.TheVariants.{Call, ViewRead, ViewDrop}
+use Rattle.mt_wire.specs.declared.query.Query.TheVariants.{Call, ViewRead, ViewDrop, Server}
 use Rattle.mt_wire.specs.declared.response.Response.{Response}
-use Rattle.mt_wire.specs.declared.response.Response.TheVariants.{Refused, Done, View, Dropped}
+use Rattle.mt_wire.specs.declared.response.Response.TheVariants.{Refused, Done, View, Dropped, Server as Served}
+use Rattle.mt_wire.specs.declared.server.ServerResponse.TheVariants.{Refused as OfServer}
+use Rattle.mt_wire.specs.declared.server.ServerRefusal.TheVariants.{TooMuchAtOnce}
 use Rattle.mt_wire.specs.declared.response.End.{End}
 use Rattle.mt_wire.specs.declared.response.End.TheVariants.{Committed, Built}
 use Rattle.mt_wire.specs.declared.frame.Frame.{Frame}
@@ -33,10 +35,15 @@ abbrev pub drop_response : Result ⊤ Refusal → Response
 drop_response (Ok done) = Dropped
 drop_response (Err refusal) = Refused refusal
 
+-- a query of the server stands alone in its frame: one that is asked of an index is refused
+abbrev pub not_alone : Response
+not_alone = Served (OfServer TooMuchAtOnce)
+
 -- ---- one query
 
 -- A call is read at once if it may be, and else driven from its begin to its end, unless memory is short before a remove;
--- a page is read at once if it may be, and else by one event; a view is dropped by one event. This is the answer.
+-- a page is read at once if it may be, and else by one event; a view is dropped by one event. A query of the server is
+-- refused, and nothing is done. This is the answer.
 abbrev pub Asks : {S : Type 0} → EventLaw S → ReadLaw S → PageLaw S → S → PassView → Query → Response → S → PassView → Type 0
 Asks does shows pages s p (Call request) response t q =
     (result : Result Reply Refusal) × (IsCall does shows s p request result t q ⊎ IsShort s p request result t q)
@@ -46,6 +53,7 @@ Asks does shows pages s p (ViewRead view floor start limit) response t q =
     × (response ≡ page_response result)
 Asks does shows pages s p (ViewDrop view) response t q =
     (result : Result ⊤ Refusal) × does s p (DropOf view) (drop_outcome result) t q × (response ≡ drop_response result)
+Asks does shows pages s p (Server query) response t q = (t ≡ s) × (q ≡ p) × (response ≡ not_alone)
 
 abbrev pub end_changes : End → Bool
 end_changes (Committed number) = true

@@ -38,14 +38,14 @@ use Rattle.mt_walk.specs.declared.place.TheConstants.{MAX_TIDIES}
 use Rattle.mt_index.specs.Viewing.{page_outcome}
 use Rattle.mt_shared.specs.Turns.{drop_outcome, furthest}
 use Rattle.mt_wire.specs.declared.query.Query.{Query}
-use Rattle.mt_wire.specs.declared.query.Query.TheVariants.{Call, ViewRead, ViewDrop}
+use Rattle.mt_wire.specs.declared.query.Query.TheVariants.{Call, ViewRead, ViewDrop, Server}
 use Rattle.mt_wire.specs.declared.response.Response.{Response}
 use Rattle.mt_wire.specs.declared.frame.Frame.{Frame}
 use Rattle.mt_wire.specs.Frames.{RequestsFit, request_frame, reply_frame}
 use Rattle.mt_serve.specs.declared.fault.SessionFault.{SessionFault}
 use Rattle.mt_serve.specs.declared.fault.SessionFault.TheVariants.{Write, NoMemory as WantsMemory}
 use Rattle.mt_serve.specs.declared.session.Summary.{Summary}
-use Rattle.mt_serve.specs.Asking.{Asks, call_response, page_response, drop_response, changes, AnswersAll, AnswersFrames}
+use Rattle.mt_serve.specs.Asking.{Asks, call_response, page_response, drop_response, not_alone, changes, AnswersAll, AnswersFrames}
 use Rattle.mt_serve.specs.Sources.{FaultIsAt}
 use Rattle.mt_serve.specs.Sessions.{requests_of, replies_of, IsServed, IsBroken}
 use Rattle.mt_serve.specs.Store.{Store, now, newest, Leads, fault, EndsBy, MayLack}
@@ -112,7 +112,7 @@ abbrev pub IsShownAtOnce : Store → Event → Outcome → Store → Type 0
 IsShownAtOnce s event outcome t = (t ≡ s) × ((note : ℕ) × MayHappen s.machine.columns s.past event outcome note)
 
 -- A page is what the view's filter and sums give afresh on the rows after the changes that it is at; a view that is
--- dropped is there no more; each is refused if there is no such view.
+-- dropped is there no more; each is refused if there is no such view. A query of the server is refused.
 abbrev pub PlainlyAsks : Store → Query → Response → Store → Type 0
 PlainlyAsks s (Call request) response t =
     (result : Result Reply Refusal) × CallEnds s request result t × (response ≡ call_response result)
@@ -123,6 +123,7 @@ PlainlyAsks s (ViewRead view floor start limit) response t =
 PlainlyAsks s (ViewDrop view) response t =
     (result : Result ⊤ Refusal) × OneHappens s (DropOf view) (drop_outcome result) t
     × (response ≡ drop_response result)
+PlainlyAsks s (Server query) response t = (t ≡ s) × (response ≡ not_alone)
 
 -- ---- views are kept up
 

@@ -12,15 +12,12 @@ ghost use Rattle.mt_serve.specs.Asking.{AnswersAll};
 use crate::asking::answer;
 use mt_shared::driving::{Hold, Shared};
 use mt_shared::pass::Pass;
+use mt_talk::replying::append;
 use mt_talk::talk::Answers;
 use mt_types::event::Request;
-use mt_wire::encode::encode_replies_into;
-use mt_wire::fault::EncodeError;
 use mt_wire::frame::Frame;
-use mt_wire::laws::limited_replies_fit;
 use mt_wire::query::Query;
 use mt_wire::response::Response;
-use mt_wire::version::WireVersion;
 use std::alloc::{AllocError, Global};
 
 /// What a lock is kept for while the queries of a frame are done.
@@ -104,43 +101,6 @@ fn answer_each<S: Shared>(
     Ok(responses)
 }
 
-// Replaces what `out` has by the frame of these answers. Answers that keep the limits of an index are never too long
-// for a frame.
-fn encode(out: &mut Vec<u8>, version: WireVersion, responses: &[Response]) -> Result<(), AllocError>
-    requires { Holds ResponseIsLimited responses.now }
-    ensures frame { OnOk result (out.new.items ≡ reply_frame (framed version responses.now)) }
-{
-    limited_replies_fit();
-    match encode_replies_into(out, version, responses) {
-        Ok(()) => Ok(()),
-        Err(EncodeError::NoMemory) => Err(AllocError),
-        Err(EncodeError::TooLong) => unreachable!(),
-    }
-}
-
-// Appends the frame of these answers. If `out` is empty, the frame is made in its memory.
-fn append(
-    alloc: Global,
-    out: &mut Vec<u8>,
-    version: WireVersion,
-    responses: &[Response],
-) -> Result<(), AllocError>
-    requires { Holds ResponseIsLimited responses.now }
-    ensures frame { OnOk result (out.new.items ≡ out.old.items ++ reply_frame (framed version responses.now)) }
-    ensures err { OnErr result (out.new.items ≡ out.old.items) }
-{
-    if out.is_empty() {
-        let made = encode(out, version, responses);
-        if made.is_err() {
-            out.clear();
-        }
-        return made;
-    }
-    let mut frame = Vec::new(alloc);
-    encode(&mut frame, version, responses)?;
-    out.extend_from_slice(&frame)
-}
-
 impl<S: Shared> Answers<S, Pass> for Answerer {
     ghost use Rattle.std.specs.Prelude.{◌≡◌, ◌++◌, List, length};
     ghost use Rattle.mt_wire.specs.declared.query.Query.{Query};
@@ -152,7 +112,7 @@ impl<S: Shared> Answers<S, Pass> for Answerer {
         × (b.count ≡ length frame.messages) };
 
     // a front of its queries was done
-    ghost gives_up = { λ s p frame t q. (done : List Query) × (undone : List Query) × (responses : List Response)
+    ghost gives_up = { λ _ s p frame t q. (done : List Query) × (undone : List Query) × (responses : List Response)
         × (frame.messages ≡ done ++ undone)
         × AnswersAll S.does S.shows S.pages S.looks s p done responses t q };
 

@@ -3,7 +3,7 @@
 ghost use Rattle.std.specs.Prelude.{◌≡◌};
 ghost use Rattle.mt_wire.specs.Limited.{ResponseIsLimited};
 ghost use Rattle.mt_wire.specs.declared.query.Query.TheVariants.{Call};
-ghost use Rattle.mt_serve.specs.Asking.{Answers, call_response, page_response, drop_response};
+ghost use Rattle.mt_serve.specs.Asking.{Answers, call_response, page_response, drop_response, not_alone};
 
 use mt_shared::asking::read_at_once;
 use mt_shared::changing::drive_and_keep;
@@ -15,6 +15,7 @@ use mt_types::refusal::Refusal;
 use mt_types::view::Page;
 use mt_wire::query::Query;
 use mt_wire::response::Response;
+use mt_wire::server::{ServerRefusal, ServerResponse};
 use std::alloc::Global;
 
 // The most turns by which views are kept up after a query.
@@ -47,6 +48,13 @@ fn drop_response(dropped: Result<(), Refusal>) -> Response
     }
 }
 
+// The answer to a query of the server.
+fn not_alone() -> Response
+    ensures { result ≡ not_alone }
+{
+    Response::Server(ServerResponse::Refused(ServerRefusal::TooMuchAtOnce))
+}
+
 // Does what a call asks, and returns its answer. If it is driven, and changed rows or built a view, views are then
 // advanced, and tidies follow a remove.
 fn answer_call<S: Shared>(
@@ -66,7 +74,7 @@ fn answer_call<S: Shared>(
 
 /// Does what a query asks, and returns its answer. A get or a range is read at once if it may be (`read_at_once`), and
 /// any other call is driven from its begin to its end (`drive_and_keep`). A page is read at once if it may be
-/// (`view_read`), and a view is dropped by one event.
+/// (`view_read`), and a view is dropped by one event. A query of the server is refused.
 /// If the query changed rows or built a view, views are then advanced, in at most 64 turns, and tidies follow a remove.
 ///
 /// Over a `Door` each event or read holds the lock once, so events of other threads can come between them. Over a
@@ -84,5 +92,6 @@ pub fn answer<S: Shared>(alloc: Global, shared: &mut S, pass: &mut Pass, query: 
             limit,
         } => page_response(view_read(alloc, shared, pass, view, floor, start, limit)),
         Query::ViewDrop(view) => drop_response(view_drop(alloc, shared, pass, view)),
+        Query::Server(_) => not_alone(),
     }
 }

@@ -113,7 +113,7 @@ impl<R: Read> Frames<R> {
             × (shared.new ≡ shared.old)
             × (pass.new ≡ pass.old)) }
         ensures fewer { IfOk result (λ some. IsTrue some → frames_left self.new < frames_left self.old) }
-        ensures fault { IfErr result (λ fault. StopsAt A.gives_up shared.old pass.old (frames_rest R.remaining self.old)
+        ensures fault { IfErr result (λ fault. StopsAt (A.gives_up answerer.old) shared.old pass.old (frames_rest R.remaining self.old)
             fault (frames_unread R.remaining self.new) shared.new pass.new) }
         ensures read { IfErr result (λ fault. fault ≡ ReadFault → read_failed self.new ≡ true) }
         ensures only { IfErr result (λ fault. fault ≢ WriteFault) }

@@ -1,3 +1,6 @@
 pub mod Turns
 pub mod KeptFields
+pub mod Tokens
+pub mod Serving
+pub mod Frames
 pub mod Laws

@@ -1,5 +1,5 @@
 -- WHAT A TURN OF A SESSION DOES, over anything that answers frames.
-use Rattle.std.specs.Prelude.{ℕ, ◌≡◌, ◌⊎◌, List, [], ◌++◌, Option, None}
+use Rattle.std.specs.Prelude.{ℕ, ◌≡◌, ◌⊎◌, List, [], ◌++◌, Option, None, Bool, false}
 use Rattle.mt_types.specs.declared.limits.TheConstants.{MAX_REQUEST_BODY}
 use Rattle.mt_wire.specs.declared.query.Query.{Query}
 use Rattle.mt_wire.specs.declared.response.Response.{Response}
@@ -7,14 +7,16 @@ use Rattle.mt_wire.specs.declared.frame.Frame.{Frame}
 use Rattle.mt_wire.specs.declared.fault.WireFault.{WireFault}
 use Rattle.mt_wire.specs.Frames.{RequestsFit, request_frame, reply_frame, IsBegun}
 
--- the bytes that came and aren't answered yet, the fault at which it has stopped, and the bytes that are to go
+-- the bytes that came and aren't answered yet, whether the frame at their front was read, the fault at which it has
+-- stopped, and the bytes that are to go
 pub record Kept : Type 0 where
   pub bytes : List ℕ
+  pub is_found : Bool
   pub fault : Option WireFault
   pub output : List ℕ
 
 abbrev pub nothing : Kept
-nothing = record { bytes = []; fault = None; output = [] }
+nothing = record { bytes = []; is_found = false; fault = None; output = [] }
 
 -- this frame is at the front
 abbrev pub HasFront : Frame Query → List ℕ → Type 0

@@ -1,6 +1,6 @@
 //! A session without a reader and a writer: bytes that came are put in, and bytes that are to go are taken out.
 
-ghost use Rattle.std.specs.Prelude.{◌≡◌, ◌≢◌, ◌≤◌, ◌++◌, ◌==◌, [], None, length, drop, IfOk, IfErr, IfSome, IfNone, IsErrOf, OnOk, OnErr, IsTrue, IsFalse};
+ghost use Rattle.std.specs.Prelude.{◌≡◌, ◌≢◌, ◌≤◌, ◌++◌, ◌==◌, [], None, length, drop, true, IfOk, IfErr, IfSome, IfNone, IsOk, IsSome, IsErrOf, OnOk, OnErr, IsTrue, IsFalse};
 ghost use Rattle.mt_types.specs.declared.limits.TheConstants.{MAX_REQUEST_BODY};
 ghost use Rattle.mt_wire.specs.declared.query.Query.{Query};
 ghost use Rattle.mt_wire.specs.declared.response.Response.{Response};
@@ -21,7 +21,7 @@ pub trait Answers<S, P> {
     ghost answers: { Self → S → P → Frame Query → Frame Response → Self → S → P → Type 0 };
 
     // what it may have done for a frame when memory ran out
-    ghost gives_up: { S → P → Frame Query → S → P → Type 0 };
+    ghost gives_up: { Self → S → P → Frame Query → S → P → Type 0 };
 
     /// Answers a frame: appends the frame of its answers to `out`.
     ///
@@ -39,7 +39,7 @@ pub trait Answers<S, P> {
         ensures reply { OnOk result ((reply : Frame Response)
             × answers self.old shared.old pass.old frame reply self.new shared.new pass.new
             × (out.new.items ≡ out.old.items ++ reply_frame reply)) }
-        ensures err { OnErr result (gives_up shared.old pass.old frame shared.new pass.new
+        ensures err { OnErr result (gives_up self.old shared.old pass.old frame shared.new pass.new
             × (out.new.items ≡ out.old.items)) };
 }
 
@@ -115,7 +115,7 @@ impl Talk {
     pub fn feed(&mut self, piece: &[u8]) -> Result<(), AllocError>
         ensures taken { OnOk result (self.old.fault ≡ None → (self.new.bytes ≡ self.old.bytes ++ piece.now)
             × (self.new.fault ≡ None)) }
-        ensures output { self.new.output ≡ self.old.output }
+        ensures output { (self.new.output ≡ self.old.output) × (self.new.is_found ≡ self.old.is_found) }
         ensures err { OnErr result (self.new ≡ self.old) }
     {
         match self.decoder.feed(piece) {
@@ -149,7 +149,9 @@ impl Talk {
     ///
     /// The fault at the front; `NoMemory` if out of memory.
     pub fn find(&mut self) -> Result<bool, WireFault>
-        ensures found { IfOk result (λ some. IsFalse some → IsBegun MAX_REQUEST_BODY self.old.bytes) }
+        ensures found { IfOk result (λ some. IsTrue some → (frame : Frame Query) × HasFront frame self.old.bytes) }
+        ensures begun { IfOk result (λ some. IsFalse some → IsBegun MAX_REQUEST_BODY self.old.bytes) }
+        ensures kept { IfOk result (λ some. self.new.is_found ≡ some) }
         ensures bytes { self.new.bytes ≡ self.old.bytes }
         ensures output { self.new.output ≡ self.old.output }
         ensures fault { IfErr result (λ fault. fault ≢ WireFault.NoMemory → FaultStands fault self.old.bytes) }
@@ -168,7 +170,8 @@ impl Talk {
 
     /// Returns the frame at the front, if `find` has read it and it wasn't answered since.
     pub fn front(&self) -> Option<&Frame<Query>>
-        ensures { IfSome result (λ frame. HasFront frame.now self.now.bytes) }
+        ensures frame { IfSome result (λ frame. HasFront frame.now self.now.bytes) }
+        ensures found { self.now.is_found ≡ true → IsSome result }
     {
         self.front.as_ref()
     }
@@ -193,7 +196,7 @@ impl Talk {
             × (self.new.bytes ≡ self.old.bytes) × (self.new.output ≡ self.old.output)
             × (shared.new ≡ shared.old) × (pass.new ≡ pass.old)) }
         ensures memory { IsErrOf result WireFault.NoMemory
-            → GivesUp A.gives_up shared.old pass.old self.old self.new shared.new pass.new }
+            → GivesUp (A.gives_up answerer.old) shared.old pass.old self.old self.new shared.new pass.new }
     {
         let Some(frame) = self.take_front()? else {
             return Ok(false);
@@ -230,8 +233,8 @@ impl Talk {
     pub fn sent(&mut self, count: usize) -> Result<(), AllocError>
         requires { count ≤ length self.old.output }
         ensures gone { OnOk result (self.new.output ≡ drop count self.old.output) }
-        ensures bytes { (self.new.bytes ≡ self.old.bytes) × (self.new.fault ≡ self.old.fault) }
-        ensures all { count ≡ length self.old.output → OnOk result (self.new.output ≡ []) }
+        ensures bytes { (self.new.bytes ≡ self.old.bytes) × (self.new.fault ≡ self.old.fault) × (self.new.is_found ≡ self.old.is_found) }
+        ensures all { count ≡ length self.old.output → IsOk result }
         ensures err { OnErr result (self.new ≡ self.old) }
     {
         if count == self.output.len() {
@@ -247,7 +250,7 @@ impl Talk {
     /// Drops the bytes that are to go. Their memory is kept for the next answers.
     pub fn clear_output(&mut self)
         ensures gone { self.new.output ≡ [] }
-        ensures bytes { (self.new.bytes ≡ self.old.bytes) × (self.new.fault ≡ self.old.fault) }
+        ensures bytes { (self.new.bytes ≡ self.old.bytes) × (self.new.fault ≡ self.old.fault) × (self.new.is_found ≡ self.old.is_found) }
     {
         self.output.clear();
     }

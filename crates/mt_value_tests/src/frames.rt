@@ -88,7 +88,7 @@ fn are_asked(read: &Frame<Query>, version: WireVersion, queries: &[Query]) -> bo
 }
 
 // Whether the queries are written as this frame, and read from it.
-fn ask_in(
+pub fn ask_in(
     alloc: Global,
     version: WireVersion,
     queries: &[Query],
@@ -117,7 +117,7 @@ fn ask(alloc: Global, queries: &[Query], frame: &[u8]) -> Result<bool, Fail> {
 }
 
 // Whether the answers are written as this frame, also over other bytes.
-fn answer_in(
+pub fn answer_in(
     alloc: Global,
     version: WireVersion,
     responses: &[Response],
@@ -158,7 +158,7 @@ fn ask_by_bytes(alloc: Global, queries: &[Query], frame: &[u8]) -> Result<bool, 
 }
 
 // The fault at these bytes, if it comes again when a good frame follows.
-fn fault(alloc: Global, bytes: &[u8]) -> Result<Option<WireFault>, Fail> {
+pub fn fault(alloc: Global, bytes: &[u8]) -> Result<Option<WireFault>, Fail> {
     let mut decoder = Decoder::new(alloc);
     decoder.feed(bytes)?;
     let first = decoder.next().err();
@@ -202,7 +202,7 @@ fn session_faults(rt: HostRuntime) -> Result<(), Fail> {
     assert_eq!(rt; fault(alloc, b"\0\0\0\x01")?, Some(WireFault::BadLength));
     assert_eq!(rt; fault(alloc, b"\0\x04\0\x01")?, Some(WireFault::BadLength));
     assert_eq!(rt;
-        fault(alloc, b"\0\0\0\x02\x03\x01")?,
+        fault(alloc, b"\0\0\0\x02\x04\x01")?,
         Some(WireFault::BadVersion)
     );
     assert_eq!(rt;

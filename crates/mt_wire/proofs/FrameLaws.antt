@@ -10,12 +10,13 @@ use Rattle.mt_types.specs.declared.limits.TheConstants.{MAX_QUERIES, MAX_REQUEST
 use Rattle.mt_wire.specs.declared.fault.WireFault.{WireFault}
 use Rattle.mt_wire.specs.declared.fault.WireFault.TheVariants as faults
 use Rattle.mt_wire.specs.declared.version.WireVersion.{WireVersion}
-use Rattle.mt_wire.specs.declared.version.WireVersion.TheVariants.{One, Two}
+use Rattle.mt_wire.specs.declared.version.WireVersion.TheVariants.{One, Two, Three}
 use Rattle.mt_wire.specs.declared.frame.Frame.{Frame}
 use Rattle.mt_wire.specs.Versions.{version_byte, version_of}
 use Rattle.mt_wire.specs.Spelling.{counted, framed, body_of, query_spelling}
 use Rattle.mt_wire.specs.Frames.{Holds, InVersion, announced, told_version, IsWhole, IsOneFrame, FaultStands, RequestsFit, request_frame}
-use Rattle.mt_wire.specs.Reading.{Reader, ◌>>=◌, byte_at, times_at, kind_at, query_rest}
+use Rattle.mt_wire.specs.Reading.{Reader, ◌>>=◌, byte_at, times_at, kind_at}
+use Rattle.mt_wire.specs.QueryReading.{query_rest}
 use Rattle.mt_wire.specs.Bodies.{FaultIs, messages_at, read_as, body_at}
 use Rattle.mt_wire.specs.declared.query.Query.{Query}
 use Rattle.mt_wire.proofs.QueryLaws.{query_exact}
@@ -68,21 +69,25 @@ messages_again {A} {F} {spell} {item} exact xs h =
 
 -- ---- the first byte
 
-told_by : (one two : Bool) (version : WireVersion) → cond one (Some One) (cond two (Some Two) None) ≡ Some version → ((one ≡ true) × (version ≡ One)) ⊎ ((two ≡ true) × (version ≡ Two))
-told_by true two version e = inl (refl, cc)
-told_by false true version e = inr (refl, cc)
-told_by false false version e = absurd cc
+told_by : (one two three : Bool) (version : WireVersion) → cond one (Some One) (cond two (Some Two) (cond three (Some Three) None)) ≡ Some version
+    → ((one ≡ true) × (version ≡ One)) ⊎ (((two ≡ true) × (version ≡ Two)) ⊎ ((three ≡ true) × (version ≡ Three)))
+told_by true two three version e = inl (refl, cc)
+told_by false true three version e = inr (inl (refl, cc))
+told_by false false true version e = inr (inr (refl, cc))
+told_by false false false version e = absurd cc
 
 byte_told : (byte : ℕ) (version : WireVersion) → version_of byte ≡ Some version → byte ≡ version_byte version
 byte_told byte version e =
-    elim (told_by (eqb byte 1) (eqb byte 2) version e) [
+    elim (told_by (eqb byte 1) (eqb byte 2) (eqb byte 3) version e) [
       | inl is ↦ eqb-true _ _ is.0 ∙ ap version_byte (sym is.1)
-      | inr is ↦ eqb-true _ _ is.0 ∙ ap version_byte (sym is.1)
+      | inr (inl is) ↦ eqb-true _ _ is.0 ∙ ap version_byte (sym is.1)
+      | inr (inr is) ↦ eqb-true _ _ is.0 ∙ ap version_byte (sym is.1)
     ]
 
 told_again : (version : WireVersion) → version_of (version_byte version) ≡ Some version
 told_again One = refl
 told_again Two = refl
+told_again Three = refl
 
 -- ---- what a body reads as
 

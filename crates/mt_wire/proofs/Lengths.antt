@@ -1,19 +1,23 @@
 -- How long the spelling of an answer is at most, if the answer keeps the limits of an index.
 use Rattle.std.proofs.Common.{ℕ, ◌*◌, ◌≤◌, List, [], ◌∷◌, length, All, arith, length-append}
 use Rattle.std.specs.List.{AllByRecursion, flat_map}
+use Rattle.std.specs.Int.{w64, to_be_bytes}
 use Rattle.std.proofs.lemmas.List.Elements.{All-nil, All-cons}
 use Rattle.std.proofs.lemmas.List.Concat.{length-flat_map}
 use Rattle.std.proofs.lemmas.List.Sums.{sum_by-le}
 use Rattle.mt_types.specs.declared.row.Row.{Row}
 use Rattle.mt_types.specs.declared.limits.TheConstants.{MAX_COLUMN_BYTES}
 use Rattle.mt_wire.specs.declared.response.Response.{Response}
-use Rattle.mt_wire.specs.declared.response.Response.TheVariants.{Refused, Done, View, Dropped}
+use Rattle.mt_wire.specs.declared.response.Response.TheVariants.{Refused, Done, View, Dropped, Server}
+use Rattle.mt_wire.specs.declared.server.Count.{Count}
+use Rattle.mt_wire.specs.declared.server.ServerResponse.{ServerResponse}
+use Rattle.mt_wire.specs.declared.server.ServerResponse.TheVariants.{Info}
 use Rattle.mt_wire.specs.declared.response.End.{End}
 use Rattle.mt_wire.specs.declared.response.End.TheVariants.{Found, Rows}
-use Rattle.mt_wire.specs.Spelling.{key_spelling, short_spelling, sum_spelling, row_spelling, pair_spelling, pairs_spelling, response_spelling}
-use Rattle.mt_wire.specs.Fits.{ShortFits, RowLengths, EndLengthsOf, ResponseLengths}
+use Rattle.mt_wire.specs.Spelling.{key_spelling, short_spelling, sum_spelling, row_spelling, pair_spelling, pairs_spelling, count_spelling, served_spelling, response_spelling}
+use Rattle.mt_wire.specs.Fits.{KeyFits, ServedLengths, ShortFits, RowLengths, EndLengthsOf, ResponseLengths}
 use Rattle.mt_types.specs.Limited.{ColumnIsLimited, RowIsLimited, PairIsLimited, PairsAreLimited}
-use Rattle.mt_wire.specs.Limited.{EndIsLimited, ResponseIsLimited}
+use Rattle.mt_wire.specs.Limited.{EndIsLimited, ServedIsLimited, ResponseIsLimited}
 use Rattle.mt_wire.specs.Laws.{LimitedRepliesFit}
 
 -- ---- lists
@@ -63,6 +67,15 @@ sums_most sums = spelled_most (λ (sum : ℕ). Unit {0}) sum_spelling 16 (λ sum
     any [] = tt
     any (x ∷ xs) = (tt, any xs)
 
+count_most : (count : Count) → length count.name ≤ 64 → length (count_spelling count) ≤ 74
+count_most count h = omega (arith, h, length-append (key_spelling count.name) (to_be_bytes w64 count.number))
+
+served_most : (response : ServerResponse) → ServedIsLimited response → length (served_spelling response) ≤ 4739
+served_most (Info counts) h =
+    let each = spelled_most (λ (count : Count). length count.name ≤ 64) count_spelling 74 count_most counts h.1 in
+    omega (arith, h.0, each)
+served_most _ h = omega arith
+
 response_most : (response : Response) → ResponseIsLimited response → length (response_spelling response) ≤ 2075276
 response_most (Done start stop (Found row)) h = let most = row_most row h in omega (arith, most)
 response_most (Done start stop (Rows pairs)) h = let most = pairs_most pairs h in omega (arith, most)
@@ -71,6 +84,7 @@ response_most (View page) h =
     let sums = sums_most page.sums in
     let both = length-append (flat_map sum_spelling page.sums) (pairs_spelling page.rows) in
     omega (arith, h.0, rows, sums, both)
+response_most (Server response) h = let most = served_most response h in omega (arith, most)
 response_most _ h = omega arith
 
 -- ---- and their lengths fit their fields
@@ -86,11 +100,16 @@ end_lengths (Found row) h = row_lengths row h
 end_lengths (Rows pairs) h = (omega (arith, h.0), pairs_lengths pairs h.1)
 end_lengths _ h = tt
 
+served_lengths : (response : ServerResponse) → ServedIsLimited response → ServedLengths response
+served_lengths (Info counts) h = (omega (arith, h.0), each_of (λ (count : Count). length count.name ≤ 64) (λ count. KeyFits count.name) (λ count short. omega (arith, short)) counts h.1)
+served_lengths _ h = tt
+
 response_lengths : (response : Response) → ResponseIsLimited response → ResponseLengths response
 response_lengths (Refused refusal) h = tt
 response_lengths (Done start stop end) h = end_lengths end h
 response_lengths (View page) h = (omega (arith, h.0), (omega (arith, h.1.0), pairs_lengths page.rows h.1.1))
 response_lengths Dropped h = tt
+response_lengths (Server response) h = served_lengths response h
 
 pub limited_replies_fit : LimitedRepliesFit
 limited_replies_fit frame h =

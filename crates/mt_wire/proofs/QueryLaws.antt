@@ -1,5 +1,5 @@
 -- Reading undoes the spelling of queries.
-use Rattle.std.proofs.Common.{◌≡◌, ℕ, zero, suc, ◌^◌, ◌<◌, List, [], ◌∷◌, ◌++◌, Option, Some, None, refl}
+use Rattle.std.proofs.Common.{◌≡◌, ℕ, zero, suc, ◌^◌, ◌<◌, Bool, true, false, cond, ltb, List, [], ◌∷◌, ◌++◌, Option, Some, None, refl, subst}
 use Rattle.std.specs.List.{AllByRecursion}
 use Rattle.std.specs.Int.{w16, w64, to_be_bytes}
 use Rattle.mt_types.specs.declared.event.Request.TheVariants.{Get, Put, PutIf, Remove, Range, Tidy, Build}
@@ -8,11 +8,16 @@ use Rattle.mt_types.specs.declared.view.ViewSpec.TheVariants.{Range as RangeOf, 
 use Rattle.mt_types.specs.declared.view.RowTest.{RowTest}
 use Rattle.mt_types.specs.declared.view.RowTest.TheVariants.{Any, Equals, AtLeast}
 use Rattle.mt_wire.specs.declared.query.Query.{Query}
-use Rattle.mt_wire.specs.declared.query.Query.TheVariants.{Call, ViewRead, ViewDrop}
+use Rattle.mt_wire.specs.declared.query.Query.TheVariants.{Call, ViewRead, ViewDrop, Server}
+use Rattle.mt_wire.specs.declared.server.ServerQuery.{ServerQuery}
+use Rattle.mt_wire.specs.declared.server.ServerQuery.TheVariants as asks
 use Rattle.mt_wire.specs.Spelling.{set_spelling, test_spelling, end_spelling, spec_spelling, query_spelling}
 use Rattle.mt_wire.specs.Fits.{ShortFits, TestLengths, TestNumbers, EndLengths, SpecLengths, SpecNumbers, QueryFits}
-use Rattle.mt_wire.specs.Reading.{byte_at, number_at, kind_at, set_at, test_rest, end_rest, spec_rest, get_at, put_at, put_if_at, remove_at, range_at, tidy_at, build_at, view_read_at, view_drop_at, query_rest}
-use Rattle.mt_wire.proofs.Exact.{IsBytes, Takes, IsExact, wide16, wide64, both_exact, made_takes, made_again, kind_exact, nothing_exact, byte_exact, number_exact, key_exact, short_exact, counted_exact}
+use Rattle.mt_wire.specs.Reading.{byte_at, number_at, kind_at, set_at, test_rest, end_rest, spec_rest, get_at, put_at, put_if_at, remove_at, range_at, tidy_at, build_at, view_read_at, view_drop_at, index_rest, made}
+use Rattle.mt_wire.specs.ServerReading.{server_rest}
+use Rattle.mt_wire.specs.QueryReading.{query_rest}
+use Rattle.mt_wire.proofs.ServerLaws.{TakesAt, server_takes, server_again}
+use Rattle.mt_wire.proofs.Exact.{IsBytes, Takes, IsExact, bind_some, some_is, wide16, wide64, both_exact, made_takes, made_again, kind_exact, nothing_exact, byte_exact, number_exact, key_exact, short_exact, counted_exact}
 
 abbrev n16 : IsExact ℕ (λ n. n < 2 ^ 16) (λ n. to_be_bytes w16 n) (number_at w16)
 n16 = number_exact w16 (2 ^ 16) wide16
@@ -86,24 +91,41 @@ spec_exact = kind_exact spec_takes spec_again
 
 -- ---- queries
 
-query_takes : (kind : ℕ) (bytes : List ℕ) (y : Query × List ℕ) → IsBytes bytes → query_rest kind bytes ≡ Some y → Takes (kind ∷ bytes) (query_spelling y.0) y.1 × QueryFits y.0
-unfolding query_rest get_at put_at put_if_at remove_at range_at tidy_at build_at view_read_at view_drop_at
-query_takes zero = λ bytes y fits e. absurd cc
-query_takes (suc zero) = made_takes (λ x. Call (Get x.0 x.1)) query_spelling QueryFits 1 (both_exact key_exact short_exact) (λ x. refl) (λ x h. (h, tt))
-query_takes (suc (suc zero)) = made_takes (λ x. Call (Put x.0 x.1)) query_spelling QueryFits 2 (both_exact key_exact (counted_exact set_exact)) (λ x. refl) (λ x h. ((h.0, (h.1.0, sets_lengths x.1 h.1.1)), tt))
-query_takes (suc (suc (suc zero))) = made_takes (λ x. Call (Remove x)) query_spelling QueryFits 3 key_exact (λ x. refl) (λ x h. (h, tt))
-query_takes (suc (suc (suc (suc zero)))) = made_takes (λ x. Call (Range x.0.0 x.0.1 x.1)) query_spelling QueryFits 4 (both_exact (both_exact key_exact n16) short_exact) (λ x. refl) (λ x h. ((h.0.0, h.1), h.0.1))
-query_takes (suc (suc (suc (suc (suc zero))))) = made_takes (λ x. Call (Tidy x)) query_spelling QueryFits 5 key_exact (λ x. refl) (λ x h. (h, tt))
-query_takes (suc (suc (suc (suc (suc (suc zero)))))) = made_takes (λ x. Call (Build x)) query_spelling QueryFits 6 spec_exact (λ x. refl) (λ x h. h)
-query_takes (suc (suc (suc (suc (suc (suc (suc zero))))))) =
+index_takes : (kind : ℕ) (bytes : List ℕ) (y : Query × List ℕ) → IsBytes bytes → index_rest kind bytes ≡ Some y → Takes (kind ∷ bytes) (query_spelling y.0) y.1 × QueryFits y.0
+unfolding index_rest get_at put_at put_if_at remove_at range_at tidy_at build_at view_read_at view_drop_at
+index_takes zero = λ bytes y fits e. absurd cc
+index_takes (suc zero) = made_takes (λ x. Call (Get x.0 x.1)) query_spelling QueryFits 1 (both_exact key_exact short_exact) (λ x. refl) (λ x h. (h, tt))
+index_takes (suc (suc zero)) = made_takes (λ x. Call (Put x.0 x.1)) query_spelling QueryFits 2 (both_exact key_exact (counted_exact set_exact)) (λ x. refl) (λ x h. ((h.0, (h.1.0, sets_lengths x.1 h.1.1)), tt))
+index_takes (suc (suc (suc zero))) = made_takes (λ x. Call (Remove x)) query_spelling QueryFits 3 key_exact (λ x. refl) (λ x h. (h, tt))
+index_takes (suc (suc (suc (suc zero)))) = made_takes (λ x. Call (Range x.0.0 x.0.1 x.1)) query_spelling QueryFits 4 (both_exact (both_exact key_exact n16) short_exact) (λ x. refl) (λ x h. ((h.0.0, h.1), h.0.1))
+index_takes (suc (suc (suc (suc (suc zero))))) = made_takes (λ x. Call (Tidy x)) query_spelling QueryFits 5 key_exact (λ x. refl) (λ x h. (h, tt))
+index_takes (suc (suc (suc (suc (suc (suc zero)))))) = made_takes (λ x. Call (Build x)) query_spelling QueryFits 6 spec_exact (λ x. refl) (λ x h. h)
+index_takes (suc (suc (suc (suc (suc (suc (suc zero))))))) =
     made_takes (λ x. ViewRead (record { 0 = x.0.0.0 }) x.0.0.1 x.0.1 x.1) query_spelling QueryFits 7 (both_exact (both_exact (both_exact n64 n64) key_exact) n16) (λ x. refl) (λ x h. (h.0.1, (h.0.0.0, h.0.0.1, h.1)))
-query_takes (suc (suc (suc (suc (suc (suc (suc (suc zero)))))))) = made_takes (λ x. ViewDrop (record { 0 = x })) query_spelling QueryFits 8 n64 (λ x. refl) (λ x h. (tt, h))
-query_takes (suc (suc (suc (suc (suc (suc (suc (suc (suc zero))))))))) =
+index_takes (suc (suc (suc (suc (suc (suc (suc (suc zero)))))))) = made_takes (λ x. ViewDrop (record { 0 = x })) query_spelling QueryFits 8 n64 (λ x. refl) (λ x h. (tt, h))
+index_takes (suc (suc (suc (suc (suc (suc (suc (suc (suc zero))))))))) =
     made_takes (λ x. Call (PutIf x.0.0 x.1 x.0.1)) query_spelling QueryFits 9 (both_exact (both_exact key_exact n64) (counted_exact set_exact)) (λ x. refl) (λ x h. ((h.0.0, (h.1.0, sets_lengths x.1 h.1.1)), h.0.1))
-query_takes (suc (suc (suc (suc (suc (suc (suc (suc (suc (suc kind)))))))))) = λ bytes y fits e. absurd cc
+index_takes (suc (suc (suc (suc (suc (suc (suc (suc (suc (suc kind)))))))))) = λ bytes y fits e. absurd cc
+
+served_takes : (kind : ℕ) → TakesAt QueryFits query_spelling kind (made (λ x. Server x) (server_rest kind))
+served_takes kind bytes y fits e =
+    let p = bind_some (server_rest kind bytes) (λ x. Some (Server x.0, x.1)) y e in
+    let t = server_takes kind bytes p.0 fits p.1 in
+    subst (λ (z : Query × List ℕ). Takes (kind ∷ bytes) (query_spelling z.0) z.1 × QueryFits z.0) (some_is (Server p.0.0, p.0.1) y p.2) t
+
+either_takes : (is_low : Bool) (kind : ℕ) → TakesAt QueryFits query_spelling kind (cond is_low (index_rest kind) (made (λ x. Server x) (server_rest kind)))
+either_takes true = index_takes
+either_takes false = served_takes
+
+query_takes : (kind : ℕ) → TakesAt QueryFits query_spelling kind (query_rest kind)
+unfolding query_rest
+query_takes kind = either_takes (ltb kind 16) kind
+
+served_again : (kind : ℕ) (bytes : List ℕ) (x : ServerQuery) (rest : List ℕ) → server_rest kind bytes ≡ Some (x, rest) → made (λ x. Server x) (server_rest kind) bytes ≡ Some (Server x, rest)
+served_again kind bytes x rest e = rw e refl
 
 query_again : (x : Query) (rest : List ℕ) → QueryFits x → kind_at query_rest (query_spelling x ++ rest) ≡ Some (x, rest)
-unfolding kind_at byte_at query_rest get_at put_at put_if_at remove_at range_at tidy_at build_at view_read_at view_drop_at
+unfolding kind_at byte_at query_rest index_rest get_at put_at put_if_at remove_at range_at tidy_at build_at view_read_at view_drop_at
 query_again (Call (Get key columns)) rest h = made_again (λ x. Call (Get x.0 x.1)) (both_exact key_exact short_exact) (key, columns) rest h.0
 query_again (Call (Put key sets)) rest h = made_again (λ x. Call (Put x.0 x.1)) (both_exact key_exact (counted_exact set_exact)) (key, sets) rest (h.0.0, (h.0.1.0, sets_fit sets h.0.1.1))
 query_again (Call (PutIf key sets version)) rest h =
@@ -115,6 +137,10 @@ query_again (Call (Build spec)) rest h = made_again (λ x. Call (Build x)) spec_
 query_again (ViewRead view floor start limit) rest h =
     made_again (λ x. ViewRead (record { 0 = x.0.0.0 }) x.0.0.1 x.0.1 x.1) (both_exact (both_exact (both_exact n64 n64) key_exact) n16) (((view.0, floor), start), limit) rest (((h.1.0, h.1.1), h.0), h.1.2)
 query_again (ViewDrop view) rest h = made_again (λ x. ViewDrop (record { 0 = x })) n64 view.0 rest h.1
+query_again (Server (asks.Hello newest secret name)) rest h = served_again 16 _ (asks.Hello newest secret name) rest (server_again (asks.Hello newest secret name) rest h)
+query_again (Server (asks.Ping number)) rest h = served_again 17 _ (asks.Ping number) rest (server_again (asks.Ping number) rest h)
+query_again (Server asks.Info) rest h = served_again 18 _ asks.Info rest (server_again asks.Info rest h)
+query_again (Server (asks.Stop is_at_once)) rest h = served_again 21 _ (asks.Stop is_at_once) rest (server_again (asks.Stop is_at_once) rest h)
 
 pub query_exact : IsExact Query QueryFits query_spelling (kind_at query_rest)
 query_exact = kind_exact query_takes query_again

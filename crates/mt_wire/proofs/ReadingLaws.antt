@@ -10,7 +10,7 @@ use Rattle.mt_wire.specs.declared.query.Query.{Query}
 use Rattle.mt_wire.specs.declared.fault.WireFault.{WireFault}
 use Rattle.mt_wire.specs.declared.fault.WireFault.TheVariants as faults
 use Rattle.mt_wire.specs.declared.version.WireVersion.{WireVersion}
-use Rattle.mt_wire.specs.declared.version.WireVersion.TheVariants.{One, Two}
+use Rattle.mt_wire.specs.declared.version.WireVersion.TheVariants.{One, Two, Three}
 use Rattle.mt_wire.specs.declared.frame.Frame.{Frame}
 use Rattle.mt_wire.specs.Versions.{version_byte, version_of}
 use Rattle.mt_wire.specs.Spelling.{query_spelling, body_of, frame_of}
@@ -74,6 +74,7 @@ not_begun frame rest fits begun =
 none_told : (version : WireVersion) → version_of (version_byte version) ≡ None → ⊥
 none_told One e = cc
 none_told Two e = cc
+none_told Three e = cc
 
 no_fault : (frame : Frame Query) (rest : List ℕ) → RequestsFit frame → (fault : WireFault) → ¬ FaultStands fault (request_frame frame ++ rest)
 no_fault frame rest fits faults.BadLength stands = stands.1 (good_length frame rest fits)

@@ -1,5 +1,5 @@
 -- Reading answers from left to right, as Reading.antt does queries: the laws need it, and no code does it.
-use Rattle.std.specs.Prelude.{ℕ, zero, suc, ◌+◌, ◌*◌, ◌^◌, List, length, Some, None, nat_lt, if◌then◌else◌}
+use Rattle.std.specs.Prelude.{ℕ, zero, suc, ◌+◌, ◌*◌, ◌^◌, List, length, Some, None, nat_lt, ◌==◌, if◌then◌else◌}
 use Rattle.std.specs.Int.{w16, w64}
 use Rattle.mt_types.specs.declared.row.Row.{Row}
 use Rattle.mt_types.specs.declared.limits.TheConstants.{MAX_KEY_BYTES}
@@ -8,9 +8,16 @@ use Rattle.mt_types.specs.TidyNumbers.{tidy_of}
 use Rattle.mt_types.specs.declared.refusal.Refusal.{Refusal}
 use Rattle.mt_types.specs.RefusalNumbers.{refusal_of}
 use Rattle.mt_wire.specs.declared.response.Response.{Response}
-use Rattle.mt_wire.specs.declared.response.Response.TheVariants.{Refused, Done, View, Dropped}
+use Rattle.mt_wire.specs.declared.response.Response.TheVariants.{Refused, Done, View, Dropped, Server as Served}
+use Rattle.mt_wire.specs.declared.server.ServerRefusal.{ServerRefusal}
+use Rattle.mt_wire.specs.declared.server.ServerRefusal.TheVariants.{NotAllowed, TooMuchAtOnce}
+use Rattle.mt_wire.specs.declared.server.Role.{Role}
+use Rattle.mt_wire.specs.declared.server.Role.TheVariants.{Read, Write, All}
+use Rattle.mt_wire.specs.declared.server.Count.{Count}
+use Rattle.mt_wire.specs.declared.server.ServerResponse.{ServerResponse}
+use Rattle.mt_wire.specs.declared.server.ServerResponse.TheVariants.{Refused as OfServer, Hello, Ping, Info, Stopped}
 use Rattle.mt_wire.specs.declared.response.End.TheVariants.{Absent, Found, Committed, Rows, Tidied, Built}
-use Rattle.mt_wire.specs.Reading.{Reader, ◌>>=◌, both, made, nothing_at, number_at, key_at, short_at, times_at, counted_at, kind_at}
+use Rattle.mt_wire.specs.Reading.{Reader, ◌>>=◌, both, made, nothing_at, byte_at, number_at, key_at, short_at, times_at, counted_at, kind_at}
 
 -- two bytes that count them, and the items
 unfoldable pub counted16_at : {A : Type 0} → Reader A → Reader (List A)
@@ -73,14 +80,72 @@ view_at =
     made (λ x. View (record { at = x.0.0.0; count = x.0.0.1; sums = x.0.1; rows = x.1 }))
     (both (both (both (number_at w64) (number_at w64)) (counted_at sum_at)) (counted16_at pair_at))
 
+unfoldable pub ended_rest : ℕ → Reader Response
+ended_rest zero = λ bytes. None
+ended_rest (suc zero) = absent_at
+ended_rest (suc (suc zero)) = found_at
+ended_rest (suc (suc (suc zero))) = committed_at
+ended_rest (suc (suc (suc (suc zero)))) = rows_at
+ended_rest (suc (suc (suc (suc (suc zero))))) = tidied_at
+ended_rest (suc (suc (suc (suc (suc (suc zero)))))) = built_at
+ended_rest (suc (suc (suc (suc (suc (suc (suc zero))))))) = view_at
+ended_rest (suc (suc (suc (suc (suc (suc (suc (suc zero)))))))) = made (λ _. Dropped) nothing_at
+ended_rest (suc (suc (suc (suc (suc (suc (suc (suc (suc kind))))))))) = λ bytes. None
+
+-- the number 0, and nothing else
+unfoldable pub zero_at : Reader (Unit {0})
+zero_at bytes = do
+  number ← number_at w64 bytes
+  if number.0 == 0 then Some (tt, number.1) else None
+
+unfoldable pub turned_rest : ℕ → Reader ServerRefusal
+turned_rest kind =
+    if kind == 24 then made (λ _. NotAllowed) zero_at
+    else if kind == 25 then made (λ _. TooMuchAtOnce) zero_at
+    else λ bytes. None
+
+-- a refusal: from 24 on it is the server's
+unfoldable pub refused_rest : ℕ → Reader Response
+refused_rest kind =
+    if nat_lt kind 24 then made (λ x. Refused x) (refusal_rest kind)
+    else made (λ x. Served (OfServer x)) (turned_rest kind)
+
+-- a role, without more bytes
+unfoldable pub role_rest : ℕ → Reader Role
+role_rest zero = λ bytes. None
+role_rest (suc zero) = made (λ _. Read) nothing_at
+role_rest (suc (suc zero)) = made (λ _. Write) nothing_at
+role_rest (suc (suc (suc zero))) = made (λ _. All) nothing_at
+role_rest (suc (suc (suc (suc kind)))) = λ bytes. None
+
+unfoldable pub hello_at : Reader ServerResponse
+hello_at =
+    made (λ x. Hello x.0.0.0.0.0 x.0.0.0.0.1 x.0.0.0.1 x.0.0.1 x.0.1 x.1)
+    (both (both (both (both (both byte_at (kind_at role_rest)) byte_at) sum_at) (number_at w64)) (number_at w64))
+
+unfoldable pub ping_at : Reader ServerResponse
+ping_at = made (λ x. Ping x.0 x.1) (both (number_at w64) (number_at w64))
+
+unfoldable pub count_at : Reader Count
+count_at = made (λ x. record { name = x.0; number = x.1 }) (both key_at (number_at w64))
+
+unfoldable pub info_at : Reader ServerResponse
+info_at = made (λ x. Info x) (counted16_at count_at)
+
+unfoldable pub stopped_at : Reader ServerResponse
+stopped_at = made (λ x. Stopped x) (number_at w64)
+
+unfoldable pub served_rest : ℕ → Reader ServerResponse
+served_rest kind =
+    if kind == 16 then hello_at
+    else if kind == 17 then ping_at
+    else if kind == 18 then info_at
+    else if kind == 21 then stopped_at
+    else λ bytes. None
+
+-- from 16 on answers are the server's
 unfoldable pub response_rest : ℕ → Reader Response
-response_rest zero = made (λ x. Refused x) (kind_at refusal_rest)
-response_rest (suc zero) = absent_at
-response_rest (suc (suc zero)) = found_at
-response_rest (suc (suc (suc zero))) = committed_at
-response_rest (suc (suc (suc (suc zero)))) = rows_at
-response_rest (suc (suc (suc (suc (suc zero))))) = tidied_at
-response_rest (suc (suc (suc (suc (suc (suc zero)))))) = built_at
-response_rest (suc (suc (suc (suc (suc (suc (suc zero))))))) = view_at
-response_rest (suc (suc (suc (suc (suc (suc (suc (suc zero)))))))) = made (λ _. Dropped) nothing_at
-response_rest (suc (suc (suc (suc (suc (suc (suc (suc (suc kind))))))))) = λ bytes. None
+response_rest kind =
+    if kind == 0 then kind_at refused_rest
+    else if nat_lt kind 16 then ended_rest kind
+    else made (λ x. Served x) (served_rest kind)

@@ -12,9 +12,13 @@ use Rattle.mt_types.specs.declared.limits.TheConstants.{MAX_KEY_BYTES}
 use Rattle.mt_types.specs.declared.refusal.Refusal.{Refusal}
 use Rattle.mt_types.specs.declared.refusal.Refusal.TheVariants.{FeedFull, Behind, OtherVersion}
 use Rattle.mt_wire.specs.declared.query.Query.{Query}
-use Rattle.mt_wire.specs.declared.query.Query.TheVariants.{Call, ViewRead, ViewDrop}
+use Rattle.mt_wire.specs.declared.query.Query.TheVariants.{Call, ViewRead, ViewDrop, Server}
 use Rattle.mt_wire.specs.declared.response.Response.{Response}
-use Rattle.mt_wire.specs.declared.response.Response.TheVariants.{Refused, Done, View, Dropped}
+use Rattle.mt_wire.specs.declared.response.Response.TheVariants.{Refused, Done, View, Dropped, Server as Served}
+use Rattle.mt_wire.specs.declared.server.ServerQuery.{ServerQuery}
+use Rattle.mt_wire.specs.declared.server.ServerQuery.TheVariants as asks
+use Rattle.mt_wire.specs.declared.server.ServerResponse.{ServerResponse}
+use Rattle.mt_wire.specs.declared.server.ServerResponse.TheVariants.{Refused as OfServer, Hello, Ping, Info, Stopped}
 use Rattle.mt_wire.specs.declared.response.End.{End}
 use Rattle.mt_wire.specs.declared.response.End.TheVariants.{Absent, Found, Committed, Rows, Tidied, Built}
 
@@ -43,6 +47,10 @@ abbrev pub SpecLengths : ViewSpec → Type 0
 SpecLengths (RangeOf lo hi test) = KeyFits lo × EndLengths hi × TestLengths test
 SpecLengths (PrefixOf key test) = KeyFits key × TestLengths test
 
+abbrev pub ServerLengths : ServerQuery → Type 0
+ServerLengths (asks.Hello newest secret name) = KeyFits secret × KeyFits name
+ServerLengths _ = Unit {0}
+
 abbrev pub QueryLengths : Query → Type 0
 QueryLengths (Call (Get key columns)) = KeyFits key × ShortFits columns
 QueryLengths (Call (Put key sets)) = KeyFits key × CountedFits (λ set. ShortFits set.1) sets
@@ -53,6 +61,7 @@ QueryLengths (Call (Tidy key)) = KeyFits key
 QueryLengths (Call (Build spec)) = SpecLengths spec
 QueryLengths (ViewRead view floor start limit) = KeyFits start
 QueryLengths (ViewDrop view) = Unit {0}
+QueryLengths (Server query) = ServerLengths query
 
 abbrev pub RowLengths : Row → Type 0
 RowLengths row = CountedFits ShortFits row.columns
@@ -65,11 +74,16 @@ EndLengthsOf (Found row) = RowLengths row
 EndLengthsOf (Rows pairs) = PairsLengths pairs
 EndLengthsOf _ = Unit {0}
 
+abbrev pub ServedLengths : ServerResponse → Type 0
+ServedLengths (Info counts) = (length counts < 2 ^ 16) × AllByRecursion (λ count. KeyFits count.name) counts
+ServedLengths _ = Unit {0}
+
 abbrev pub ResponseLengths : Response → Type 0
 ResponseLengths (Refused refusal) = Unit {0}
 ResponseLengths (Done start stop end) = EndLengthsOf end
 ResponseLengths (View page) = (length page.sums < 2 ^ 8) × PairsLengths page.rows
 ResponseLengths Dropped = Unit {0}
+ResponseLengths (Served response) = ServedLengths response
 
 -- ---- numbers and keys, as their types keep them
 
@@ -82,6 +96,10 @@ abbrev pub SpecNumbers : ViewSpec → Type 0
 SpecNumbers (RangeOf lo hi test) = TestNumbers test
 SpecNumbers (PrefixOf key test) = TestNumbers test
 
+abbrev pub ServerNumbers : ServerQuery → Type 0
+ServerNumbers (asks.Ping number) = number < 2 ^ 64
+ServerNumbers _ = Unit {0}
+
 abbrev pub QueryNumbers : Query → Type 0
 QueryNumbers (Call (PutIf key sets version)) = version < 2 ^ 64
 QueryNumbers (Call (Range start limit columns)) = limit < 2 ^ 16
@@ -89,6 +107,7 @@ QueryNumbers (Call (Build spec)) = SpecNumbers spec
 QueryNumbers (Call request) = Unit {0}
 QueryNumbers (ViewRead view floor start limit) = (view.0 < 2 ^ 64) × (floor < 2 ^ 64) × (limit < 2 ^ 16)
 QueryNumbers (ViewDrop view) = view.0 < 2 ^ 64
+QueryNumbers (Server query) = ServerNumbers query
 
 abbrev pub QueryFits : Query → Type 0
 QueryFits query = QueryLengths query × QueryNumbers query
@@ -110,6 +129,14 @@ EndNumbers (Rows pairs) = AllByRecursion PairNumbers pairs
 EndNumbers (Tidied rule) = Unit {0}
 EndNumbers (Built view) = view.0 < 2 ^ 64
 
+abbrev pub ServedNumbers : ServerResponse → Type 0
+ServedNumbers (OfServer refusal) = Unit {0}
+ServedNumbers (Hello version role columns run commits logged) =
+    (run < 2 ^ 128) × (commits < 2 ^ 64) × (logged < 2 ^ 64)
+ServedNumbers (Ping number commits) = (number < 2 ^ 64) × (commits < 2 ^ 64)
+ServedNumbers (Info counts) = AllByRecursion (λ count. count.number < 2 ^ 64) counts
+ServedNumbers (Stopped commits) = commits < 2 ^ 64
+
 abbrev pub ResponseNumbers : Response → Type 0
 ResponseNumbers (Refused refusal) = RefusalNumbers refusal
 ResponseNumbers (Done start stop end) = (start < 2 ^ 64) × (stop < 2 ^ 64) × EndNumbers end
@@ -117,6 +144,7 @@ ResponseNumbers (View page) =
     (page.at < 2 ^ 64) × (page.count < 2 ^ 64) × AllByRecursion (λ sum. sum < 2 ^ 128) page.sums
     × AllByRecursion PairNumbers page.rows
 ResponseNumbers Dropped = Unit {0}
+ResponseNumbers (Served response) = ServedNumbers response
 
 abbrev pub ResponseFits : Response → Type 0
 ResponseFits response = ResponseLengths response × ResponseNumbers response

@@ -139,15 +139,15 @@ view_read_at =
 unfoldable pub view_drop_at : Reader Query
 view_drop_at = made (λ x. ViewDrop (record { 0 = x })) (number_at w64)
 
-unfoldable pub query_rest : ℕ → Reader Query
-query_rest zero = λ bytes. None
-query_rest (suc zero) = get_at
-query_rest (suc (suc zero)) = put_at
-query_rest (suc (suc (suc zero))) = remove_at
-query_rest (suc (suc (suc (suc zero)))) = range_at
-query_rest (suc (suc (suc (suc (suc zero))))) = tidy_at
-query_rest (suc (suc (suc (suc (suc (suc zero)))))) = build_at
-query_rest (suc (suc (suc (suc (suc (suc (suc zero))))))) = view_read_at
-query_rest (suc (suc (suc (suc (suc (suc (suc (suc zero)))))))) = view_drop_at
-query_rest (suc (suc (suc (suc (suc (suc (suc (suc (suc zero))))))))) = put_if_at
-query_rest (suc (suc (suc (suc (suc (suc (suc (suc (suc (suc kind)))))))))) = λ bytes. None
+unfoldable pub index_rest : ℕ → Reader Query
+index_rest zero = λ bytes. None
+index_rest (suc zero) = get_at
+index_rest (suc (suc zero)) = put_at
+index_rest (suc (suc (suc zero))) = remove_at
+index_rest (suc (suc (suc (suc zero)))) = range_at
+index_rest (suc (suc (suc (suc (suc zero))))) = tidy_at
+index_rest (suc (suc (suc (suc (suc (suc zero)))))) = build_at
+index_rest (suc (suc (suc (suc (suc (suc (suc zero))))))) = view_read_at
+index_rest (suc (suc (suc (suc (suc (suc (suc (suc zero)))))))) = view_drop_at
+index_rest (suc (suc (suc (suc (suc (suc (suc (suc (suc zero))))))))) = put_if_at
+index_rest (suc (suc (suc (suc (suc (suc (suc (suc (suc (suc kind)))))))))) = λ bytes. None

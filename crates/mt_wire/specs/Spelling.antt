@@ -1,5 +1,5 @@
 -- The bytes that spell each message, and a frame of them. Numbers have the highest byte first.
-use Rattle.std.specs.Prelude.{ℕ, ◌/◌, ◌%◌, ◌^◌, List, [], ◌∷◌, ◌++◌, length, Option, Some, None, unwrap_or}
+use Rattle.std.specs.Prelude.{ℕ, ◌/◌, ◌%◌, ◌^◌, List, [], ◌∷◌, ◌++◌, length, Option, Some, None, unwrap_or, Bool, true, false}
 use Rattle.std.specs.List.{flat_map}
 use Rattle.std.specs.Int.{w16, w32, w64, to_be_bytes}
 use Rattle.mt_types.specs.declared.event.Request.TheVariants.{Get, Put, PutIf, Remove, Range, Tidy, Build}
@@ -14,10 +14,16 @@ use Rattle.mt_types.specs.TidyNumbers.{tidy_number}
 use Rattle.mt_types.specs.declared.refusal.Refusal.{Refusal}
 use Rattle.mt_types.specs.RefusalNumbers.{refusal_number, refusal_detail}
 use Rattle.mt_wire.specs.declared.query.Query.{Query}
-use Rattle.mt_wire.specs.declared.query.Query.TheVariants.{Call, ViewRead, ViewDrop}
+use Rattle.mt_wire.specs.declared.query.Query.TheVariants.{Call, ViewRead, ViewDrop, Server}
 use Rattle.mt_wire.specs.declared.response.Response.{Response}
-use Rattle.mt_wire.specs.declared.response.Response.TheVariants.{Refused, Done, View, Dropped}
+use Rattle.mt_wire.specs.declared.response.Response.TheVariants.{Refused, Done, View, Dropped, Server as Served}
 use Rattle.mt_wire.specs.declared.response.End.TheVariants.{Absent, Found, Committed, Rows, Tidied, Built}
+use Rattle.mt_wire.specs.declared.server.ServerQuery.{ServerQuery}
+use Rattle.mt_wire.specs.declared.server.ServerQuery.TheVariants as asks
+use Rattle.mt_wire.specs.declared.server.ServerResponse.{ServerResponse}
+use Rattle.mt_wire.specs.declared.server.ServerResponse.TheVariants.{Refused as OfServer, Hello, Ping, Info, Stopped}
+use Rattle.mt_wire.specs.declared.server.Count.{Count}
+use Rattle.mt_wire.specs.ServerNumbers.{role_number, server_refusal_number}
 use Rattle.mt_wire.specs.declared.version.WireVersion.{WireVersion}
 use Rattle.mt_wire.specs.declared.frame.Frame.{Frame}
 use Rattle.mt_wire.specs.Versions.{version_byte}
@@ -52,6 +58,16 @@ abbrev pub spec_spelling : ViewSpec → List ℕ
 spec_spelling (RangeOf lo hi test) = 0 ∷ (key_spelling lo ++ end_spelling hi ++ test_spelling test)
 spec_spelling (PrefixOf key test) = 1 ∷ (key_spelling key ++ test_spelling test)
 
+abbrev pub flag_spelling : Bool → List ℕ
+flag_spelling false = 0 ∷ []
+flag_spelling true = 1 ∷ []
+
+abbrev pub server_spelling : ServerQuery → List ℕ
+server_spelling (asks.Hello newest secret name) = 16 ∷ newest ∷ (key_spelling secret ++ key_spelling name)
+server_spelling (asks.Ping number) = 17 ∷ to_be_bytes w64 number
+server_spelling asks.Info = 18 ∷ []
+server_spelling (asks.Stop is_at_once) = 21 ∷ flag_spelling is_at_once
+
 abbrev pub query_spelling : Query → List ℕ
 query_spelling (Call (Get key columns)) = 1 ∷ (key_spelling key ++ short_spelling columns)
 query_spelling (Call (Put key sets)) = 2 ∷ (key_spelling key ++ counted set_spelling sets)
@@ -65,6 +81,7 @@ query_spelling (ViewRead view floor start limit) =
 query_spelling (ViewDrop view) = 8 ∷ to_be_bytes w64 view.0
 query_spelling (Call (PutIf key sets version)) =
     9 ∷ (key_spelling key ++ to_be_bytes w64 version ++ counted set_spelling sets)
+query_spelling (Server query) = server_spelling query
 
 -- a number of up to 128 bits: sixteen bytes
 abbrev pub sum_spelling : ℕ → List ℕ
@@ -96,6 +113,19 @@ rule_spelling rule = tidy_number rule ∷ []
 abbrev pub span_spelling : ℕ → ℕ → List ℕ
 span_spelling start stop = to_be_bytes w64 start ++ to_be_bytes w64 stop
 
+-- what a server counts: a name, and a number
+abbrev pub count_spelling : Count → List ℕ
+count_spelling count = key_spelling count.name ++ to_be_bytes w64 count.number
+
+abbrev pub served_spelling : ServerResponse → List ℕ
+served_spelling (OfServer refusal) = 0 ∷ server_refusal_number refusal ∷ to_be_bytes w64 0
+served_spelling (Hello version role columns run commits logged) =
+    16 ∷ version ∷ role_number role ∷ columns
+    ∷ (sum_spelling run ++ to_be_bytes w64 commits ++ to_be_bytes w64 logged)
+served_spelling (Ping number commits) = 17 ∷ (to_be_bytes w64 number ++ to_be_bytes w64 commits)
+served_spelling (Info counts) = 18 ∷ (to_be_bytes w16 (length counts) ++ flat_map count_spelling counts)
+served_spelling (Stopped commits) = 21 ∷ to_be_bytes w64 commits
+
 abbrev pub response_spelling : Response → List ℕ
 response_spelling (Refused refusal) = 0 ∷ refusal_spelling refusal
 response_spelling (Done start stop Absent) = 1 ∷ span_spelling start stop
@@ -108,6 +138,7 @@ response_spelling (View page) =
     7 ∷ (to_be_bytes w64 page.at ++ to_be_bytes w64 page.count ++ counted sum_spelling page.sums
     ++ pairs_spelling page.rows)
 response_spelling Dropped = 8 ∷ []
+response_spelling (Served response) = served_spelling response
 
 -- these messages, in a frame of this version
 abbrev pub framed : {A : Type 0} → WireVersion → List A → Frame A

@@ -2,20 +2,22 @@
 use Rattle.std.specs.Prelude.{ℕ, Option, Some, None, ◌==◌, if◌then◌else◌}
 use Rattle.mt_types.specs.declared.event.Request.TheVariants.{PutIf}
 use Rattle.mt_wire.specs.declared.query.Query.{Query}
-use Rattle.mt_wire.specs.declared.query.Query.TheVariants.{Call}
+use Rattle.mt_wire.specs.declared.query.Query.TheVariants.{Call, Server}
 use Rattle.mt_wire.specs.declared.version.WireVersion.{WireVersion}
-use Rattle.mt_wire.specs.declared.version.WireVersion.TheVariants.{One, Two}
+use Rattle.mt_wire.specs.declared.version.WireVersion.TheVariants.{One, Two, Three}
 
 abbrev pub version_byte : WireVersion → ℕ
 version_byte One = 1
 version_byte Two = 2
+version_byte Three = 3
 
 -- the version that a byte tells
 abbrev pub version_of : ℕ → Option WireVersion
-version_of byte = if byte == 1 then Some One else if byte == 2 then Some Two else None
+version_of byte = if byte == 1 then Some One else if byte == 2 then Some Two else if byte == 3 then Some Three else None
 
--- version 1 has each query but the conditional put, version 2 has each
+-- version 1 has each query of the index but the conditional put, version 2 each of the index, version 3 each
 abbrev pub HasQuery : WireVersion → Query → Type 0
 HasQuery One (Call (PutIf key sets version)) = ⊥
-HasQuery One query = Unit {0}
-HasQuery Two query = Unit {0}
+HasQuery One (Server query) = ⊥
+HasQuery Two (Server query) = ⊥
+HasQuery version query = Unit {0}

@@ -16,5 +16,8 @@ mod query_writing;
 mod reading;
 pub mod response;
 mod response_writing;
+pub mod server;
+mod server_reading;
+mod server_writing;
 pub mod version;
 mod writing;

@@ -1,5 +1,6 @@
 //! What a client asks.
 
+use crate::server::ServerQuery;
 use bytes::Bytes;
 use mt_types::event::Request;
 use mt_types::numbers::ViewNo;
@@ -18,4 +19,6 @@ pub enum Query {
     },
     /// Ends a view.
     ViewDrop(ViewNo),
+    /// Asks the server itself. Versions 1 and 2 have none.
+    Server(ServerQuery),
 }

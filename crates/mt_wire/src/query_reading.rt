@@ -1,11 +1,13 @@
 //! Queries, read from the front of the bytes that are left.
 
 ghost use Rattle.std.specs.Prelude.{◌≡◌};
-ghost use Rattle.mt_wire.specs.Reading.{Gives, kind_at, test_rest, end_rest, spec_rest, query_rest, get_at, put_at, put_if_at, remove_at, range_at, tidy_at, build_at, view_read_at, view_drop_at};
+ghost use Rattle.mt_wire.specs.QueryReading.{query_rest};
+ghost use Rattle.mt_wire.specs.Reading.{Gives, kind_at, test_rest, end_rest, spec_rest, index_rest, get_at, put_at, put_if_at, remove_at, range_at, tidy_at, build_at, view_read_at, view_drop_at};
 
 use crate::fault::ReadError;
 use crate::query::Query;
 use crate::reading::{Readable, byte, column_numbers, counted, key, number16, number64, short};
+use crate::server_reading::server_query;
 use bytes::Bytes;
 use mt_types::event::Request;
 use mt_types::items::Items;
@@ -189,9 +191,9 @@ fn view_drop(input: &mut Bytes) -> Result<Query, ReadError>
     Ok(Query::ViewDrop(view))
 }
 
-#[tactic(auto, unfolding(crate::specs::Reading::query_rest))]
-fn query_of_kind(alloc: Global, input: &mut Bytes, kind: u8) -> Result<Query, ReadError>
-    ensures { Gives (λ x. (x, input.new)) result (query_rest kind input.old) }
+#[tactic(auto, unfolding(crate::specs::Reading::index_rest))]
+fn index_query(alloc: Global, input: &mut Bytes, kind: u8) -> Result<Query, ReadError>
+    ensures { Gives (λ x. (x, input.new)) result (index_rest kind input.old) }
 {
     match kind {
         1 => get(alloc, input),
@@ -207,8 +209,20 @@ fn query_of_kind(alloc: Global, input: &mut Bytes, kind: u8) -> Result<Query, Re
     }
 }
 
+// From kind 16 on queries are of the server.
+#[tactic(auto, unfolding(crate::specs::QueryReading::query_rest))]
+fn query_of_kind(alloc: Global, input: &mut Bytes, kind: u8) -> Result<Query, ReadError>
+    ensures { Gives (λ x. (x, input.new)) result (query_rest kind input.old) }
+{
+    if kind < 16 {
+        return index_query(alloc, input, kind);
+    }
+    Ok(Query::Server(server_query(input, kind)?))
+}
+
 impl Readable for Query {
-    ghost use Rattle.mt_wire.specs.Reading.{kind_at, query_rest};
+    ghost use Rattle.mt_wire.specs.Reading.{kind_at};
+    ghost use Rattle.mt_wire.specs.QueryReading.{query_rest};
 
     ghost reading = { kind_at query_rest };
 

@@ -205,6 +205,7 @@ impl Writable for Query {
                 out.push(8)?;
                 number64(out, view.0)
             }
+            Query::Server(query) => query.write(out),
         }
     }
 
@@ -213,6 +214,7 @@ impl Writable for Query {
             Query::Call(request) => request_fits(request),
             Query::ViewRead { start, .. } => key_fits(start),
             Query::ViewDrop(_) => true,
+            Query::Server(query) => query.fits(),
         }
     }
 }

@@ -3,6 +3,7 @@
 ghost use Rattle.std.specs.Prelude.{◌≡◌};
 ghost use Rattle.mt_wire.specs.Answered.{end_of};
 
+use crate::server::ServerResponse;
 use mt_types::event::{Answer, Reply, TidyRule};
 use mt_types::numbers::ViewNo;
 use mt_types::refusal::Refusal;
@@ -26,6 +27,8 @@ pub enum Response {
     View(Page),
     /// The view has ended.
     Dropped,
+    /// What the server itself answers.
+    Server(ServerResponse),
 }
 
 /// How a call ended. A put and a remove end alike, since the client knows what it asked for.

@@ -168,6 +168,7 @@ impl Writable for Response {
             Response::Done { from, to, end } => write_done(out, *from, *to, end),
             Response::View(page) => write_page(out, page),
             Response::Dropped => Ok(out.push(8)?),
+            Response::Server(response) => response.write(out),
         }
     }
 
@@ -177,6 +178,7 @@ impl Writable for Response {
             Response::View(page) => page.sums.as_slice().len() < 0x100
                 && pairs_fit(page.rows.as_slice()),
             Response::Refused(_) | Response::Dropped => true,
+            Response::Server(response) => response.fits(),
         }
     }
 }

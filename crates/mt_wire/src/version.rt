@@ -10,10 +10,12 @@ use mt_types::event::Request;
 /// A version of the wire. A frame of answers has the version of the queries that it answers.
 #[derive(Clone, Copy, Debug, PartialEq, Eq)]
 pub enum WireVersion {
-    /// It has each query except the conditional put.
+    /// It has each query of the index except the conditional put.
     One,
-    /// It has each query.
+    /// It has each query of the index.
     Two,
+    /// It has each query.
+    Three,
 }
 
 impl WireVersion {
@@ -24,6 +26,7 @@ impl WireVersion {
         match byte {
             1 => Some(WireVersion::One),
             2 => Some(WireVersion::Two),
+            3 => Some(WireVersion::Three),
             _ => None,
         }
     }
@@ -35,6 +38,7 @@ impl WireVersion {
         match self {
             WireVersion::One => 1,
             WireVersion::Two => 2,
+            WireVersion::Three => 3,
         }
     }
 
@@ -44,6 +48,7 @@ impl WireVersion {
     {
         match (self, query) {
             (WireVersion::One, Query::Call(Request::PutIf { .. })) => false,
+            (WireVersion::One | WireVersion::Two, Query::Server(_)) => false,
             _ => true,
         }
     }

@@ -1,6 +1,8 @@
 -- What the words of the command line mean.
 use Rattle.std.specs.Prelude.{◌≡◌, ℕ, true, false, List, codes, Some}
+use Rattle.std.specs.Option.{option_map}
 use Rattle.clap.specs.Words.{App, HasMatchesOf, Rule, found_of, new_app, new_rule, one_text, with_rule}
+use Rattle.clap.specs.Matches.{first_value}
 use Rattle.clap.specs.declared.parser.matches.ArgMatches.{ArgMatches}
 use Rattle.clap.specs.declared.builder.action.ArgAction.TheVariants.{SetTrue}
 use Rattle.mt_command_line.specs.Numbers.{number_rule, IsNumber}
@@ -22,6 +24,21 @@ with_socket_rules app =
     (number_rule (codes "sessions") 0 65535))
     (number_rule (codes "connections") 1 1000000)
 
+-- --NAME TEXT
+abbrev pub text_rule : List ℕ → Rule
+text_rule name = record (new_rule name) { long = Some name; value_names = 1 }
+
+-- the options of who reaches the server, and may ask what
+abbrev pub with_access_rules : App → App
+with_access_rules app =
+    with_rule
+    (with_rule
+    (with_rule
+    (with_rule app (text_rule (codes "listen")))
+    (text_rule (codes "token-file")))
+    (number_rule (codes "hello-timeout") 0 86400))
+    (flag_rule (codes "open"))
+
 -- the limits of time
 abbrev pub with_limit_rules : App → App
 with_limit_rules app =
@@ -42,7 +59,7 @@ with_flag_rules app =
 
 -- the options of mtserve
 abbrev pub mtserve_app : App
-mtserve_app = with_index_rules (with_flag_rules (with_limit_rules (with_socket_rules (new_app (codes "mtserve")))))
+mtserve_app = with_index_rules (with_flag_rules (with_limit_rules (with_access_rules (with_socket_rules (new_app (codes "mtserve"))))))
 
 -- what was found on a command line
 pub record AreFound (matches : ArgMatches) (settings : Settings) : Type 0 where
@@ -50,6 +67,9 @@ pub record AreFound (matches : ArgMatches) (settings : Settings) : Type 0 where
   pub workers : IsNumber 64 (one_text (found_of matches) (codes "workers")) 0 settings.workers
   pub sessions : IsNumber 64 (one_text (found_of matches) (codes "sessions")) 65536 settings.sessions
   pub connections : IsNumber 64 (one_text (found_of matches) (codes "connections")) 10000 settings.connections
+  pub listen : option_map (λ text. text.now) settings.listen ≡ first_value (found_of matches) (codes "listen")
+  pub token_file : option_map (λ text. text.now) settings.token_file ≡ first_value (found_of matches) (codes "token-file")
+  pub hello : IsNumber 64 (one_text (found_of matches) (codes "hello-timeout")) 10 settings.hello
   pub idle : IsNumber 64 (one_text (found_of matches) (codes "idle-timeout")) 0 settings.idle
   pub frame : IsNumber 64 (one_text (found_of matches) (codes "frame-timeout")) 30 settings.frame
   pub write : IsNumber 64 (one_text (found_of matches) (codes "write-timeout")) 30 settings.write
@@ -57,6 +77,8 @@ pub record AreFound (matches : ArgMatches) (settings : Settings) : Type 0 where
   pub bounded : one_text (found_of matches) (codes "forever") ≡ Some (codes "false") → settings.forever ≡ false
   pub watched : one_text (found_of matches) (codes "stop-at-end-of-input") ≡ Some (codes "true") → settings.watches_input ≡ true
   pub unwatched : one_text (found_of matches) (codes "stop-at-end-of-input") ≡ Some (codes "false") → settings.watches_input ≡ false
+  pub opened : one_text (found_of matches) (codes "open") ≡ Some (codes "true") → settings.is_open ≡ true
+  pub unopened : one_text (found_of matches) (codes "open") ≡ Some (codes "false") → settings.is_open ≡ false
   pub columns : IsColumns 64 matches settings.options.columns
   pub log_capacity : IsLogCapacity matches settings.options.log_capacity
   pub log_retention : IsLogRetention matches settings.options.log_retention

@@ -2,7 +2,7 @@
 
 ghost use Rattle.std.specs.Prelude.{◌≡◌, false, map, string_bytes, codes, IfOk};
 ghost use Rattle.clap.specs.Words.{app_of, new_app, rule_of};
-ghost use Rattle.mtserve.specs.CommandLine.{flag_rule, with_socket_rules, with_limit_rules, with_flag_rules, mtserve_app, AreFound, AreSaid};
+ghost use Rattle.mtserve.specs.CommandLine.{flag_rule, text_rule, with_socket_rules, with_access_rules, with_limit_rules, with_flag_rules, mtserve_app, AreFound, AreSaid};
 
 use clap::{Arg, ArgAction, ArgMatches, Command, Error};
 use mt_command_line::numbers::{number, number_option};
@@ -10,7 +10,7 @@ use mt_command_line::opening::{columns, index_options, log_capacity, log_retenti
 use mt_index::options::Options;
 use std::alloc::{AllocError, Global};
 
-const ABOUT: &str = "Serves an empty index on 127.0.0.1, over TCP";
+const ABOUT: &str = "Serves an empty index over TCP";
 
 const MORE: &str = "\
 Each connection is a session: frames of queries come in, and each is answered by a frame (docs/WIRE.md). Each worker is
@@ -25,7 +25,7 @@ pub const WITHOUT_END: u64 = 65_536;
 
 /// What is to be served, and how.
 #[derive(Clone, Copy, Debug)]
-pub struct Settings {
+pub struct Settings<'a> {
     pub options: Options,
     /// The port to listen at; 0 is any.
     pub port: u64,
@@ -37,6 +37,14 @@ pub struct Settings {
     pub forever: bool,
     /// The most connections that are open at once.
     pub connections: u64,
+    /// The address to listen at, if it isn't a port of 127.0.0.1.
+    pub listen: Option<&'a str>,
+    /// The file of secrets, if there are to be some.
+    pub token_file: Option<&'a str>,
+    /// The most seconds until a client has said hello, on a server with secrets; 0 is no limit.
+    pub hello: u64,
+    /// Whether all may do all wherever the server listens.
+    pub is_open: bool,
     /// The most seconds between two frames of a connection; 0 is no limit.
     pub idle: u64,
     /// The most seconds for which a frame may have begun and not ended; 0 is no limit.
@@ -56,6 +64,34 @@ fn flag<'a>(alloc: Global, name: &'a str, help: &'a str) -> Arg<'a>
         .long(name)
         .action(ArgAction::SetTrue)
         .help(help)
+}
+
+// An option with a text.
+fn text_option<'a>(alloc: Global, name: &'a str, value: &'a str, help: &'a str) -> Arg<'a>
+    ensures rule { rule_of result ≡ text_rule name.entry.now }
+    ensures local { result.global ≡ false }
+{
+    Arg::new(alloc, name)
+        .long(name)
+        .value_name(value)
+        .help(help)
+}
+
+// The options of who reaches the server, and may ask what.
+fn access_options<'a>(command: Command<'a>, alloc: Global) -> Result<Command<'a>, AllocError>
+    ensures { IfOk result (λ r. app_of r ≡ with_access_rules (app_of command.entry)) }
+{
+    let listen = "Where to listen, as 127.0.0.1:7070 [default: --port of 127.0.0.1]";
+    let tokens =
+        "A file of secrets, in lines of a role (read, write or all) and a secret [default: all may do all]";
+    let hello =
+        "The most seconds until a client has said hello, if there are secrets, up to 86400; 0 is no limit [default: 10]";
+    let open = "Lets all do all, also where --listen is no address of this machine alone";
+    command
+        .arg(text_option(alloc, "listen", "ADDRESS", listen))?
+        .arg(text_option(alloc, "token-file", "FILE", tokens))?
+        .arg(number_option(alloc, "hello-timeout", 0, 86400, hello))?
+        .arg(flag(alloc, "open", open))
 }
 
 // The options of the server: its port, its workers, and how many connections it serves.
@@ -115,12 +151,13 @@ fn command<'a>(alloc: Global) -> Result<Command<'a>, AllocError>
     ensures { IfOk result (λ command. app_of command ≡ mtserve_app) }
 {
     let of_sockets = socket_options(named(alloc), alloc)?;
-    let limited = limit_options(of_sockets, alloc)?;
+    let of_access = access_options(of_sockets, alloc)?;
+    let limited = limit_options(of_access, alloc)?;
     let flagged = flag_options(limited, alloc)?;
     index_options(flagged, alloc)
 }
 
-fn settings_of(matches: &ArgMatches<'_>) -> Settings
+fn settings_of<'a>(matches: &ArgMatches<'a>) -> Settings<'a>
     ensures { AreFound matches.now result }
 {
     Settings {
@@ -135,6 +172,10 @@ fn settings_of(matches: &ArgMatches<'_>) -> Settings
         sessions: number(matches, "sessions", WITHOUT_END),
         forever: matches.get_flag("forever"),
         connections: number(matches, "connections", 10_000),
+        listen: matches.get_str("listen"),
+        token_file: matches.get_str("token-file"),
+        hello: number(matches, "hello-timeout", 10),
+        is_open: matches.get_flag("open"),
         idle: number(matches, "idle-timeout", 0),
         frame: number(matches, "frame-timeout", 30),
         write: number(matches, "write-timeout", 30),
@@ -143,7 +184,7 @@ fn settings_of(matches: &ArgMatches<'_>) -> Settings
 }
 
 /// Returns what the words of the command line say, or as an error the text to print instead of a run.
-pub fn settings_given(alloc: Global, words: &[String]) -> Result<Settings, Error>
+pub fn settings_given<'a>(alloc: Global, words: &'a [String]) -> Result<Settings<'a>, Error>
     ensures { IfOk result (λ settings. AreSaid (map string_bytes words.now) settings) }
 {
     let matches = command(alloc)?.try_get_matches_from(words)?;

@@ -1,6 +1,9 @@
 //! An index that is opened, served and closed.
 
+ghost use Rattle.std.specs.Prelude.{◌≡◌, ◌||◌};
+
 use crate::command_line::{Settings, WITHOUT_END};
+use crate::tokens::{TokenError, read_tokens};
 use mt_loop::limits::Limits;
 use mt_loop::serving::{Plan, serve};
 use mt_shared::map::SharedMap;
@@ -8,6 +11,8 @@ use mt_shared::settling::Totals;
 use mt_types::refusal::Refusal;
 use std::alloc::Global;
 use std::net::{Ipv4Addr, Net, SocketAddr};
+use std::random::RandomSource;
+use std::rt::Files;
 use std::sync::Wait;
 use std::thread::Threads;
 use std::time::Clock;
@@ -23,13 +28,22 @@ pub enum ServeError {
     /// Listening, a thread, a wait or the first line failed.
     #[error("{0}")]
     Io(#[from] io::Error),
+    /// The secrets couldn't be read.
+    #[error("{0}")]
+    Tokens(#[from] TokenError),
+    /// `--listen` says no address.
+    #[error("--listen takes an address and a port, as 127.0.0.1:7070")]
+    Address,
+    /// All could do all.
+    #[error("an address that others reach wants --token-file, or --open")]
+    Open,
     /// The index wasn't opened, or its end didn't add up.
     #[error("{0}")]
     Index(#[from] Refusal),
 }
 
 // How many sessions there are to be, if they are counted: some for each worker that was asked for.
-fn session_count(settings: Settings) -> Option<u64> {
+fn session_count(settings: Settings<'_>) -> Option<u64> {
     if settings.forever || settings.sessions >= WITHOUT_END {
         None
     } else {
@@ -38,7 +52,7 @@ fn session_count(settings: Settings) -> Option<u64> {
 }
 
 // How many workers there are: as many as processors if no number is given, and sessions aren't counted.
-fn worker_count<R: Threads>(rt: &R, settings: Settings) -> u64 {
+fn worker_count<R: Threads>(rt: &R, settings: Settings<'_>) -> u64 {
     if settings.workers > 0 {
         return settings.workers;
     }
@@ -51,10 +65,11 @@ fn worker_count<R: Threads>(rt: &R, settings: Settings) -> u64 {
     }
 }
 
-fn plan_of(settings: Settings) -> Plan {
+fn plan_of(settings: Settings<'_>) -> Plan {
     Plan {
         limits: Limits {
             connections: settings.connections,
+            hello: settings.hello,
             idle: settings.idle,
             frame: settings.frame,
             write: settings.write,
@@ -64,19 +79,55 @@ fn plan_of(settings: Settings) -> Plan {
     }
 }
 
-/// Opens an empty index, and serves it on 127.0.0.1 as the settings ask. Returns how many events and commits were made.
+// Where to listen.
+fn address_of(settings: Settings<'_>) -> Result<SocketAddr, ServeError> {
+    match settings.listen {
+        Some(text) => text.parse().map_err(|_| ServeError::Address),
+        None => {
+            let port = settings.port.min(65535) as u16;
+            Ok(SocketAddr::from((Ipv4Addr::LOCALHOST, port)))
+        }
+    }
+}
+
+// Whether a server may listen: at an address that others reach only if it has secrets, or all are to do all.
+fn may_listen(is_loopback: bool, has_secrets: bool, is_open: bool) -> bool
+    ensures { result ≡ (is_loopback || has_secrets || is_open) }
+{
+    is_loopback || is_open || has_secrets
+}
+
+/// Opens an empty index, and serves it as the settings ask. Returns how many events and commits were made.
 ///
 /// # Errors
 ///
-/// If listening, a thread, a wait or the first line failed; if the index can't be opened with these options; or if the
+/// If the secrets couldn't be read; if the address is none, or all could do all from elsewhere; if listening, a thread, a wait or the first line failed; if the index can't be opened with these options; or if the
 /// counts at its end don't add up.
-pub fn serve_all<R>(rt: &R, alloc: Global, settings: Settings) -> Result<Totals, ServeError>
+pub fn serve_all<R>(rt: &R, alloc: Global, settings: Settings<'_>) -> Result<Totals, ServeError>
 where
-    R: Net + Threads + Wait + Clock + Sync + Eprint,
+    R: Net + Threads + Wait + Clock + Files + RandomSource + AllocGlobal + Sync + Eprint,
 {
+    let tokens = match settings.token_file {
+        Some(path) => read_tokens(rt, alloc, path)?,
+        None => Vec::new(alloc),
+    };
+    let address = address_of(settings)?;
+    if !may_listen(
+        address.ip().is_loopback(),
+        !tokens.is_empty(),
+        settings.is_open,
+    ) {
+        return Err(ServeError::Open);
+    }
     let (index, passes) = SharedMap::start(alloc, settings.options, worker_count(rt, settings))?;
-    let port = settings.port.min(65535) as u16;
-    let address = SocketAddr::from((Ipv4Addr::LOCALHOST, port));
-    let passes = serve(rt, alloc, &index, passes, address, plan_of(settings))?;
+    let passes = serve(
+        rt,
+        alloc,
+        &index,
+        passes,
+        address,
+        plan_of(settings),
+        &tokens,
+    )?;
     Ok(index.close(passes)?)
 }

@@ -1,10 +1,10 @@
 use Rattle.std.proofs.Common.{sym, subst}
 use Rattle.mt_wire.specs.declared.query.Query.{Query}
-use Rattle.mt_wire.specs.declared.query.Query.TheVariants.{ViewDrop, ViewRead}
+use Rattle.mt_wire.specs.declared.query.Query.TheVariants.{ViewDrop, ViewRead, Server}
 use Rattle.mt_wire.specs.declared.response.Response.{Response}
 use Rattle.mt_wire.specs.Limited.{ResponseIsLimited}
 use Rattle.mt_serve.specs.Asking.{Answers}
-use Rattle.mt_serve.proofs.ServingLemmas.{drop_answers, drop_limited, page_answers, page_limited}
+use Rattle.mt_serve.proofs.ServingLemmas.{drop_answers, drop_limited, page_answers, page_limited, server_answers}
 use Rattle.mt_serve.proofs.asking.answer.Goals as goal
 
 pub returns-in-ViewRead-clause-answers : goal.returns-in-ViewRead-clause-answers
@@ -24,3 +24,9 @@ returns-in-ViewRead-clause-limited g c = subst (λ (r : Response). ResponseIsLim
 
 pub returns-in-ViewDrop-clause-limited : goal.returns-in-ViewDrop-clause-limited
 returns-in-ViewDrop-clause-limited g c = subst (λ (r : Response). ResponseIsLimited r) (sym c.drop_response.ensures) (drop_limited c.view_drop.result)
+
+pub returns-clause-answers : goal.returns-clause-answers
+returns-clause-answers g c =
+    subst (λ (query : Query). Answers g.S.Shared.does g.S.Shared.shows g.S.Shared.pages g.S.Shared.looks c.args.shared.now c.args.pass.now query c.not_alone.result c.args.shared.now c.args.pass.now) (sym c.in-Server.is)
+    (subst (λ (response : Response). Answers g.S.Shared.does g.S.Shared.shows g.S.Shared.pages g.S.Shared.looks c.args.shared.now c.args.pass.now (Server c.in-Server.field-0) response c.args.shared.now c.args.pass.now) (sym c.not_alone.ensures)
+    (server_answers g.S.Shared.does g.S.Shared.shows g.S.Shared.pages g.S.Shared.looks c.args.shared.now c.args.pass.now c.in-Server.field-0))

@@ -1,6 +1,6 @@
 use Rattle.std.proofs.Common.{Err, ap, arith}
 use Rattle.mt_wire.specs.Spelling.{framed}
-use Rattle.mt_serve.proofs.answerer.encode.Goals as goal
+use Rattle.mt_talk.proofs.replying.encode.Goals as goal
 
 pub encode_replies_into-requires : goal.encode_replies_into-requires
 encode_replies_into-requires c = (c.limited_replies_fit.ensures (framed c.args.version c.args.responses.now) c.requires).0

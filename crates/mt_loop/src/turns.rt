@@ -1,0 +1,165 @@
+//! The frames of a round: they are answered one after another, and then retired nodes are freed.
+
+use crate::connection::{Connection, Front};
+use crate::gauge::Gauge;
+use crate::weight::TURN;
+use mt_serve::answerer::{Answerer, Keeping};
+use mt_shared::driving::{Hold, Shared};
+use mt_shared::pass::Pass;
+use mt_talk::server::Keeper;
+use mt_talk::serving::Server;
+use mt_talk::tokens::Token;
+use mt_types::event::Event;
+use mt_wire::server::Role;
+use slab::Slab;
+use std::alloc::Global;
+use std::sync::Wait;
+use std::time::Clock;
+
+// How many queries are answered in one holding of the lock, if a frame of them doesn't have more.
+const HELD: u64 = 512;
+
+// After how many queries retired nodes are freed.
+const SWEEP: u64 = 4096;
+
+/// What answers the frames of a worker's connections.
+#[derive(Drop)]
+pub struct Turns {
+    server: Server<Answerer>,
+    // The pass by which all is done.
+    pass: Pass,
+    alloc: Global,
+    // How many queries were answered since retired nodes were freed.
+    queries: u64,
+    /// Whether retired nodes are to be freed for another reason.
+    pub is_due: bool,
+}
+
+impl Turns {
+    /// Returns what answers frames by this pass, for clients with these secrets.
+    pub fn new(alloc: Global, pass: Pass, tokens: Vec<Token>) -> Turns {
+        let answerer = Answerer::new(alloc, Keeping::Frame);
+        Turns {
+            server: Server::new(alloc, answerer, Keeper::new(alloc, tokens)),
+            pass,
+            alloc,
+            queries: 0,
+            is_due: false,
+        }
+    }
+
+    /// Returns what a client may do that has said no hello.
+    pub fn first_role(&self) -> Option<Role> {
+        self.server.keeper.first_role()
+    }
+
+    /// Returns whether a client has asked that the server ends, and then whether at once.
+    pub fn take_stop(&mut self) -> Option<bool> {
+        self.server.keeper.stop.take()
+    }
+
+    /// Returns the pass.
+    pub fn into_pass(self) -> Pass {
+        self.pass
+    }
+
+    /// Notes that a second has passed: retired nodes are to be freed if queries were answered.
+    pub fn look(&mut self) {
+        self.is_due = self.queries > 0;
+    }
+
+    // Answers the frames of one kind that `find_all` has found, in holdings of the lock that end after enough queries.
+    fn answer_those<R: Wait + Clock, S: Shared>(
+        &mut self,
+        gauge: &Gauge<'_, R>,
+        shared: &mut S,
+        connections: &mut Slab<Connection>,
+        keys: &[usize],
+        front: Front,
+        keeping: Keeping,
+    ) {
+        self.server.inner.keeping = keeping;
+        let mut held = 0u64;
+        for key in keys {
+            let Some(connection) = connections.get_mut(*key) else {
+                continue;
+            };
+            if connection.front != front {
+                continue;
+            }
+            if connection.asks_server {
+                shared.hold(Hold::Nothing);
+                self.server.keeper.facts = gauge.facts(self.alloc, self.pass.seen());
+            }
+            self.server.inner.count = 0;
+            connection.answer(&mut self.server, shared, &mut self.pass);
+            let count = self.server.inner.count;
+            gauge.tally.answer(count);
+            held = held.saturating_add(count);
+            self.queries = self.queries.saturating_add(count);
+            if held >= HELD {
+                shared.hold(Hold::Nothing);
+                held = 0;
+            }
+        }
+        shared.hold(Hold::Nothing);
+    }
+
+    /// Answers frames of the connections of this round, one of each after the other, until none is to be answered.
+    pub fn answer_all<R: Wait + Clock, S: Shared>(
+        &mut self,
+        gauge: &Gauge<'_, R>,
+        shared: &mut S,
+        connections: &mut Slab<Connection>,
+        keys: &[usize],
+    ) {
+        for _ in 0..=TURN {
+            let (reads, others) = find_all(connections, keys);
+            if reads == 0 && others == 0 {
+                break;
+            }
+            if reads > 0 {
+                let keeping = keeping_for(reads, Keeping::Reads);
+                self.answer_those(gauge, shared, connections, keys, Front::Reads, keeping);
+            }
+            if others > 0 {
+                let keeping = keeping_for(others, Keeping::Changes);
+                self.answer_those(gauge, shared, connections, keys, Front::Others, keeping);
+            }
+        }
+    }
+
+    /// After enough queries, after the end of a connection, and once a second after any: raises the epoch, and frees
+    /// retired nodes.
+    pub fn sweep<S: Shared>(&mut self, shared: &mut S) {
+        if self.is_due || self.queries >= SWEEP {
+            self.is_due = false;
+            self.queries = 0;
+            let _epoch = shared.event(self.alloc, &mut self.pass, &Event::Advance);
+            let _freed = shared.event(self.alloc, &mut self.pass, &Event::Collect);
+        }
+    }
+}
+
+// What the lock is kept for while so many frames of one kind are answered.
+fn keeping_for(frames: usize, keeping: Keeping) -> Keeping {
+    if frames == 1 { Keeping::Frame } else { keeping }
+}
+
+// Finds the next frame of each of these connections. Returns how many have gets and ranges alone, and how many others
+// there are.
+fn find_all(connections: &mut Slab<Connection>, keys: &[usize]) -> (usize, usize) {
+    let mut reads = 0usize;
+    let mut others = 0usize;
+    for key in keys {
+        if let Some(connection) = connections.get_mut(*key) {
+            connection.find();
+            match connection.front {
+                Front::Nothing => {}
+                Front::Reads => reads = reads.saturating_add(1),
+                Front::Others => others = others.saturating_add(1),
+            }
+        }
+    }
+    (reads, others)
+}

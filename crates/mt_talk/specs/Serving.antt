@@ -1,0 +1,122 @@
+-- WHAT A SERVER ANSWERS BY ITSELF, around what answers the queries of its index: who may ask what, and its own queries.
+use Rattle.std.specs.Prelude.{◌≡◌, ℕ, Bool, true, false, MatchBool, MatchOption, List, [], ◌∷◌, map, Option, Some, None, nat_lt, not, if◌then◌else◌}
+use Rattle.std.specs.List.{list_any}
+use Rattle.sha2.specs.Sha256.{sha256}
+use Rattle.mt_types.specs.declared.event.Request.TheVariants.{Get, Range}
+use Rattle.mt_wire.specs.declared.query.Query.{Query}
+use Rattle.mt_wire.specs.declared.query.Query.TheVariants.{Call, ViewRead, Server}
+use Rattle.mt_wire.specs.declared.response.Response.{Response}
+use Rattle.mt_wire.specs.declared.response.Response.TheVariants.{Server as Served}
+use Rattle.mt_wire.specs.declared.server.Role.{Role}
+use Rattle.mt_wire.specs.declared.server.Role.TheVariants.{Read, Write, All}
+use Rattle.mt_wire.specs.declared.server.ServerRefusal.TheVariants.{NotAllowed}
+use Rattle.mt_wire.specs.declared.server.Count.{Count}
+use Rattle.mt_wire.specs.declared.server.ServerQuery.{ServerQuery}
+use Rattle.mt_wire.specs.declared.server.ServerQuery.TheVariants.{Hello, Ping, Info, Stop}
+use Rattle.mt_wire.specs.declared.server.ServerResponse.TheVariants.{Refused as OfServer, Hello as Greeting, Ping as Ponged, Info as Counted, Stopped}
+use Rattle.mt_talk.specs.declared.facts.Facts.{Facts}
+use Rattle.mt_talk.specs.declared.server.Keeper.{Keeper}
+use Rattle.mt_talk.specs.Tokens.{Admits}
+
+-- ---- who may ask what
+
+-- gets, ranges, pages of views, and what the server counts
+abbrev pub reads : Query → Bool
+reads (Call (Get key columns)) = true
+reads (Call (Range start limit columns)) = true
+reads (ViewRead view floor start limit) = true
+reads (Server (Ping number)) = true
+reads (Server Info) = true
+reads _ = false
+
+-- all but the end of the server
+abbrev pub writes : Query → Bool
+writes (Server (Stop is_at_once)) = false
+writes _ = true
+
+abbrev pub may : Role → Query → Bool
+may Read query = reads query
+may Write query = writes query
+may All query = true
+
+abbrev pub may_all : Role → List Query → Bool
+may_all role queries = not (list_any (λ query. not (may role query)) queries)
+
+-- ---- what is answered
+
+-- each query is refused, whatever it is
+abbrev pub refusals : List Query → List Response
+refusals queries = map (λ (query : Query). Served (OfServer NotAllowed)) queries
+
+-- the version up to which both know the wire
+abbrev pub common_version : ℕ → ℕ
+common_version newest = if nat_lt newest 3 then newest else 3
+
+abbrev pub greeting : Facts → ℕ → Role → Response
+greeting facts newest role =
+    Served (Greeting (common_version newest) role facts.columns facts.run facts.commits facts.logged)
+
+-- what is counted, in the order in which it is named
+abbrev pub numbers : Facts → List ℕ
+numbers facts =
+    facts.commits ∷ facts.nodes ∷ facts.logged ∷ facts.connections ∷ facts.accepted ∷ facts.turned_away
+    ∷ facts.queries ∷ facts.faults ∷ facts.milliseconds ∷ []
+
+-- the server's answer to one of its queries (a hello doesn't come here)
+abbrev pub IsTold : Facts → ServerQuery → Response → Type 0
+IsTold facts (Ping number) response = response ≡ Served (Ponged number facts.commits)
+IsTold facts Info response =
+    (counts : List Count) × (response ≡ Served (Counted counts)) × (map (λ (count : Count). count.number) counts ≡ numbers facts)
+IsTold facts (Stop is_at_once) response = response ≡ Served (Stopped facts.commits)
+IsTold facts (Hello newest secret name) response = response ≡ Served (OfServer NotAllowed)
+
+-- the query of the server that is alone in its frame
+abbrev pub alone : List Query → Option ServerQuery
+alone (Server query ∷ []) = Some query
+alone _ = None
+
+-- what is kept of a stop
+abbrev pub stop_of : ServerQuery → Option Bool → Option Bool
+stop_of (Stop is_at_once) stop = Some is_at_once
+stop_of _ stop = stop
+
+-- only these may differ: the role, and the stop that was asked
+pub record Becomes (k : Keeper) (role : Option Role) (stop : Option Bool) (l : Keeper) : Type 0 where
+  pub role_is : l.role ≡ role
+  pub stop_is : l.stop ≡ stop
+  pub facts : l.facts ≡ k.facts
+  pub tokens : l.tokens.items ≡ k.tokens.items
+
+-- each query is refused, and nothing changes
+abbrev pub TurnsAway : Keeper → List Query → Option (List Response) → Keeper → Type 0
+TurnsAway k queries answered l = (answered ≡ Some (refusals queries)) × Becomes k k.role k.stop l
+
+-- a hello: its secret gives a role, or it is refused
+abbrev pub Greets : Keeper → List Query → ℕ → List ℕ → Option (List Response) → Keeper → Type 0
+Greets k queries newest secret answered l =
+    (found : Option Role) × Admits k.tokens.items (sha256 secret) found
+    × MatchOption found (TurnsAway k queries answered l)
+    (λ role. (answered ≡ Some (greeting k.facts newest role ∷ [])) × Becomes k (Some role) k.stop l)
+
+-- queries that the client may ask: one of the server is answered, others are left to what is inside
+abbrev pub Allows : Keeper → Option ServerQuery → Option (List Response) → Keeper → Type 0
+Allows k None answered l = (answered ≡ None) × Becomes k k.role k.stop l
+Allows k (Some query) answered l =
+    (response : Response) × IsTold k.facts query response × (answered ≡ Some (response ∷ []))
+    × Becomes k k.role (stop_of query k.stop) l
+
+abbrev pub Within : Keeper → List Query → Option ServerQuery → Option (List Response) → Keeper → Type 0
+Within k queries query answered l =
+    MatchOption k.role (TurnsAway k queries answered l) (λ role.
+    MatchBool (may_all role queries) (Allows k query answered l) (TurnsAway k queries answered l))
+
+abbrev pub KeepsAlone : Keeper → List Query → Option ServerQuery → Option (List Response) → Keeper → Type 0
+KeepsAlone k queries (Some (Hello newest secret name)) answered l = Greets k queries newest secret answered l
+KeepsAlone k queries (Some (Ping number)) answered l = Within k queries (Some (Ping number)) answered l
+KeepsAlone k queries (Some Info) answered l = Within k queries (Some Info) answered l
+KeepsAlone k queries (Some (Stop is_at_once)) answered l = Within k queries (Some (Stop is_at_once)) answered l
+KeepsAlone k queries None answered l = Within k queries None answered l
+
+-- A FRAME OF QUERIES COMES TO THE SERVER: it is answered so, or left to what is inside (None).
+abbrev pub Keeps : Keeper → List Query → Option (List Response) → Keeper → Type 0
+Keeps k queries answered l = KeepsAlone k queries (alone queries) answered l

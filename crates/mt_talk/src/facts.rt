@@ -1,0 +1,66 @@
+//! What a server knows of itself.
+
+ghost use Rattle.std.specs.Prelude.{◌≡◌, ◌≤◌, IfOk, map, length};
+ghost use Rattle.std.specs.List.{AllByRecursion};
+ghost use Rattle.mt_wire.specs.declared.server.Count.{Count};
+ghost use Rattle.mt_talk.specs.Serving.{numbers};
+
+use bytes::Bytes;
+use mt_wire::server::Count;
+use std::alloc::{AllocError, Global};
+
+/// What a server knows of itself and of its index, at one time.
+#[derive(Clone, Copy, Debug, Default, PartialEq, Eq)]
+pub struct Facts {
+    /// The name of this run of the server.
+    pub run: u128,
+    /// How many columns a row has.
+    pub columns: u8,
+    pub commits: u64,
+    /// From which number of commits on the log has all.
+    pub logged: u64,
+    /// How many numbers of nodes are in use.
+    pub nodes: u64,
+    /// How many connections are open, and how many were accepted and turned away since the start.
+    pub connections: u64,
+    pub accepted: u64,
+    pub turned_away: u64,
+    /// How many queries were answered, and how many sessions were broken off.
+    pub queries: u64,
+    pub faults: u64,
+    /// The time since the start.
+    pub milliseconds: u64,
+}
+
+// A number under its name.
+fn count(name: &'static [u8], number: u64) -> Count
+    requires { length name.now ≤ 64 }
+    ensures number { result.number ≡ number }
+    ensures name { length result.name ≤ 64 }
+{
+    Count {
+        name: Bytes::from_static(name),
+        number,
+    }
+}
+
+impl Facts {
+    /// Returns what is counted, under the names by which a client asks for it.
+    pub fn counts(&self, alloc: Global) -> Result<Vec<Count>, AllocError>
+        ensures numbers { IfOk result (λ counts. map (λ (count : Count). count.number) counts.items ≡ numbers self.now) }
+        ensures few { IfOk result (λ counts. length counts.items ≤ 64) }
+        ensures named { IfOk result (λ counts. AllByRecursion (λ count. length count.name ≤ 64) counts.items) }
+    {
+        Ok(vec![in alloc;
+            count(b"commits", self.commits),
+            count(b"nodes", self.nodes),
+            count(b"feed_from", self.logged),
+            count(b"connections", self.connections),
+            count(b"connections_all", self.accepted),
+            count(b"turned_away", self.turned_away),
+            count(b"queries", self.queries),
+            count(b"faults", self.faults),
+            count(b"uptime_ms", self.milliseconds),
+        ]?)
+    }
+}

@@ -1,0 +1,111 @@
+//! What a client asks of the server itself, and what it answers. In version 3.
+
+ghost use Rattle.std.specs.Prelude.{◌≡◌};
+ghost use Rattle.mt_wire.specs.ServerNumbers.{role_number, server_refusal_number};
+
+use bytes::Bytes;
+use mt_types::items::Items;
+
+/// A query of the server, and not of its index.
+#[derive(Debug, PartialEq, Eq, Drop)]
+pub enum ServerQuery {
+    /// Says who asks. On a server with secrets it is the first query of a connection.
+    Hello {
+        /// The greatest version of the wire that the client knows.
+        newest: u8,
+        secret: Bytes,
+        name: Bytes,
+    },
+    /// Is answered by the same number.
+    Ping(u64),
+    /// Asks what the server counts.
+    Info,
+    /// Ends the server.
+    Stop {
+        /// Whether frames that came aren't answered first.
+        is_at_once: bool,
+    },
+}
+
+/// What a client may do.
+#[derive(Clone, Copy, Debug, PartialEq, Eq)]
+pub enum Role {
+    /// Gets, ranges and pages of views.
+    Read,
+    /// Also changes of rows and of views.
+    Write,
+    /// Also the end of the server.
+    All,
+}
+
+impl Role {
+    /// Returns the byte by which the role is spelled.
+    pub fn number(self) -> u8
+        ensures { result ≡ role_number self }
+    {
+        match self {
+            Role::Read => 1,
+            Role::Write => 2,
+            Role::All => 3,
+        }
+    }
+}
+
+/// A number that the server counts, under its name.
+#[derive(Debug, PartialEq, Eq, Drop)]
+pub struct Count {
+    pub name: Bytes,
+    pub number: u64,
+}
+
+/// Why a server refuses a query.
+#[derive(Clone, Copy, Debug, PartialEq, Eq)]
+pub enum ServerRefusal {
+    /// The client may not ask it.
+    NotAllowed,
+    /// A query of the server isn't alone in its frame.
+    TooMuchAtOnce,
+}
+
+impl ServerRefusal {
+    /// Returns the number by which the refusal is spelled.
+    pub fn number(self) -> u8
+        ensures { result ≡ server_refusal_number self }
+    {
+        match self {
+            ServerRefusal::NotAllowed => 24,
+            ServerRefusal::TooMuchAtOnce => 25,
+        }
+    }
+}
+
+/// What a server answers.
+#[derive(Debug, PartialEq, Eq, Drop)]
+pub enum ServerResponse {
+    /// The query was refused, and nothing was done for it.
+    Refused(ServerRefusal),
+    /// The client may go on, in this role.
+    Hello {
+        /// The version of the wire up to which both know it.
+        version: u8,
+        role: Role,
+        /// How many columns a row has.
+        columns: u8,
+        /// The name of this run of the server.
+        run: u128,
+        commits: u64,
+        /// From which number of commits on the log has all.
+        logged: u64,
+    },
+    /// The number of a ping.
+    Ping {
+        number: u64,
+        commits: u64,
+    },
+    /// What the server counts.
+    Info(Items<Count>),
+    /// The server ends.
+    Stopped {
+        commits: u64,
+    },
+}
