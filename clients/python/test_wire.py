@@ -11,7 +11,7 @@ from rowanspan import (MAX_KEY_BYTES, AnswerKind, AnyRow, AtLeast, BadColumn, Ba
                        FeedFull, Get, GetRange, OtherVersion, Page, Prefix, Put, PutIf, Query, Range, Refused, Remove,
                        Reply, Row, Tidied, Tidy, TooLong, ViewDrop, ViewRead, frame_version, read_replies,
                        request_frame)
-from stand_in import PlainIndex, StandIn
+from stand_in import Options, PlainIndex, StandIn
 from stand_in_wire import read_queries, reply_frame, spelled_done, spelled_page, spelled_pairs
 from wire_page import worked_bytes
 
@@ -105,7 +105,8 @@ class WorkedBytesTest(unittest.TestCase):
 
     def test_bad_frames(self) -> None:
         for bad in worked_bytes().bad_frames:
-            with StandIn() as server, socket.create_connection(("127.0.0.1", server.port), SECONDS) as connection:
+            options = Options(newest=worked_bytes().newest)
+            with StandIn(options) as server, socket.create_connection(("127.0.0.1", server.port), SECONDS) as connection:
                 connection.sendall(bad.sent)
                 self.assertEqual(connection.recv(1), b"")
                 self.assertEqual(server.faults, [bad.fault])
