@@ -11,7 +11,7 @@ from typing import Callable, Iterator, List, Sequence, Tuple
 
 from ..client import Client
 from ..core import BadReply, ConnectionLost, RowanspanError, TooLong, ViewNo, ViewSpec
-from ..shell import port, seconds
+from ..options import port, seconds
 from ..text import HEX, LONG, TEXT, BadLine, Notation, read_number, read_query
 from ..wire import Build
 from .guard import ADDRESS, Tokens
