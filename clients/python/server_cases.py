@@ -105,7 +105,7 @@ def nothing_before_hello(start: Start) -> None:
                     try:
                         (outcome,) = asked(connection, version, [query])
                         want_refused(f"{query} in version {version}", outcome, NotAllowed)
-                    except ConnectionLost:
+                    except ConnectionError:
                         # (a server may also end the connection)
                         pass
         with client(port, token=OWNER) as index:

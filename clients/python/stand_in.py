@@ -22,6 +22,8 @@ from stand_in_wire import (WRITE_FAILED, SessionFault, next_body, read_queries, 
 
 MAX_COLUMN_BYTES = 64
 MAX_VIEWS = 64
+# how many connections it serves at once, if it isn't told how many there are
+CONNECTIONS = 32
 
 
 # ---- the index
@@ -351,7 +353,7 @@ def parser() -> argparse.ArgumentParser:
     made = argparse.ArgumentParser(description="A stand-in of the server, for tests of its tests.")
     made.add_argument("--port", type=bounded(0, 65_535), default=0)
     made.add_argument("--workers", type=bounded(1, 16), default=1)
-    made.add_argument("--sessions", type=bounded(0, 65_535), default=1)
+    made.add_argument("--sessions", type=bounded(0, 65_535))
     made.add_argument("--forever", action="store_true")
     made.add_argument("--columns", type=bounded(1, 16), default=1)
     made.add_argument("--token-file", type=read_tokens, default={})
@@ -368,7 +370,9 @@ def main() -> int:
     given = parser().parse_args()
     sessions = None if given.forever else given.sessions
     try:
-        server = StandIn(Options(given.port, given.workers, sessions, given.columns, given.token_file), tell)
+        # (a worker has one connection at a time here)
+        workers = given.workers if sessions is not None else max(given.workers, CONNECTIONS)
+        server = StandIn(Options(given.port, workers, sessions, given.columns, given.token_file), tell)
     except OSError as fault:
         tell(f"stand_in: {fault}")
         return 3

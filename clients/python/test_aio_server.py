@@ -8,8 +8,8 @@ import time
 import unittest
 from typing import Any, Callable, Coroutine
 
-from rowanspan import (AnyRow, Closed, ConnectionLost, Get, HelloUnanswered, NoSuchView, NotAllowed, Ping, Prefix, Range,
-                       Role, StandingView, TooLong, WrongIndex, aio)
+from rowanspan import (AnyRow, Closed, ConnectionLost, Get, HelloUnanswered, NoSuchView, NotAllowed, Ping, Prefix,
+                       Range, Role, StandingView, TooLong, WrongIndex, aio)
 from server_cases import OWNER, READER, SECONDS, TOKENS
 from stand_in import Options, StandIn
 from test_aio import Silent

@@ -137,8 +137,9 @@ class CommandTest(unittest.TestCase):
         server = self.stand_in(newest=2)
         port = str(server.port)
         self.assertEqual(run("ping", "-p", port), (3, "", "rowan: the server ended the connection\n"))
+        why = "the server ended the connection before it answered hello: is the token right?"
         self.assertEqual(run("-p", port, "--token-file", self.token_file(OWNER), "get", "61", "all"),
-                         (3, "", "rowan: the server ended the connection before it answered hello: is the token right?\n"))
+                         (3, "", f"rowan: {why}\n"))
         self.assertEqual(run("-p", port, "get", "61", "all"), (0, "done 0 0 absent\n", ""))
 
     def test_files_without_a_token(self) -> None:
