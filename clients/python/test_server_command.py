@@ -1,4 +1,4 @@
-"""Tests of `rowan info`, `views`, `ping` and `stop`, and of the options of a connection. test_rowanspan.py runs them."""
+"""Tests of `rowan info`, `views`, `ping` and `stop`, and of --token-file. test_rowanspan.py runs them."""
 from __future__ import annotations
 
 import os
@@ -11,8 +11,10 @@ import time
 import unittest
 from pathlib import Path
 from typing import Any, List, Tuple
+from unittest import mock
 
-from rowanspan import Build, Equals, Prefix, Put, Range, Role
+from rowanspan import Build, Equals, Prefix, Put, Range, Role, shell
+from rowanspan.mirror import command as mirror
 from server_cases import OWNER, READER, SECONDS, TOKENS, WRITER
 from stand_in import Options, StandIn
 
@@ -173,8 +175,42 @@ class CommandTest(unittest.TestCase):
                                   stderr=subprocess.PIPE, timeout=SECONDS, check=False)
         self.assertEqual((done.returncode, done.stderr.count(b"\n")), (3, 1))
 
+    def test_the_board(self) -> None:
+        server = self.stand_in(tokens=TOKENS)
+        given = ["board", "-p", str(server.port), "--http", "0"]
+        for words in (["--token-file", self.token_file(b"wrong")], []):
+            self.assertEqual(run(*given, *words), (3, "", "rowan board: the server doesn't admit the board: "
+                                                          + NOT_ALLOWED.partition(": ")[2]))
+        words = [sys.executable, str(SHELL), *given, "--token-file", self.token_file(OWNER), "--build", "prefix 61 any"]
+        with subprocess.Popen(words, stdout=subprocess.PIPE, text=True) as board:
+            assert board.stdout is not None
+            self.assertRegex(board.stdout.readline(), "^board at http://127.0.0.1:[0-9]+/\n$")
+            self.assertEqual([view.spec for view in server.index.listing().views], [Prefix(b"a")])
+            board.terminate()
+            self.assertEqual(board.wait(SECONDS), 143)
+        self.assertEqual(server.index.listing().views, [])
+
+    def test_the_mirror(self) -> None:
+        server = self.stand_in(tokens=TOKENS)
+        given = ["mirror", "etcd", "-p", str(server.port), "--name", "a", "--url", "http://127.0.0.1:1",
+                 "--prefix", "a"]
+        roles: List[Role] = []
+
+        def follow(source: Any, target: Any, *_: object) -> None:
+            roles.append(target._index.hello.role)
+            raise KeyboardInterrupt
+
+        source = mock.Mock(identity="none", prefix=b"a")
+        with mock.patch.multiple(mirror, opened_etcd=lambda options: source, follow=follow):
+            self.assertEqual(shell.main([*given, "--token-file", self.token_file(WRITER)]), 130)
+            with mock.patch.object(mirror, "complain") as complain:
+                self.assertEqual(shell.main([*given, "--token-file", self.token_file(b"wrong")]), 3)
+        complain.assert_called_once_with("the server: " + NOT_ALLOWED.partition(": ")[2].rstrip())
+        self.assertEqual(roles, [Role.WRITE])
+
     def test_a_unix_socket(self) -> None:
         path = os.path.join(str(self.folder()), "s")
         self.stand_in(path=path)
         self.assertEqual(run("-p", f"unix:{path}", "put", "61", "0=76"), (0, "done 0 1 put 1\n", ""))
         self.assertEqual(run("ping", "-p", f"unix:{path}"), (0, "commits 1\n", ""))
+
