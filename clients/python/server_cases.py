@@ -105,8 +105,9 @@ def nothing_before_hello(start: Start) -> None:
                     try:
                         (outcome,) = asked(connection, version, [query])
                         want_refused(f"{query} in version {version}", outcome, NotAllowed)
+                        want_same("what comes then", connection.recv(1), b"")
                     except ConnectionError:
-                        # (a server may also end the connection)
+                        # (a server may also end the connection at once)
                         pass
         with client(port, token=OWNER) as index:
             want_same("the commits", index.ping(), 0)

@@ -17,8 +17,8 @@ from rowanspan import (AnswerKind, AnyRow, AtLeast, Equals, Get, GetRange, Listi
                        Query, Refused, Remove, Role, Row, RowTest, StandingView, Tidied, Tidy, ViewDrop, ViewNo,
                        ViewRead, ViewSpec, Wait, Waited, set_pairs, spelled_number)
 from stand_in_keeper import Keeper
-from stand_in_wire import (WRITE_FAILED, SessionFault, next_body, read_queries, reply_frame, spelled_done, spelled_page,
-                           spelled_pairs, spelled_refusal, spelled_row)
+from stand_in_wire import (NO_HELLO, WRITE_FAILED, SessionFault, next_body, read_queries, reply_frame, spelled_done,
+                           spelled_page, spelled_pairs, spelled_refusal, spelled_row)
 
 MAX_COLUMN_BYTES = 64
 MAX_VIEWS = 64
@@ -249,6 +249,8 @@ def serve(connection: socket.socket, index: PlainIndex, keeper: Keeper, newest: 
             connection.sendall(frame)
         except OSError as fault:
             raise SessionFault(WRITE_FAILED) from fault
+        if session.role is None:
+            raise SessionFault(NO_HELLO)
         # (what came before a stop is answered, and then nothing is read)
         body = None if index.is_ending else next_body(connection)
 
@@ -345,8 +347,8 @@ def bounded(low: int, high: int) -> Callable[[str], int]:
 
 def read_tokens(path: str) -> Dict[bytes, Role]:
     """The tokens of a file with lines ROLE TOKEN."""
-    pairs = [line.split() for line in Path(path).read_bytes().splitlines()]
-    return {token: Role[role.decode().upper()] for role, token in pairs}
+    parts = [line.partition(b" ") for line in Path(path).read_bytes().splitlines() if line]
+    return {token: Role[role.decode().upper()] for role, _, token in parts}
 
 
 def parser() -> argparse.ArgumentParser:

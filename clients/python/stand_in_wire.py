@@ -12,7 +12,7 @@ from rowanspan import (MAX_QUERIES, MAX_REQUEST_BODY, SERVER_VERSION, AnswerKind
 from rowanspan.server_queries import read_flag, read_spec
 from rowanspan.wire import spelled_spec
 
-READ_FAILED, WRITE_FAILED, CUT, BAD_LENGTH, BAD_VERSION, BAD_BODY = 1, 2, 3, 4, 5, 6
+READ_FAILED, WRITE_FAILED, CUT, BAD_LENGTH, BAD_VERSION, BAD_BODY, NO_HELLO = 1, 2, 3, 4, 5, 6, 8
 # what the server says of each fault
 FAULTS = {
     1: "the input could not be read",
@@ -22,6 +22,7 @@ FAULTS = {
     5: "a frame has an unknown version",
     6: "the body of a frame is not a list of queries",
     7: "out of memory",
+    8: "no hello with a secret of the server",
 }
 
 

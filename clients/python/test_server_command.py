@@ -113,7 +113,7 @@ class CommandTest(unittest.TestCase):
     def test_tokens(self) -> None:
         server = self.stand_in(tokens={**TOKENS, b"two words": Role.READ})
         port = str(server.port)
-        for text in (OWNER, OWNER + b"\r\n", b"  " + OWNER + b" \nmore\n", b"all " + OWNER + b"\nread x\n", WRITER,
+        for text in (OWNER, OWNER + b"\r\n", b"\n\n" + OWNER + b"\nmore\n", b"all " + OWNER + b"\nread x\n", WRITER,
                      b"write " + WRITER):
             with self.subTest(text=text):
                 self.assertEqual(run("-p", port, "--token-file", self.token_file(text), "put", "61", "0=76")[0], 0)
@@ -131,9 +131,9 @@ class CommandTest(unittest.TestCase):
         self.assertEqual(run("ping", "--wait", "5", "-p", port), (1, "", NOT_ALLOWED))
         self.assertEqual(run("-p", port, "get", "61", "all"), (0, "refused 24\n", ""))
         wrong = self.token_file(b"wrong")
-        for given in (("info",), ("ping",), ("ping", "--wait", "5"), ("get", "61", "all")):
+        for given, status in ((("info",), 1), (("ping",), 1), (("ping", "--wait", "5"), 1), (("get", "61", "all"), 3)):
             with self.subTest(given=given):
-                self.assertEqual(run("-p", port, "--token-file", wrong, *given), (3, "", NOT_ALLOWED))
+                self.assertEqual(run("-p", port, "--token-file", wrong, *given), (status, "", NOT_ALLOWED))
 
     def test_an_older_server(self) -> None:
         server = self.stand_in(newest=2)
@@ -145,7 +145,7 @@ class CommandTest(unittest.TestCase):
         self.assertEqual(run("-p", port, "get", "61", "all"), (0, "done 0 0 absent\n", ""))
 
     def test_files_without_a_token(self) -> None:
-        for path in (str(self.folder() / "none"), self.token_file(b""), self.token_file(b"\nx\n"),
+        for path in (str(self.folder() / "none"), self.token_file(b""), self.token_file(b"\n\n"),
                      self.token_file(b"read \n"), str(self.folder())):
             for words in (("get", "61", "all"), ("ping",)):
                 status, output, errors = run("-p", "1", "--token-file", path, *words)

@@ -205,13 +205,15 @@ class ClientTest(unittest.TestCase):
         with self.assertRaises(NotAllowed) as met:
             self.client(server, token=b"wrong")
         self.assertNotIsInstance(met.exception, ConnectionLost)
-        index = self.client(server)
-        with self.assertRaises(NotAllowed):
-            index.get(b"a")
-        with self.assertRaises(NotAllowed):
-            index.hello
-        # the connection is still there
-        self.assertFalse(index.is_lost)
+        for ask in (lambda index: index.get(b"a"), lambda index: index.ping(), lambda index: index.hello):
+            index = self.client(server)
+            with self.assertRaises(NotAllowed) as met:
+                ask(index)
+            self.assertNotIsInstance(met.exception, ConnectionLost)
+            # the server has ended the connection then
+            with self.assertRaises(ConnectionLost):
+                index.get(b"a")
+        self.assertEqual((server.faults, server.index.events), ([8] * 4, 0))
 
     def test_a_server_that_does_not_answer_hello(self) -> None:
         with socket.create_server(("127.0.0.1", 0)) as listener:

@@ -1,4 +1,4 @@
-"""Options of the command lines: where the server is, how it is connected to, and the token by which it admits a client."""
+"""Options of the command lines: where the server is, how it is connected to, and the token that it asks for."""
 from __future__ import annotations
 
 import argparse
@@ -10,7 +10,7 @@ from .client import Client
 
 # the first words of the lines of a server's own file of tokens
 ROLES = (b"read", b"write", b"all")
-MAX_TOKEN_LINE = 1 << 16
+MAX_TOKEN_FILE = 1 << 16
 
 
 def port(word: str) -> int:
@@ -37,17 +37,18 @@ def seconds(word: str) -> float:
 
 
 def token_file(word: str) -> bytes:
-    """The token of a file: its first line; if that is ROLE TOKEN, as in a server's file, the second word. Raises
-    `ArgumentTypeError`."""
+    """The token of a file: its first line that isn't empty; if that is ROLE TOKEN, as in a server's file, what follows
+    the role. Raises `ArgumentTypeError`."""
     try:
         with open(word, "rb") as file:
-            line = file.readline(MAX_TOKEN_LINE).strip()
+            lines = file.read(MAX_TOKEN_FILE).splitlines()
     except (OSError, ValueError) as fault:
         raise argparse.ArgumentTypeError(f"can't be read: {fault}") from None
-    first, _, rest = line.partition(b" ")
-    token = rest.strip() if first in ROLES else line
+    line = next(filter(None, lines), b"")
+    role, _, rest = line.partition(b" ")
+    token = rest if role in ROLES else line
     if not token:
-        raise argparse.ArgumentTypeError(f"the first line of {word} has no token")
+        raise argparse.ArgumentTypeError(f"{word} has no token in its first line")
     return token
 
 

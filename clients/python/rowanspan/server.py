@@ -16,7 +16,8 @@ __all__ = [
 # ---- refusals
 
 class NotAllowed(Refused, PermissionError):
-    """The server doesn't admit the client, or the role of its token may not ask this. Nothing was changed."""
+    """The server doesn't admit the client, and ends its connection then, or the role of its token may not ask this.
+    Nothing was changed."""
 
     number, cause = 24, "the client's token does not allow it, or the client has none"
 

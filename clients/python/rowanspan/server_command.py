@@ -8,14 +8,13 @@ from typing import Callable, Dict, Iterator, NamedTuple, Sequence
 from .client import Client
 from .core import ConnectionLost, Refused
 from .options import add_server_options, connected, seconds
-from .server_queries import Ping
 from .text import HEX, TEXT, spec_text
 
 NOTES = """\
 The server has to know version 3 of the wire. With tokens it asks for one, by --token-file.
 
-Status: 0; 1 if the server refuses it; 2 for a bad command line; 3 if there is no connection, the server doesn't admit
-the client or doesn't answer, or standard output fails; 130 if it was interrupted.
+Status: 0; 1 if the server refuses it, or doesn't admit the client; 2 for a bad command line; 3 if there is no
+connection, the server ends it or doesn't answer, or standard output fails; 130 if it was interrupted.
 """
 # in seconds: from one try of `rowan ping --wait` to the next
 PAUSE = 0.1
@@ -50,10 +49,10 @@ def stop_lines(index: Client, options: argparse.Namespace) -> Iterator[str]:
 
 
 def answering(options: argparse.Namespace, at_most: float) -> Client:
-    """A connection to a server that answers, which may take so long. Raises `ConnectionLost`."""
+    """A connection to a server that answers, which may take so long. Raises `ConnectionLost` and `Refused`."""
     index = connected(options, min(at_most, options.timeout or at_most))
     try:
-        index.call_all([Ping()])
+        index.ping()
     except BaseException:
         index.close()
         raise
@@ -61,7 +60,8 @@ def answering(options: argparse.Namespace, at_most: float) -> Client:
 
 
 def connected_in(options: argparse.Namespace, wait: float) -> Client:
-    """A connection to a server that answers, which is tried until this time is over. Raises `ConnectionLost`."""
+    """A connection to a server that answers, which is tried until this time is over. Raises `ConnectionLost` and
+    `Refused`."""
     end = time.monotonic() + wait
     while True:
         try:
@@ -74,8 +74,8 @@ def connected_in(options: argparse.Namespace, wait: float) -> Client:
 
 COMMANDS: Dict[str, Command] = {
     "info": Command("Prints what a server counts: a line NAME NUMBER for each of its numbers.", info_lines),
-    "views": Command("Prints the views of a server: a line VIEW COMMITS ROWS SPEC for each, with the number of commits at "
-                     "which it is, how many rows it has then, and what it is of.", views_lines),
+    "views": Command("Prints the views of a server: a line VIEW COMMITS ROWS SPEC for each, with the number of commits "
+                     "at which it is, how many rows it has then, and what it is of.", views_lines),
     "ping": Command("Asks whether a server answers. Prints the number of commits.", ping_lines),
     "stop": Command("Ends a server, after it has answered what came. Prints the number of commits.", stop_lines),
 }
@@ -99,18 +99,20 @@ def parser(name: str) -> argparse.ArgumentParser:
 
 def main(name: str, arguments: Sequence[str], write_line: Callable[[str], None],
          complain: Callable[[str], None]) -> int:
-    """Runs a command with these arguments; returns the status. Raises `NotAllowed` if the server doesn't admit the
-    client, and `ConnectionLost`, `BadReply` and OSError."""
+    """Runs a command with these arguments; returns the status. Raises `ConnectionLost`, `BadReply` and OSError."""
     made = parser(name)
     options = made.parse_args(arguments)
     if options.ca is not None and not options.tls:
         made.error("--ca is for --tls")
     wait = vars(options).get("wait")
-    with connected(options, options.timeout) if wait is None else connected_in(options, wait) as index:
-        try:
+    try:
+        with connected(options, options.timeout) if wait is None else connected_in(options, wait) as index:
             for line in COMMANDS[name].lines(index, options):
                 write_line(line)
-        except Refused as refusal:
-            complain(str(refusal))
-            return 1
+    except ConnectionLost:
+        # (one is a refusal too)
+        raise
+    except Refused as refusal:
+        complain(str(refusal))
+        return 1
     return 0
