@@ -145,7 +145,10 @@ class ServerPollerTest(PollerCase):
                 commit = index.put(b"a", b"\5")
                 self.until(lambda: self.at(card) == commit)
             # and so does a form
+            time.sleep(3 * polling.PERIOD)
+            began = time.monotonic()
             self.assertEqual(self.poller.build(Prefix(b"b")).number, 2)
+            self.assertLess(time.monotonic() - began, SECONDS)
 
     def test_what_does_not_change_is_not_read_again(self) -> None:
         self.quiet(2 * polling.PERIOD)

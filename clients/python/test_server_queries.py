@@ -18,6 +18,7 @@ from rowanspan import (AnyRow, AtLeast, BadReply, Client, ConnectionLost, Equals
                        HelloUnanswered, Listing, ListViews, NotAllowed, Ping, Pong, Pool, Prefix, Query, Range, Reply,
                        Role, StandingView, Stop, TooLong, TooMuchAtOnce, ViewNo, Wait, Waited, read_replies,
                        request_frame)
+from rowanspan.server_queries import next_of
 from server_cases import COLUMNS, OWNER, READER, SECONDS, TOKENS
 from stand_in import Options, StandIn
 from stand_in_wire import read_queries, reply_frame, spelled_listing
@@ -248,6 +249,11 @@ class ClientTest(unittest.TestCase):
         self.assertEqual(parts[0], Wait(0, None, 0))
         self.assertEqual({part.milliseconds for part in parts[1:4]}, {100})
         self.assertGreaterEqual(len(parts), 7)
+
+    def test_the_next_commit(self) -> None:
+        for now, view, following in ((Waited(True, 5, 0), None, 6), (Waited(True, 5, 3), 7, 4),
+                                     (Waited(True, 2 ** 64 - 1, 0), None, 2 ** 64 - 1)):
+            self.assertEqual(next_of(now, view), following)
 
     def test_bad_arguments(self) -> None:
         server: Any = self.stand_in()
