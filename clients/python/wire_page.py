@@ -28,11 +28,13 @@ class BadFrame:
 @dataclass(frozen=True)
 class WorkedBytes:
     """What the page has under 'Worked bytes': the exchanges of a session on an empty index, those of a session in
-    version 2 on another, and the bad frames. They are those of a server that knows the versions up to `newest`."""
+    version 2 on another, those of version 3 if it has some, and the bad frames. They are those of a server that knows
+    the versions up to `newest`."""
 
     newest: int
     exchanges: List[Exchange]
     second_version: List[Exchange]
+    third_version: List[Exchange]
     bad_frames: List[BadFrame]
 
 
@@ -55,9 +57,11 @@ def worked_bytes(page: Path = PAGE) -> WorkedBytes:
     first, title, second = part.partition("\n### Version 2\n")
     if not title:
         raise ValueError("there is no part on version 2")
+    second, title, third = second.partition("\n### Version 3\n")
     rows = re.findall(r"^\| `([0-9a-f ]+)` \| (\d+):", part, re.M)
     if not rows:
         raise ValueError("there are no bad frames")
     bad_frames = [BadFrame(bytes.fromhex(row.replace(" ", "")), int(fault)) for row, fault in rows]
     newest = max(map(int, re.findall("[0-9]+", versions[1])))
-    return WorkedBytes(newest, exchanges_of(first), exchanges_of(second), bad_frames)
+    third_version = exchanges_of(third) if title else []
+    return WorkedBytes(newest, exchanges_of(first), exchanges_of(second), third_version, bad_frames)

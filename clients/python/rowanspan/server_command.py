@@ -11,7 +11,7 @@ from .options import add_server_options, connected, seconds
 from .text import HEX, TEXT, spec_text
 
 NOTES = """\
-The server has to know version 3 of the wire. With tokens it asks for one, by --token-file.
+The server has to know version 3 of the wire. A server with tokens asks for one: --token-file says where it is.
 
 Status: 0; 1 if the server refuses it, or doesn't admit the client; 2 for a bad command line; 3 if there is no
 connection, the server ends it or doesn't answer, or standard output fails; 130 if it was interrupted.
