@@ -5,21 +5,25 @@ from __future__ import annotations
 
 import argparse
 import socket
-import struct
 import sys
 import threading
-from dataclasses import dataclass
+from dataclasses import dataclass, field
+from pathlib import Path
 from types import TracebackType
-from typing import Any, Callable, Dict, List, Optional, Sequence, Tuple, Type
+from typing import Any, Callable, Dict, List, Mapping, Optional, Sequence, Tuple, Type
 
 import rowanspan as wire
-from rowanspan import (AnswerKind, AnyRow, AtLeast, Equals, Get, GetRange, Page, Prefix, Put, PutIf, Query, Refused,
-                       Remove, Row, RowTest, Tidied, Tidy, ViewDrop, ViewRead, ViewSpec, set_pairs, spelled_number)
-from stand_in_wire import (BAD_LENGTH, CUT, READ_FAILED, WRITE_FAILED, SessionFault, read_queries, reply_frame,
-                           spelled_done, spelled_page, spelled_pairs, spelled_refusal, spelled_row)
+from rowanspan import (AnswerKind, AnyRow, AtLeast, Equals, Get, GetRange, Listing, Page, Pairs, Prefix, Put, PutIf,
+                       Query, Refused, Remove, Role, Row, RowTest, StandingView, Tidied, Tidy, ViewDrop, ViewNo,
+                       ViewRead, ViewSpec, Wait, Waited, set_pairs, spelled_number)
+from stand_in_keeper import Keeper
+from stand_in_wire import (NO_HELLO, WRITE_FAILED, SessionFault, next_body, read_queries, reply_frame, spelled_done,
+                           spelled_page, spelled_pairs, spelled_refusal, spelled_row)
 
 MAX_COLUMN_BYTES = 64
 MAX_VIEWS = 64
+# how many connections it serves at once, if it isn't told how many there are
+CONNECTIONS = 32
 
 
 # ---- the index
@@ -49,6 +53,9 @@ class PlainIndex:
 
     def __init__(self, columns: int) -> None:
         self._lock = threading.Lock()
+        # says that there is another commit, that a view was dropped, or that the server ends
+        self._changed = threading.Condition(self._lock)
+        self.is_ending = False
         self._columns = columns
         self._rows: Dict[bytes, Row] = {}
         self._views: Dict[int, ViewSpec] = {}
@@ -62,12 +69,35 @@ class PlainIndex:
         return len(self.asked)
 
     def answer(self, query: Query[Any]) -> bytes:
-        with self._lock:
+        with self._changed:
             self.asked.append(query)
             try:
                 return self._answer(query)
             except Refused as refusal:
                 return spelled_refusal(refusal)
+            finally:
+                self._changed.notify_all()
+
+    def listing(self) -> Listing:
+        """All views: each is up to date at once."""
+        with self._lock:
+            return Listing(self.commits, [StandingView(ViewNo(number), self.commits, len(self._members(spec)), spec)
+                                          for number, spec in self._views.items()])
+
+    def waited(self, query: Wait) -> Waited:
+        """Waits until there are so many commits, for so long. Raises `NoSuchView`."""
+        with self._changed:
+            self._changed.wait_for(lambda: self.is_ending or self.commits >= query.commit
+                                   or query.view not in (None, *self._views), query.patience())
+            if query.view is not None and query.view not in self._views:
+                raise wire.NoSuchView()
+            return Waited(self.commits >= query.commit, self.commits, 0 if query.view is None else self.commits)
+
+    def end(self) -> None:
+        """Nobody waits any longer."""
+        with self._changed:
+            self.is_ending = True
+            self._changed.notify_all()
 
     def _answer(self, query: Query[Any]) -> bytes:
         if isinstance(query, Get):
@@ -190,6 +220,9 @@ class PlainIndex:
         self._views[self._built] = spec
         return self._done(AnswerKind.BUILT, self.commits, spelled_number(self._built, 8))
 
+    def _members(self, spec: ViewSpec) -> Pairs:
+        return [(key, row) for key, row in sorted(self._rows.items()) if belongs(spec, key, row)]
+
     def _view(self, query: ViewRead) -> bytes:
         self._check_key(query.start)
         self._check_limit(query.limit)
@@ -198,7 +231,7 @@ class PlainIndex:
             raise wire.NoSuchView()
         if self.commits < query.floor:
             raise wire.Behind(self.commits)
-        pairs = [(key, row) for key, row in sorted(self._rows.items()) if belongs(spec, key, row)]
+        pairs = self._members(spec)
         sums = tuple(sum(amount(row.columns[place]) for _, row in pairs) for place in range(self._columns))
         rows = [pair for pair in pairs if pair[0] >= query.start][:query.limit]
         return spelled_page(Page(self.commits, len(pairs), sums, rows))
@@ -206,65 +239,54 @@ class PlainIndex:
 
 # ---- sessions
 
-def receive(connection: socket.socket, count: int, is_first: bool) -> Optional[bytes]:
-    """Returns `count` bytes, or none if the stream ends before the first of a frame."""
-    received = b""
-    while len(received) < count:
-        try:
-            piece = connection.recv(count - len(received))
-        except OSError as fault:
-            raise SessionFault(READ_FAILED) from fault
-        if not piece and is_first and not received:
-            return None
-        if not piece:
-            raise SessionFault(CUT)
-        received += piece
-    return received
-
-
-def next_body(connection: socket.socket) -> Optional[bytes]:
-    """The body of the next frame; none at the end of the stream."""
-    head = receive(connection, 4, True)
-    if head is None:
-        return None
-    (length,) = struct.unpack(">I", head)
-    if not 2 <= length <= wire.MAX_REQUEST_BODY:
-        raise SessionFault(BAD_LENGTH)
-    return receive(connection, length, False)
-
-
-def serve(connection: socket.socket, index: PlainIndex) -> None:
+def serve(connection: socket.socket, index: PlainIndex, keeper: Keeper, newest: int) -> None:
     """Answers the frames of a connection, to its end; raises `SessionFault`."""
+    session = keeper.session()
     body = next_body(connection)
     while body is not None:
-        frame = reply_frame([index.answer(query) for query in read_queries(body)], body[0])
+        frame = reply_frame(keeper.answers(session, read_queries(body, newest)), body[0])
         try:
             connection.sendall(frame)
         except OSError as fault:
             raise SessionFault(WRITE_FAILED) from fault
-        body = next_body(connection)
+        if session.role is None:
+            raise SessionFault(NO_HELLO)
+        # (what came before a stop is answered, and then nothing is read)
+        body = None if index.is_ending else next_body(connection)
 
 
 @dataclass(frozen=True)
 class Options:
-    """Those of the server's command line; `sessions` is None for a server that serves until it is killed."""
+    """Those of the server's command line; `sessions` is None for a server that serves until it is killed. With a path
+    it listens there, at a Unix socket. `newest` is the greatest version of the wire that it knows."""
 
     port: int = 0
     workers: int = 1
     sessions: Optional[int] = None
     columns: int = 1
+    tokens: Mapping[bytes, Role] = field(default_factory=dict)
+    path: Optional[str] = None
+    newest: int = wire.SERVER_VERSION
+
+
+def listening(options: Options) -> socket.socket:
+    if options.path is None:
+        return socket.create_server(("127.0.0.1", options.port))
+    return socket.create_server(options.path, family=socket.AF_UNIX)
 
 
 class StandIn:
-    """A server in threads of this process, at `port` of this machine."""
+    """A server in threads of this process, at `port` of this machine, or at the path that it was given."""
 
     def __init__(self, options: Options = Options(), tell: Callable[[str], None] = lambda line: None) -> None:
         self.index = PlainIndex(options.columns)
+        self.keeper = Keeper(self.index, options.tokens, options.columns)
+        self.keeper.stop = self._stop
         self.faults: List[int] = []
-        self._tell = tell
-        self._sessions = options.sessions
-        self._listener = socket.create_server(("127.0.0.1", options.port))
-        self.port: int = self._listener.getsockname()[1]
+        self._tell, self._newest, self._sessions = tell, options.newest, options.sessions
+        self._listener = listening(options)
+        self.port: int = 0 if options.path is not None else self._listener.getsockname()[1]
+        self._open: List[socket.socket] = []
         self._workers = [threading.Thread(target=self._work, daemon=True) for _ in range(options.workers)]
         for worker in self._workers:
             worker.start()
@@ -275,6 +297,13 @@ class StandIn:
     def __exit__(self, kind: Optional[Type[BaseException]], fault: Optional[BaseException],
                  trace: Optional[TracebackType]) -> None:
         self._listener.close()
+
+    def _stop(self, at_once: bool) -> None:
+        """Nothing is accepted or read any more."""
+        self.index.end()
+        self._listener.shutdown(socket.SHUT_RDWR)
+        for connection in self._open:
+            connection.shutdown(socket.SHUT_RD)
 
     def join(self) -> None:
         """Waits until each worker has served its sessions."""
@@ -293,11 +322,17 @@ class StandIn:
 
     def _serve(self, connection: socket.socket) -> None:
         with connection:
+            self._open.append(connection)
             try:
-                serve(connection, self.index)
+                self.keeper.open_connections += 1
+                serve(connection, self.index, self.keeper, self._newest)
             except SessionFault as fault:
                 self.faults.append(fault.number)
+                self.keeper.faults += 1
                 self._tell(f"session fault {fault.number}: {fault}")
+            finally:
+                self.keeper.open_connections -= 1
+                self._open.remove(connection)
 
 
 # ---- the command line
@@ -310,13 +345,20 @@ def bounded(low: int, high: int) -> Callable[[str], int]:
     return read
 
 
+def read_tokens(path: str) -> Dict[bytes, Role]:
+    """The tokens of a file with lines ROLE TOKEN."""
+    parts = [line.partition(b" ") for line in Path(path).read_bytes().splitlines() if line]
+    return {token: Role[role.decode().upper()] for role, _, token in parts}
+
+
 def parser() -> argparse.ArgumentParser:
     made = argparse.ArgumentParser(description="A stand-in of the server, for tests of its tests.")
     made.add_argument("--port", type=bounded(0, 65_535), default=0)
     made.add_argument("--workers", type=bounded(1, 16), default=1)
-    made.add_argument("--sessions", type=bounded(0, 65_535), default=1)
+    made.add_argument("--sessions", type=bounded(0, 65_535))
     made.add_argument("--forever", action="store_true")
     made.add_argument("--columns", type=bounded(1, 16), default=1)
+    made.add_argument("--token-file", type=read_tokens, default={})
     made.add_argument("--log-capacity", "--feed", type=bounded(1, 65_536), default=4096)
     made.add_argument("--log-retention", "--keep", type=bounded(0, 65_536), default=0)
     return made
@@ -330,7 +372,9 @@ def main() -> int:
     given = parser().parse_args()
     sessions = None if given.forever else given.sessions
     try:
-        server = StandIn(Options(given.port, given.workers, sessions, given.columns), tell)
+        # (a worker has one connection at a time here)
+        workers = given.workers if sessions is not None else max(given.workers, CONNECTIONS)
+        server = StandIn(Options(given.port, workers, sessions, given.columns, given.token_file), tell)
     except OSError as fault:
         tell(f"stand_in: {fault}")
         return 3

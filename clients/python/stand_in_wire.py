@@ -1,13 +1,18 @@
 """The wire from the server's side, for the stand-in: queries are read from bytes, and answers are written as bytes."""
 from __future__ import annotations
 
-from typing import Any, Callable, Dict, List, Optional, Sequence, Tuple
+import socket
+import struct
+from typing import Any, Callable, Dict, List, Mapping, Optional, Sequence, Tuple
 
-from rowanspan import (MAX_QUERIES, AnswerKind, AnyRow, AtLeast, Build, Equals, Get, GetRange, Page, Pairs, Prefix, Put,
-                       PutIf, Query, Range, Reader, Refused, Remove, Row, RowTest, Tidy, ViewDrop, ViewRead, ViewSpec,
-                       spelled_bytes, spelled_key, spelled_number)
+from rowanspan import (MAX_QUERIES, MAX_REQUEST_BODY, SERVER_VERSION, AnswerKind, Build, Get, GetInfo, GetRange,
+                       Greeting, Hello, Listing, ListViews, Page, Pairs, Ping, Pong, Put, PutIf, Query, Reader, Refused,
+                       Remove, Row, StandingView, Stop, Tidy, ViewDrop, ViewRead, Wait, Waited, spelled_bytes,
+                       spelled_key, spelled_number)
+from rowanspan.server_queries import read_flag, read_spec
+from rowanspan.wire import spelled_spec
 
-READ_FAILED, WRITE_FAILED, CUT, BAD_LENGTH, BAD_VERSION, BAD_BODY = 1, 2, 3, 4, 5, 6
+READ_FAILED, WRITE_FAILED, CUT, BAD_LENGTH, BAD_VERSION, BAD_BODY, NO_HELLO = 1, 2, 3, 4, 5, 6, 8
 # what the server says of each fault
 FAULTS = {
     1: "the input could not be read",
@@ -17,6 +22,7 @@ FAULTS = {
     5: "a frame has an unknown version",
     6: "the body of a frame is not a list of queries",
     7: "out of memory",
+    8: "no hello with a secret of the server",
 }
 
 
@@ -28,34 +34,36 @@ class SessionFault(Exception):
         self.number = number
 
 
+# ---- frames, as they come
+
+def receive(connection: socket.socket, count: int, is_first: bool) -> Optional[bytes]:
+    """Returns `count` bytes, or none if the stream ends before the first of a frame."""
+    received = b""
+    while len(received) < count:
+        try:
+            piece = connection.recv(count - len(received))
+        except OSError as fault:
+            raise SessionFault(READ_FAILED) from fault
+        if not piece and is_first and not received:
+            return None
+        if not piece:
+            raise SessionFault(CUT)
+        received += piece
+    return received
+
+
+def next_body(connection: socket.socket) -> Optional[bytes]:
+    """The body of the next frame; none at the end of the stream."""
+    head = receive(connection, 4, True)
+    if head is None:
+        return None
+    (length,) = struct.unpack(">I", head)
+    if not 2 <= length <= MAX_REQUEST_BODY:
+        raise SessionFault(BAD_LENGTH)
+    return receive(connection, length, False)
+
+
 # ---- queries as bytes, read
-
-def read_test(reader: Reader) -> RowTest:
-    kind = reader.number(1)
-    if kind == 0:
-        return AnyRow()
-    if kind == 1:
-        return Equals(reader.number(1), reader.short())
-    if kind == 2:
-        return AtLeast(reader.number(1), reader.number(8))
-    raise ValueError("this is no test")
-
-
-def read_end(reader: Reader) -> Optional[bytes]:
-    kind = reader.number(1)
-    if kind > 1:
-        raise ValueError("this is no end of a range")
-    return reader.key() if kind else None
-
-
-def read_spec(reader: Reader) -> ViewSpec:
-    kind = reader.number(1)
-    if kind == 0:
-        return Range(reader.key(), read_end(reader), read_test(reader))
-    if kind == 1:
-        return Prefix(reader.key(), read_test(reader))
-    raise ValueError("this is no specification")
-
 
 def read_columns(reader: Reader) -> Tuple[int, ...]:
     return tuple(reader.short())
@@ -70,6 +78,16 @@ def read_put_if(reader: Reader) -> PutIf:
     return PutIf(key, read_sets(reader), version)
 
 
+def read_hello(reader: Reader) -> Hello:
+    newest, token = reader.number(1), reader.key()
+    return Hello(token, reader.key(), newest)
+
+
+def read_wait(reader: Reader) -> Wait:
+    view = reader.number(8) if read_flag(reader) else None
+    return Wait(reader.number(8), view, reader.number(4))
+
+
 READERS: Dict[int, Callable[[Reader], Query[Any]]] = {
     1: lambda reader: Get(reader.key(), read_columns(reader)),
     2: lambda reader: Put(reader.key(), read_sets(reader)),
@@ -80,6 +98,12 @@ READERS: Dict[int, Callable[[Reader], Query[Any]]] = {
     7: lambda reader: ViewRead(reader.number(8), reader.number(8), reader.key(), reader.number(2)),
     8: lambda reader: ViewDrop(reader.number(8)),
     9: read_put_if,
+    16: read_hello,
+    17: lambda reader: Ping(reader.number(8)),
+    18: lambda reader: GetInfo(),
+    19: lambda reader: ListViews(),
+    20: read_wait,
+    21: lambda reader: Stop(read_flag(reader)),
 }
 
 
@@ -93,11 +117,11 @@ def read_query(reader: Reader, version: int) -> Query[Any]:
     return query
 
 
-def read_queries(body: bytes) -> List[Query[Any]]:
-    """The queries of a body; raises `SessionFault`."""
+def read_queries(body: bytes, newest: int = SERVER_VERSION) -> List[Query[Any]]:
+    """The queries of a body, as a server reads them that knows the versions up to `newest`; raises `SessionFault`."""
     reader = Reader(body)
     version = reader.number(1)
-    if version not in (1, 2):
+    if not 1 <= version <= newest:
         raise SessionFault(BAD_VERSION)
     try:
         count = reader.number(1)
@@ -132,6 +156,39 @@ def spelled_refusal(refusal: Refused) -> bytes:
 
 def spelled_done(kind: AnswerKind, from_: int, to: int, rest: bytes) -> bytes:
     return spelled_number(kind, 1) + spelled_number(from_, 8) + spelled_number(to, 8) + rest
+
+
+def spelled_greeting(greeting: Greeting) -> bytes:
+    return (bytes((AnswerKind.HELLO, greeting.version, greeting.role, greeting.columns)) + greeting.run
+            + spelled_number(greeting.commits, 8) + spelled_number(greeting.feed_from, 8))
+
+
+def spelled_pong(pong: Pong) -> bytes:
+    return spelled_number(AnswerKind.PING, 1) + spelled_number(pong.number, 8) + spelled_number(pong.commits, 8)
+
+
+def spelled_info(counts: Mapping[str, int]) -> bytes:
+    numbers = b"".join(spelled_key(name.encode()) + spelled_number(number, 8) for name, number in counts.items())
+    return spelled_number(AnswerKind.INFO, 1) + spelled_number(len(counts), 2) + numbers
+
+
+def spelled_view(view: StandingView) -> bytes:
+    numbers = (view.number, view.commits, view.rows)
+    return b"".join(spelled_number(number, 8) for number in numbers) + spelled_spec(view.spec)
+
+
+def spelled_listing(listing: Listing) -> bytes:
+    return (spelled_number(AnswerKind.VIEWS, 1) + spelled_number(listing.commits, 8)
+            + spelled_number(len(listing.views), 1) + b"".join(map(spelled_view, listing.views)))
+
+
+def spelled_waited(waited: Waited) -> bytes:
+    return (bytes((AnswerKind.WAITED, waited.is_reached)) + spelled_number(waited.commits, 8)
+            + spelled_number(waited.view_commits, 8))
+
+
+def spelled_stopped(commits: int) -> bytes:
+    return spelled_number(AnswerKind.STOPPED, 1) + spelled_number(commits, 8)
 
 
 def reply_frame(answers: Sequence[bytes], version: int = 1) -> bytes:

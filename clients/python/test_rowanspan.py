@@ -11,8 +11,10 @@ from typing import Any, List, Sequence, Tuple
 
 import rowanspan
 import test_aio
+import test_aio_server
 import test_bad_input
 import test_board
+import test_board_server
 import test_mapping
 import test_mirror
 import test_mirror_model
@@ -20,6 +22,8 @@ import test_mirror_reading
 import test_mirror_rows
 import test_names
 import test_pool
+import test_server_command
+import test_server_queries
 import test_shell
 import test_wheel
 import test_wire
@@ -284,8 +288,9 @@ class PipelineTest(unittest.TestCase):
 
 def main() -> int:
     load = unittest.defaultTestLoader.loadTestsFromModule
-    modules = (test_wire, sys.modules[__name__], test_pool, test_aio, test_mapping, test_names, test_shell,
-               test_bad_input, test_board, test_mirror_rows, test_mirror, test_mirror_reading, test_mirror_model, test_wheel)
+    modules = (test_wire, sys.modules[__name__], test_server_queries, test_pool, test_aio, test_aio_server,
+               test_mapping, test_names, test_shell, test_server_command, test_bad_input, test_board,
+               test_board_server, test_mirror_rows, test_mirror, test_mirror_reading, test_mirror_model, test_wheel)
     return run_counted(unittest.TestSuite(load(module) for module in modules))
 
 

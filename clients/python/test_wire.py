@@ -3,7 +3,9 @@ broken. test_rowanspan.py runs them."""
 from __future__ import annotations
 
 import socket
+import tempfile
 import unittest
+from pathlib import Path
 from typing import Any, Dict, List, Sequence, Tuple, Type
 
 import rowanspan
@@ -11,9 +13,9 @@ from rowanspan import (MAX_KEY_BYTES, AnswerKind, AnyRow, AtLeast, BadColumn, Ba
                        FeedFull, Get, GetRange, OtherVersion, Page, Prefix, Put, PutIf, Query, Range, Refused, Remove,
                        Reply, Row, Tidied, Tidy, TooLong, ViewDrop, ViewRead, frame_version, read_replies,
                        request_frame)
-from stand_in import PlainIndex, StandIn
+from stand_in import Options, PlainIndex, StandIn
 from stand_in_wire import read_queries, reply_frame, spelled_done, spelled_page, spelled_pairs
-from wire_page import worked_bytes
+from wire_page import PAGE, worked_bytes
 
 SECONDS = 20.0
 ROW = Row(258, (b"v", b""))
@@ -84,9 +86,11 @@ def frame_of(queries: Sequence[Query[Any]]) -> bytes:
 
 class WorkedBytesTest(unittest.TestCase):
     def test_requests_both_ways(self) -> None:
-        for exchange in worked_bytes().exchanges + worked_bytes().second_version:
+        page = worked_bytes()
+        for exchange in page.exchanges + page.second_version + page.third_version:
             queries = read_queries(exchange.request[4:])
             self.assertEqual(frame_of(queries), exchange.request)
+            self.assertEqual(len(read_replies(exchange.reply[4:], queries)), len(queries))
 
     def test_replies_both_ways(self) -> None:
         for session in (worked_bytes().exchanges, worked_bytes().second_version):
@@ -97,6 +101,19 @@ class WorkedBytesTest(unittest.TestCase):
                 self.assertEqual(reply_frame(answers, frame_version(queries)), exchange.reply)
                 self.assertEqual(len(read_replies(exchange.reply[4:], queries)), len(queries))
 
+    def test_a_page_with_a_third_version(self) -> None:
+        """The bytes of version 3 are those after its title."""
+        text = PAGE.read_text(encoding="utf-8").partition("\n### Version 3\n")[0]
+        text = text.replace("the version: 1 or 2 |", "the version: 1, 2 or 3 |")
+        asked, answer = "00000003 03 01\n              12", "00000005 03 01\n              12 0000"
+        with tempfile.NamedTemporaryFile("w", encoding="utf-8") as file:
+            file.write(f"{text}\n### Version 3\n\nWhat it counts:\n\n    {asked}\n\nNothing:\n\n    {answer}\n")
+            file.flush()
+            page = worked_bytes(Path(file.name))
+        (exchange,) = page.third_version
+        self.assertEqual((page.newest, page.second_version), (3, worked_bytes().second_version))
+        self.assertEqual(read_replies(exchange.reply[4:], read_queries(exchange.request[4:])), [Reply({})])
+
     def test_what_the_first_session_says(self) -> None:
         queries: List[Query[Any]] = [Put(b"a", b"v"), Get(b"a")]
         first = worked_bytes().exchanges[0]
@@ -105,9 +122,10 @@ class WorkedBytesTest(unittest.TestCase):
 
     def test_bad_frames(self) -> None:
         for bad in worked_bytes().bad_frames:
-            with StandIn() as server, socket.create_connection(("127.0.0.1", server.port), SECONDS) as connection:
-                connection.sendall(bad.sent)
-                self.assertEqual(connection.recv(1), b"")
+            with StandIn(Options(newest=worked_bytes().newest)) as server:
+                with socket.create_connection(("127.0.0.1", server.port), SECONDS) as connection:
+                    connection.sendall(bad.sent)
+                    self.assertEqual(connection.recv(1), b"")
                 self.assertEqual(server.faults, [bad.fault])
 
 

@@ -27,11 +27,14 @@ class BadFrame:
 
 @dataclass(frozen=True)
 class WorkedBytes:
-    """What stands under 'Worked bytes': the exchanges of a session on an empty index, those of a session in version 2
-    on another, and the bad frames."""
+    """What the page has under 'Worked bytes': the exchanges of a session on an empty index, those of a session in
+    version 2 on another, those of version 3 if it has some, and the bad frames. They are those of a server that knows
+    the versions up to `newest`."""
 
+    newest: int
     exchanges: List[Exchange]
     second_version: List[Exchange]
+    third_version: List[Exchange]
     bad_frames: List[BadFrame]
 
 
@@ -46,12 +49,19 @@ def exchanges_of(part: str) -> List[Exchange]:
 
 def worked_bytes(page: Path = PAGE) -> WorkedBytes:
     """The worked bytes of the page; raises ValueError if the page hasn't the parts that are wanted."""
-    part = page.read_text(encoding="utf-8").partition("\n## Worked bytes\n")[2]
+    text = page.read_text(encoding="utf-8")
+    versions = re.search(r"^\| 1 \| the version: ([0-9, or]+) \|", text, re.M)
+    if versions is None:
+        raise ValueError("the page doesn't say which versions there are")
+    part = text.partition("\n## Worked bytes\n")[2]
     first, title, second = part.partition("\n### Version 2\n")
     if not title:
         raise ValueError("there is no part on version 2")
+    second, title, third = second.partition("\n### Version 3\n")
     rows = re.findall(r"^\| `([0-9a-f ]+)` \| (\d+):", part, re.M)
     if not rows:
         raise ValueError("there are no bad frames")
     bad_frames = [BadFrame(bytes.fromhex(row.replace(" ", "")), int(fault)) for row, fault in rows]
-    return WorkedBytes(exchanges_of(first), exchanges_of(second), bad_frames)
+    newest = max(map(int, re.findall("[0-9]+", versions[1])))
+    third_version = exchanges_of(third) if title else []
+    return WorkedBytes(newest, exchanges_of(first), exchanges_of(second), third_version, bad_frames)

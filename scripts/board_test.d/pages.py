@@ -98,7 +98,8 @@ def updates(serve: Sequence[str], browser: Browser, seconds: float) -> str:
             page.value(WATCH_SHIFTS)
             for switch in ("keys", "columns"):
                 turn(page, switch, "hex")
-            lasting, title = Lasting(board, page), f"View {foreign.number}"
+            title = "prefix 636c6f7365642f" if server.lists_views() else f"View {foreign.number}"
+            lasting = Lasting(board, page)
             own = seen_one(page, HEX_TITLE).view()
             with PageReader(server.port, own, 10) as first, PageReader(server.port, foreign.number, 10) as second:
                 with Writer(server.port, 100, KEYS):
@@ -188,8 +189,9 @@ def forms(serve: Sequence[str], browser: Browser) -> None:
             want_same("a view by its number", build(page, {"kind": "number", "number": str(foreign.number)}),
                       f"View {foreign.number} is on the board.")
             wait_for_cards(page, 5)
-            want_same("the view by its number", seen_one(page, f"View {foreign.number}").totals()[0], 10)
-            press(page, f"View {foreign.number}", "hide")
+            title = "prefix 0" if server.lists_views() else f"View {foreign.number}"
+            want_same("the view by its number", seen_one(page, title).totals()[0], 10)
+            press(page, title, "hide")
             page.wait("document.querySelectorAll('.card').length === 4")
             want_same("the view that is hidden", foreign.count, 10)
             want_same("dialogs", page.dialogs, ["Drop view 1? It ends for all clients of the server."])
@@ -252,6 +254,7 @@ def server_ends(serve: Sequence[str], browser: Browser) -> None:
             wait_for_cards(page, 2)
             before = seen(page)
             want_same("the view that was given", (before[0].title, before[0].about),
+                      ("prefix closed/", "") if first.lists_views() else
                       ("View 1", "specification unknown: given by number"))
             want_same("before", [card.totals() for card in before], [(40, 200, 280)] * 2)
             first.end(signal.SIGKILL)
@@ -294,7 +297,8 @@ def board_ends(serve: Sequence[str], browser: Browser) -> None:
             want_same("what is kept", seen_one(page, "prefix open/").totals(), (1, 5, 0))
             with Board(server.port, "--text", "--build", "prefix o any", http_port=board.port):
                 wait_for_text(page, "h2", "prefix o")
-                page.wait("document.querySelectorAll('.card').length === 1")
+                # (the view of the board before is still there)
+                wait_for_cards(page, 2 if server.lists_views() else 1)
                 page.wait("document.body.className === 'live'")
                 want_same("a form of the page", build(page, {"kind": "prefix", "key": "x"}), "View 3 is on the board.")
             page.close()

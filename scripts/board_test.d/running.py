@@ -17,7 +17,7 @@ TOP = Path(__file__).resolve().parent.parent.parent
 CLIENTS = TOP / "clients" / "python"
 sys.path.insert(0, str(CLIENTS))
 
-from rowanspan import Client, NoSuchView, Page  # noqa: E402
+from rowanspan import Client, HelloUnanswered, NoSuchView, Page  # noqa: E402
 
 SECONDS = 30.0
 FORM_TYPE = "application/x-www-form-urlencoded"
@@ -104,6 +104,14 @@ class Server(Program):
 
     def index(self) -> Client:
         return Client(self.port, timeout=SECONDS)
+
+    def lists_views(self) -> bool:
+        """Whether it knows version 3 of the wire, so that a board shows all of its views and knows what they are of."""
+        try:
+            with self.index() as index:
+                return index.hello.version >= 3
+        except HelloUnanswered:
+            return False
 
 
 class Answer(NamedTuple):

@@ -22,13 +22,15 @@ from __future__ import annotations
 
 from typing import TYPE_CHECKING
 
-from . import client, core, mapping, pipeline, pool, wire
+from . import client, core, mapping, pipeline, pool, server, server_queries, wire
 # (the names that each of them lists in its `__all__` are names of the package)
 from .client import *  # noqa: F401,F403
 from .core import *  # noqa: F401,F403
 from .mapping import *  # noqa: F401,F403
 from .pipeline import *  # noqa: F401,F403
 from .pool import *  # noqa: F401,F403
+from .server import *  # noqa: F401,F403
+from .server_queries import *  # noqa: F401,F403
 from .wire import *  # noqa: F401,F403
 
 __all__ = ["Index"]
@@ -37,6 +39,8 @@ __all__ += core.__all__
 __all__ += mapping.__all__
 __all__ += pipeline.__all__
 __all__ += pool.__all__
+__all__ += server.__all__
+__all__ += server_queries.__all__
 __all__ += wire.__all__
 
 if TYPE_CHECKING:

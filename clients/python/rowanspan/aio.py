@@ -18,12 +18,16 @@ from types import TracebackType
 from typing import (TYPE_CHECKING, Any, AsyncIterator, Awaitable, Callable, Deque, List, Optional, Sequence, Tuple,
                     Type, TypeVar, Union, overload)
 
-from .client import check_address
+from .address import Port, checked_address
+from .aio_asked import MAX_MESSAGES, Asked, answered
+from .aio_server import ServerCalls
 from .core import (MAX_LIMIT, BadReply, Closed, ConnectionLost, NoSuchView, OtherVersion, Page, Pairs, Refused,
-                   RowanspanError, Row, Sets, Tidied, TooLong, ViewNo, ViewSpec, checked_count, checked_key,
+                   RowanspanError, Row, Sets, Tidied, ViewNo, ViewSpec, WrongIndex, checked_count, checked_key,
                    checked_number, checked_view, key_after, prefix_end)
-from .wire import (MAX_QUERIES, MAX_REPLY_BODY, MAX_REQUEST_BODY, Build, Get, GetRange, Outcome, Put, PutIf, Query,
-                   Remove, Reply, Tidy, ViewDrop, ViewRead, frame_version, read_replies, request_frame, spelled_query)
+from .server import Greeting, HelloUnanswered
+from .server_queries import Hello, Token, hello_of
+from .wire import (MAX_QUERIES, MAX_REPLY_BODY, Build, Get, GetRange, Outcome, Put, PutIf, Query,
+                   Remove, Reply, Tidy, ViewDrop, ViewRead, frame_version, read_replies, request_frame)
 
 if TYPE_CHECKING:
     import ssl
@@ -36,20 +40,9 @@ RowPairs = AsyncIterator[Tuple[bytes, Row]]
 
 # how many frames are sent whose answers haven't come; further queries wait for their turn in the client
 MAX_SENT = 16
-# the most bytes of queries in a frame: the body has two bytes more
-MAX_MESSAGES = MAX_REQUEST_BODY - 2
 
 
-class Asked:
-    """A query that has no answer yet."""
-
-    def __init__(self, query: Query[Any], answer: asyncio.Future[Outcome]) -> None:
-        self.query, self.message, self.answer = query, spelled_query(query), answer
-        if len(self.message) > MAX_MESSAGES:
-            raise TooLong(f"a query has {len(self.message)} bytes")
-
-
-class Client:
+class Client(ServerCalls):
     """A connection to a server, for all tasks of one event loop.
 
     Queries that tasks ask meanwhile go together, up to 64 in a frame, and are answered in the order in which they were
@@ -60,12 +53,16 @@ class Client:
     dropped when it comes, and the other calls aren't affected. One that wasn't sent yet is never sent.
 
     A client connects at the begin of its `async with` block, or by `connect`; by TLS if it is given a context for it.
+    If it has a token or a name, it says hello then, and raises `NotAllowed` if the server doesn't admit it.
     """
 
-    def __init__(self, port: int, host: str = "127.0.0.1", timeout: Optional[float] = None,
-                 tls: Optional[ssl.SSLContext] = None) -> None:
-        check_address(port, host, timeout, tls)
-        self._port, self._host, self._timeout, self._tls = port, host, timeout, tls
+    def __init__(self, port: Port, host: str = "127.0.0.1", timeout: Optional[float] = None,
+                 tls: Optional[ssl.SSLContext] = None, *, token: Optional[Token] = None,
+                 name: Optional[Token] = None) -> None:
+        self._address = checked_address(port, host, timeout, tls)
+        self._timeout, self._token, self._name = timeout, token, name
+        self._own_hello = hello_of(token, name)
+        self._greeting: Optional[Greeting] = None
         self._writer: Optional[asyncio.StreamWriter] = None
         self._reading: Optional[asyncio.Task[None]] = None
         self._waiting: Deque[Asked] = deque()
@@ -75,7 +72,7 @@ class Client:
         self._ended: Optional[RowanspanError] = Closed("the client hasn't connected")
 
     def __repr__(self) -> str:
-        return f"<rowanspan.aio.Client {self._host}:{self._port}{'' if self._ended is None else ', closed'}>"
+        return f"<rowanspan.aio.Client {self._address}{'' if self._ended is None else ', closed'}>"
 
     async def __aenter__(self) -> Client:
         return await self.connect()
@@ -85,17 +82,54 @@ class Client:
         await self.close()
 
     async def connect(self) -> Client:
-        """Connects, and returns the client. Raises `ConnectionLost` if there is no server, or the timeout is over."""
+        """Connects, and returns the client. Raises `ConnectionLost` if there is no server, or the timeout is over, and
+        `NotAllowed` if the server doesn't admit the client."""
         if self._writer is not None:
             return self
-        opening = asyncio.open_connection(self._host, self._port, ssl=self._tls)
         try:
-            reader, writer = await asyncio.wait_for(opening, self._timeout)
+            reader, writer = await asyncio.wait_for(self._opened(), self._timeout)
         except (OSError, asyncio.TimeoutError, ValueError) as fault:
-            raise ConnectionLost(f"no connection to {self._host}, port {self._port}: {fault}") from fault
-        self._writer, self._ended = writer, None
+            raise ConnectionLost(f"no connection to {self._address.described()}: {fault}") from fault
+        self._writer, self._ended, self._greeting = writer, None, None
         self._reading = asyncio.ensure_future(self._read(reader))
+        if self._own_hello is not None:
+            await self._greet_or_close()
         return self
+
+    async def _greet_or_close(self) -> None:
+        """Says hello. Without an answer that admits the client, the connection is closed."""
+        try:
+            await self.hello()
+        except asyncio.TimeoutError as fault:
+            await self.close()
+            raise ConnectionLost(f"no connection to {self._address.described()}: hello wasn't answered") from fault
+        except BaseException:
+            await self.close()
+            raise
+
+    async def _opened(self) -> Tuple[asyncio.StreamReader, asyncio.StreamWriter]:
+        address = self._address
+        if address.path is None:
+            return await asyncio.open_connection(address.host, address.port, ssl=address.tls)
+        name = None if address.tls is None else address.host
+        return await asyncio.open_unix_connection(address.path, ssl=address.tls, server_hostname=name)
+
+    async def hello(self) -> Greeting:
+        """What the server answered to hello, by which a client with a token or a name begins; one without says it when
+        this is first called. Raises `NotAllowed` if the server doesn't admit the client; as `HelloUnanswered`, which is
+        a `ConnectionLost` too, if it ends the connection, as one does that knows no version 3 of the wire."""
+        if self._greeting is None:
+            try:
+                self._greeting = (await self.call(self._own_hello or Hello())).value
+            except ConnectionLost as fault:
+                raise HelloUnanswered() from fault
+        return self._greeting
+
+    def _another(self) -> Client:
+        if self._ended is not None:
+            raise self._ended
+        address = self._address
+        return Client(address.port, address.host, self._timeout, address.tls, token=self._token, name=self._name)
 
     async def close(self) -> None:
         """Ends the connection, and with it the server's session. Calls that have no answer raise `ConnectionLost`.
@@ -127,8 +161,8 @@ class Client:
             return []
         self._waiting.extend(asked)
         self._flush_soon()
-        answers = asyncio.gather(*(one.answer for one in asked))
-        return list(await asyncio.wait_for(answers, self._timeout))
+        longer = sum(one.query.patience() for one in asked)
+        return await answered([one.answer for one in asked], None if self._timeout is None else self._timeout + longer)
 
     # -- frames
 
@@ -148,10 +182,13 @@ class Client:
                 self._writer.write(request_frame([one.message for one in frame], frame_version(queries)))
 
     def _next_frame(self) -> List[Asked]:
-        """Takes the first queries that wait, as many as fit in a frame, without those that nobody waits for."""
+        """Takes the first queries that wait, as many as fit in a frame, without those that nobody waits for. A query of
+        the server is alone in its frame."""
         frame: List[Asked] = []
         room = MAX_MESSAGES
         while self._waiting and len(frame) < MAX_QUERIES and len(self._waiting[0].message) <= room:
+            if frame and (frame[0].query.is_alone or self._waiting[0].query.is_alone):
+                break
             one = self._waiting.popleft()
             if not one.answer.done():
                 frame.append(one)
@@ -271,6 +308,13 @@ class Client:
     def view(self, number: int) -> View:
         """The view of this number. Asks nothing: if there is no such view, its calls raise `NoSuchView`."""
         return View(self, ViewNo(checked_view(number)))
+
+    def _number_of(self, view: Union[View, int]) -> int:
+        if not isinstance(view, View):
+            return checked_view(view)
+        if view.index is not self:
+            raise WrongIndex(f"this is a view of another index: {view!r}")
+        return view.number
 
 
 class View:

@@ -5,17 +5,21 @@ import abc
 import selectors
 import socket
 import struct
-from typing import TYPE_CHECKING, Any, List, Optional, Sequence, TypeVar
+import time
+from typing import TYPE_CHECKING, Any, Dict, List, Optional, Sequence, TypeVar, Union
 
-from .core import (MAX_LIMIT, BadReply, Closed, ConnectionLost, Page, Pairs, Refused, Row, Sets, Tidied, TooLong,
-                   ViewNo, ViewSpec, checked_number)
-from .mapping import RowMap
+from .address import Port, checked_address
+from .core import (MAX_LIMIT, MAX_NUMBER, BadReply, Closed, ConnectionLost, Page, Pairs, Refused, Row, Sets, Tidied,
+                   ViewNo, ViewSpec)
+from .mapping import RowMap, View, number_of_view
 from .pipeline import Pipeline
+from .server import Greeting, HelloUnanswered, StandingView
+from .server_queries import (SERVER_VERSION, GetInfo, Hello, ListViews, Ping, Stop, Token, Wait, checked_wait, hello_of,
+                             next_of, waits)
 from .wire import (MAX_REPLY_BODY, Build, Get, GetRange, Outcome, Put, PutIf, Query, Remove, Reply, Tidy, ViewDrop,
                    ViewRead, frame_version, read_replies, request_frame, spelled_query)
 
 if TYPE_CHECKING:
-    # (it takes long to import, and most clients don't need it)
     import ssl
 
 __all__ = ["receive", "receive_body", "Asker", "Client"]
@@ -100,57 +104,72 @@ class Asker(RowMap):
     def _drop(self, number: int) -> None:
         self.call(ViewDrop(number))
 
+    # -- the server itself, in version 3 of the wire
+
+    def ping(self) -> int:
+        """Asks whether the server answers. Returns the number of commits."""
+        return self.call(Ping(time.monotonic_ns() & MAX_NUMBER)).value.commits
+
+    def info(self) -> Dict[str, int]:
+        """What the server counts: numbers by their names, such as `commits` and `connections`."""
+        return self.call(GetInfo()).value
+
+    def views(self) -> List[StandingView]:
+        """All views of the server, each with its number, the number of commits at which it is, how many rows it has
+        then, and what it is of."""
+        return self.call(ListViews()).value.views
+
+    def wait(self, commit: Optional[int] = None, view: Union[View, int, None] = None,
+             timeout: Optional[float] = None) -> bool:
+        """Waits until there are `commit` commits; with a view of this index, or its number, until that is at so many.
+        Without `commit` it waits for the next one. Returns whether it was reached in `timeout` seconds (None: waits
+        without end). The server says so when it is reached, so nothing is asked in between. Raises `NoSuchView`."""
+        number, time_left = None if view is None else number_of_view(self, view), checked_wait(timeout)
+        if commit is None:
+            commit = next_of(self.call(Wait(0, number)).value, number)
+        return any(self.call(query).value.is_reached for query in waits(commit, number, time_left))
+
+    def stop(self, at_once: bool = False) -> int:
+        """Ends the server: frames that came are answered first, unless it is to end at once. Returns the number of
+        commits. Raises `NotAllowed` if the role of the client's token isn't `Role.ALL`."""
+        return self.call(Stop(at_once)).value
+
 
 # ---- the connection
-
-def check_address(port: Any, host: Any, timeout: Any, tls: Any) -> None:
-    """Raises TypeError if one of them is of a wrong type, and `TooLong` for a timeout that is no time to wait."""
-    checked_number(port, "a port", 65535)
-    if not isinstance(host, str):
-        raise TypeError(f"a host must be a str, not {type(host).__name__}")
-    if timeout is not None and not isinstance(timeout, (int, float)):
-        raise TypeError(f"a timeout must be a number of seconds or None, not {type(timeout).__name__}")
-    if timeout is not None and not 0 < timeout < float("inf"):
-        raise TooLong(f"a timeout must be more than 0 seconds, or None to wait without end, not {timeout}")
-    if tls is not None and not hasattr(tls, "wrap_socket"):
-        raise TypeError(f"tls must be an ssl.SSLContext or None, not {type(tls).__name__}")
-
-
-def connected(port: int, host: str, timeout: Optional[float], tls: Optional[ssl.SSLContext]) -> socket.socket:
-    """A connection to a server, by TLS if there is a context for it. Raises OSError or ValueError."""
-    connection = socket.create_connection((host, port), timeout)
-    try:
-        connection.setsockopt(socket.IPPROTO_TCP, socket.TCP_NODELAY, 1)
-        return connection if tls is None else tls.wrap_socket(connection, server_hostname=host)
-    except BaseException:
-        connection.close()
-        raise
-
 
 class Client(Asker):
     """A connection to a server, for one thread at a time: give each thread its own.
 
-    `timeout` is for how many seconds a connect, a send or a receive may wait (None: without end); one that waits longer
-    closes the connection. `tls` is how a server behind a TLS proxy is spoken to, such as
-    `ssl.create_default_context()`. A server has as many workers as it serves connections at once: if all are busy, a call
-    waits until another client has closed its connection.
+    `port` is a port of `host`, or `unix:` and the path of a Unix socket. `timeout` is for how many seconds a connect, a
+    send or a receive may wait (None: without end); one that waits longer closes the connection. `tls` is how a server
+    behind a TLS proxy is spoken to, such as `ssl.create_default_context()`.
+
+    `token` is the secret that a server may ask for, and `name` is for the people that look after it: up to 64 bytes. If
+    one of them is given, the client says hello first, which only a server that knows version 3 of the wire answers. If
+    the server doesn't admit it, it raises `NotAllowed`.
 
     A call sends one frame and waits for its answer: one round trip. `range` makes as many calls as it needs, each of
     which returns up to 1000 rows. `pipeline` sends up to 64 queries in one frame.
     """
 
-    def __init__(self, port: int, host: str = "127.0.0.1", timeout: Optional[float] = None,
-                 tls: Optional[ssl.SSLContext] = None) -> None:
+    def __init__(self, port: Port, host: str = "127.0.0.1", timeout: Optional[float] = None,
+                 tls: Optional[ssl.SSLContext] = None, *, token: Optional[Token] = None,
+                 name: Optional[Token] = None) -> None:
         self._connection: Optional[socket.socket] = None
         self._is_lost = False
-        check_address(port, host, timeout, tls)
-        self._address = f"{host}:{port}"
+        self._timeout = timeout
+        self._address = checked_address(port, host, timeout, tls)
+        own_hello = hello_of(token, name)
+        self._own_hello = own_hello or Hello()
+        self._greeting: Optional[Greeting] = None
         try:
-            self._connection = connected(port, host, timeout, tls)
+            self._connection = self._address.connected(timeout)
         except (OSError, OverflowError, ValueError) as fault:
             # (a ValueError: the host is no name that can be looked up)
             self.close()
-            raise ConnectionLost(f"no connection to {host}, port {port}: {fault}") from fault
+            raise ConnectionLost(f"no connection to {self._address.described()}: {fault}") from fault
+        if own_hello is not None:
+            self._greet_or_close()
 
     def __repr__(self) -> str:
         state = "" if self._connection is not None else ", lost" if self._is_lost else ", closed"
@@ -171,19 +190,62 @@ class Client(Asker):
     # -- frames
 
     def exchange(self, queries: Sequence[Query[Any]], messages: Sequence[bytes]) -> List[Outcome]:
-        connection, frame = self._connection, request_frame(messages, frame_version(queries))
+        connection, version = self._connection, frame_version(queries)
+        frame = request_frame(messages, version)
         if connection is None:
             raise (ConnectionLost("the connection was lost before; make a new client") if self._is_lost
                    else Closed("the index is closed"))
         try:
-            connection.sendall(frame)
-            return read_replies(receive_body(connection), queries)
+            if version < SERVER_VERSION or self._timeout is None:
+                connection.sendall(frame)
+                return read_replies(receive_body(connection), queries)
+            return self._exchange_patiently(connection, frame, queries, self._timeout)
         except BaseException as fault:
             # a reply may still come, which would be taken for that to the next frame
             self._lose()
             if isinstance(fault, OSError) and not isinstance(fault, ConnectionLost):
                 raise ConnectionLost(f"the connection broke: {fault}") from fault
             raise
+
+    @staticmethod
+    def _exchange_patiently(connection: socket.socket, frame: bytes, queries: Sequence[Query[Any]],
+                            timeout: float) -> List[Outcome]:
+        """Sends a frame and receives its answers, which may take longer than the timeout by as much as the queries
+        say."""
+        connection.settimeout(timeout + sum(query.patience() for query in queries))
+        connection.sendall(frame)
+        outcomes = read_replies(receive_body(connection), queries)
+        connection.settimeout(timeout)
+        return outcomes
+
+    # -- hello
+
+    @property
+    def hello(self) -> Greeting:
+        """What the server answered to hello, by which a client with a token or a name begins; one without says it when
+        this is first asked for. Raises `NotAllowed` if the server doesn't admit the client; as `HelloUnanswered`, which
+        is a `ConnectionLost` too, if it ends the connection, as one does that knows no version 3 of the wire."""
+        if self._greeting is None:
+            self._greeting = self._greet()
+        return self._greeting
+
+    def _greet(self) -> Greeting:
+        try:
+            return self.call(self._own_hello).value
+        except ConnectionLost as fault:
+            if isinstance(fault.__cause__, socket.timeout):
+                raise
+            raise HelloUnanswered() from fault
+
+    def _greet_or_close(self) -> None:
+        """Says hello. Without an answer that admits the client, the connection is closed."""
+        try:
+            self._greeting = self._greet()
+        except BaseException:
+            self.close()
+            raise
+
+    # -- whether it is there
 
     @property
     def is_lost(self) -> bool:

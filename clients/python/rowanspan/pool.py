@@ -6,8 +6,11 @@ import threading
 import time
 from typing import TYPE_CHECKING, Any, List, Optional, Sequence, Tuple
 
-from .client import Asker, Client, check_address
+from .address import Port, checked_address
+from .client import Asker, Client
 from .core import Closed, ConnectionLost, RowanspanError, checked_count
+from .server import Greeting
+from .server_queries import GetInfo, Hello, ListViews, Ping, Token, Wait, hello_of
 from .wire import Get, GetRange, Outcome, Query, ViewRead, frame_version, request_frame
 
 if TYPE_CHECKING:
@@ -30,24 +33,26 @@ class Pool(Asker):
             index.put(b"apple", b"red")
 
     A call uses a connection that no other call uses. It opens one if there are fewer than `size`, and otherwise waits
-    for one: at most `timeout` seconds, and then raises `Busy`. `timeout` and `tls` are also those of each
-    connection.
+    for one: at most `timeout` seconds, and then raises `Busy`. `timeout`, `tls`, `token` and `name` are also those of
+    each connection. A call of `wait` uses one for as long as it waits.
 
-    A connection that broke is replaced. Gets, ranges and pages change nothing: if their connection breaks, they are
-    asked once more by a new one. A change is never asked twice: if its connection breaks, it raises `ConnectionLost`,
-    and it isn't known whether it was done. A connection that its server has ended while nobody used it, as at a restart,
-    is seen to have ended before it is used again.
+    A connection that broke is replaced. Gets, ranges, pages and queries of the server but stop change nothing: if their
+    connection breaks, they are asked once more by a new one. A change is never asked twice: if its connection breaks,
+    it raises `ConnectionLost`, and it isn't known whether it was done. A connection that its server has ended while
+    nobody used it, as at a restart, is seen to have ended before it is used again.
 
     The connections are opened when they are first needed. Two calls of one thread may use two connections: the second
     sees what the first has changed, as that has ended before.
     """
 
-    def __init__(self, port: int, host: str = "127.0.0.1", size: int = 8, timeout: Optional[float] = None,
-                 tls: Optional[ssl.SSLContext] = None) -> None:
-        check_address(port, host, timeout, tls)
+    def __init__(self, port: Port, host: str = "127.0.0.1", size: int = 8, timeout: Optional[float] = None,
+                 tls: Optional[ssl.SSLContext] = None, *, token: Optional[Token] = None,
+                 name: Optional[Token] = None) -> None:
+        self._address = checked_address(port, host, timeout, tls)
         if checked_count(size, "a size") == 0:
             raise ValueError("a pool has at least one connection")
-        self._port, self._host, self._size, self._timeout, self._tls = port, host, size, timeout, tls
+        hello_of(token, name)
+        self._size, self._timeout, self._token, self._name = size, timeout, token, name
         # guards all below, and says when a connection was given back
         self._changed = threading.Condition()
         # those that no call uses, with the time of their last use; the one that was used last is the last
@@ -56,7 +61,7 @@ class Pool(Asker):
         self._is_closed = False
 
     def __repr__(self) -> str:
-        return f"<rowanspan.Pool {self._host}:{self._port}{', closed' if self._is_closed else ''}>"
+        return f"<rowanspan.Pool {self._address}{', closed' if self._is_closed else ''}>"
 
     def __enter__(self) -> Pool:
         return self
@@ -90,6 +95,15 @@ class Pool(Asker):
         finally:
             self._give_back(client)
 
+    @property
+    def hello(self) -> Greeting:
+        """What the server answered to the hello of one of the connections, as `Client.hello`."""
+        client = self._take()
+        try:
+            return client.hello
+        finally:
+            self._give_back(client)
+
     # -- connections
 
     def _take(self, is_new: bool = False) -> Client:
@@ -98,7 +112,8 @@ class Pool(Asker):
         if client is not None:
             return client
         try:
-            return Client(self._port, self._host, self._timeout, self._tls)
+            address = self._address
+            return Client(address.port, address.host, self._timeout, address.tls, token=self._token, name=self._name)
         except BaseException:
             self._release()
             raise
@@ -145,4 +160,4 @@ class Pool(Asker):
 
 def changes_nothing(query: Query[Any]) -> bool:
     """Whether a query can be asked twice."""
-    return isinstance(query, (Get, GetRange, ViewRead))
+    return isinstance(query, (Get, GetRange, ViewRead, Hello, Ping, GetInfo, ListViews, Wait))

@@ -4,12 +4,13 @@ from __future__ import annotations
 import argparse
 import os
 import sys
-from pathlib import Path
 from typing import TYPE_CHECKING, Any, Callable, Iterable, List, Optional, Sequence
 
-from .client import Client
 from .core import BadColumn, BadReply, ConnectionLost, NoLibrary, Refused, TooLong
+from .options import add_server_options, connected
 from .places import third_party, version
+from .server_command import COMMANDS
+from .server_command import main as ask_server
 from .serving import NoServer, serve
 from .text import HEX, TEXT, BadLine, Notation, outcome_line, read_query
 from .wire import (Build, Get, GetRange, Outcome, Put, PutIf, Query, Remove, Reply, Tidy, ViewDrop, ViewRead,
@@ -19,16 +20,18 @@ if TYPE_CHECKING:
     from .embedded import Index
 
 USES = """\
-rowan [-p PORT [--host HOST] [--timeout SECONDS] [--tls [--ca FILE]] | --embedded [--columns N]] [--text] [WORD ..]
+rowan [-p PORT [OPTION ..] | --embedded [--columns N]] [--text] [WORD ..]
        rowan serve [OPTION ..]
+       rowan info | views [--text] | ping [--wait SECONDS] | stop [--now] -p PORT [OPTION ..]
        rowan board -p PORT [OPTION ..]
        rowan mirror postgres | etcd -p PORT [OPTION ..]
        rowan --version | --licenses"""
 
 LINES = """\
-`rowan serve` runs the server mtserve, with the options of mtserve (`rowan serve --help`). `rowan board` shows the views
-of a server in a browser (`rowan board --help`). `rowan mirror` keeps rows of a server as another system has them
-(`rowan mirror --help`).
+`rowan serve` runs the server mtserve, with the options of mtserve (`rowan serve --help`). `rowan info` prints what a
+server counts, `rowan views` its views, `rowan ping` whether it answers, and `rowan stop` ends it (`rowan info --help`,
+..). `rowan board` shows the views of a server in a browser (`rowan board --help`). `rowan mirror` keeps rows of a
+server as another system has them (`rowan mirror --help`).
 
 Lines, whose words are separated by one space, and their answers:
   get KEY COLS                   done FROM TO row VERSION VALUES, or done FROM TO absent
@@ -48,8 +51,9 @@ COL NUMBER. FROM and TO are the numbers of commits at the call's begin and end. 
 followed by a number. If a line can't be read, or doesn't fit the wire, the answer is bad line, and standard error says
 why: the line's number, the word, and what was expected.
 
-Status: 0; 1 if a line was bad; 2 for a bad command line; 3 if there is no connection, or it breaks, if the library or
-the server isn't there, or if standard input or output fails; 130 if it was interrupted.
+Status: 0; 1 if a line was bad; 2 for a bad command line; 3 if there is no connection, it breaks, or the server doesn't
+admit the client, if the library or the server isn't there, or if standard input or output fails; 130 if it was
+interrupted.
 """
 
 
@@ -58,22 +62,6 @@ MAX_LINE = 1 << 20
 
 
 # ---- the command line
-
-def port(word: str) -> int:
-    """The number of a port."""
-    value = int(word)
-    if not 0 <= value <= 65535:
-        raise ValueError(word)
-    return value
-
-
-def seconds(word: str) -> float:
-    """A time to wait."""
-    value = float(word)
-    if not 0 < value < float("inf"):
-        raise ValueError(word)
-    return value
-
 
 class Licences(argparse.Action):
     """The option that prints the licences, and ends the program."""
@@ -90,13 +78,7 @@ def parser() -> argparse.ArgumentParser:
     made = argparse.ArgumentParser(
         prog="rowan", usage=USES, description="Asks an index of Rowanspan, line by line.", epilog=LINES,
         formatter_class=argparse.RawDescriptionHelpFormatter)
-    made.add_argument("-p", "--port", type=port, help="asks the server at this port")
-    made.add_argument("--host", help="the server's address (127.0.0.1)")
-    made.add_argument("--timeout", type=seconds, metavar="SECONDS",
-                      help="how long an answer of the server may take (without end)")
-    made.add_argument("--tls", action="store_true", help="speaks TLS, to a proxy in front of the server")
-    made.add_argument("--ca", type=Path, metavar="FILE",
-                      help="the certificates that a server's is signed by (those of the system); with --tls")
+    add_server_options(made, is_required=False)
     made.add_argument("--embedded", action="store_true",
                       help="asks an index in this process, which is empty at first and ends with it")
     made.add_argument("--columns", type=int, metavar="N", help="how many columns the index of this process has (1)")
@@ -115,8 +97,9 @@ def parsed(words: Sequence[str]) -> argparse.Namespace:
     options = made.parse_args(words)
     if options.embedded == (options.port is not None):
         made.error("one of -p PORT and --embedded is needed")
-    if options.embedded and (options.host is not None or options.timeout is not None or options.tls):
-        made.error("--host, --timeout and --tls are for a server")
+    if options.embedded and (options.tls or any(
+            one is not None for one in (options.host, options.timeout, options.token))):
+        made.error("--host, --timeout, --tls and --token-file are for a server")
     if options.ca is not None and not options.tls:
         made.error("--ca is for --tls")
     if options.columns is not None and not options.embedded:
@@ -228,12 +211,7 @@ def answer_by_index(options: argparse.Namespace, lines: Iterable[str], notation:
 
 def answer_by_server(options: argparse.Namespace, lines: Iterable[str], notation: Notation) -> int:
     """Answers lines over a connection to a server; returns the status."""
-    tls = None
-    if options.tls:
-        import ssl
-
-        tls = ssl.create_default_context(cafile=options.ca)
-    with Client(options.port, options.host or "127.0.0.1", options.timeout, tls) as index:
+    with connected(options, options.timeout) as index:
         return answer_all(lambda query: index.call_all([query])[0], lines, notation)
 
 
@@ -251,7 +229,13 @@ def main(arguments: Optional[Sequence[str]] = None) -> int:
             from .mirror.command import main as mirror
 
             return mirror(given[1:])
+        if given[:1] and given[0] in COMMANDS:
+            return ask_server(given[0], given[1:], write_line, complain)
         options = parsed(given)
+        if options.words and options.words[0] in COMMANDS:
+            # (the command after the options of the connection)
+            front = given[:len(given) - len(options.words)]
+            return ask_server(options.words[0], [*front, *options.words[1:]], write_line, complain)
         words: List[str] = options.words[1:] if options.words[:1] == ["--"] else options.words
         lines = [" ".join(words)] if words else lines_of_input()
         for stream in range(3):

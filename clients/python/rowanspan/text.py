@@ -265,17 +265,19 @@ def sets_text(sets: Sequence[Tuple[int, bytes]]) -> str:
     return ",".join(f"{column}={HEX.write(value)}" for column, value in sets) if sets else "-"
 
 
-def test_text(test: RowTest) -> str:
+def test_text(test: RowTest, notation: Notation = HEX) -> str:
     if isinstance(test, Equals):
-        return f"equals {test.column} {HEX.write(test.value)}"
+        return f"equals {test.column} {notation.write(test.value)}"
     return f"atleast {test.column} {test.least}" if isinstance(test, AtLeast) else "any"
 
 
-def spec_text(spec: ViewSpec) -> str:
+def spec_text(spec: ViewSpec, notation: Notation = HEX) -> str:
+    """`prefix KEY TEST` or `range LO HI TEST`, as the line `build` has it."""
+    test = test_text(spec.test, notation)
     if isinstance(spec, Prefix):
-        return f"prefix {HEX.write(spec.key)} {test_text(spec.test)}"
-    end = "none" if spec.hi is None else HEX.write(spec.hi)
-    return f"range {HEX.write(spec.lo)} {end} {test_text(spec.test)}"
+        return f"prefix {notation.write(spec.key)} {test}"
+    end = "none" if spec.hi is None else notation.write(spec.hi)
+    return f"range {notation.write(spec.lo)} {end} {test}"
 
 
 def request_text(query: Query[Any]) -> str:

@@ -9,6 +9,7 @@ from .core import (MAX_KEY_BYTES, MAX_LIMIT, REFUSALS, AtLeast, BadReply, Column
                    Pairs, Prefix, Refused, Row, RowTest, Sets, Tidied, TooLong, ViewNo, ViewSpec, checked_bytes,
                    checked_column, checked_columns, checked_limit, checked_number, checked_spec, checked_test,
                    checked_view, set_pairs)
+from .server import SERVER_REFUSALS
 
 __all__ = [
     "MAX_QUERIES", "MAX_REQUEST_BODY", "MAX_REPLY_BODY", "spelled_number", "spelled_key", "spelled_bytes", "Reader",
@@ -160,6 +161,12 @@ class AnswerKind(enum.IntEnum):
     BUILT = 6
     VIEW = 7
     DROPPED = 8
+    HELLO = 16
+    PING = 17
+    INFO = 18
+    VIEWS = 19
+    WAITED = 20
+    STOPPED = 21
 
     def has_span(self) -> bool:
         """Whether the numbers of commits at the call's begin and end follow."""
@@ -171,13 +178,22 @@ Answers = Mapping[AnswerKind, Callable[[Reader], Value]]
 
 
 class Query(Generic[Value]):
-    """What a client asks: its bytes, how its answers are read, and since which version the wire has it."""
+    """What a client asks: its bytes, how its answers are read, since which version the wire has it, and whether it has
+    to be the only one of its frame."""
 
     since: ClassVar[int] = 1
+    is_alone: ClassVar[bool] = False
     answers: ClassVar[Answers[Any]] = {}
 
     def spelled(self) -> bytes:
         raise NotImplementedError
+
+    def check(self, value: Any) -> None:
+        """Raises ValueError if this value, as it was read, can't be the answer."""
+
+    def patience(self) -> float:
+        """For how many seconds the server may wait before it answers."""
+        return 0.0
 
 
 @dataclass(frozen=True)
@@ -303,7 +319,7 @@ def spelled_query(query: Query[Any]) -> bytes:
 @dataclass(frozen=True)
 class Reply(Generic[Value]):
     """The value of a query, and the numbers of commits when its call began and when it ended. Both numbers are None for
-    a page, whose `at` is its view's number of commits, and for a drop."""
+    a page, whose `at` is its view's number of commits, for a drop, and for queries of the server."""
 
     value: Value
     from_: Optional[int] = None
@@ -332,7 +348,7 @@ def request_frame(messages: Sequence[bytes], version: int = 1) -> bytes:
 def read_refusal(reader: Reader) -> Refused:
     """A refusal, after its first byte."""
     number, detail = reader.number(1), reader.number(8)
-    kind = REFUSALS.get(number)
+    kind = REFUSALS.get(number) or SERVER_REFUSALS.get(number)
     if kind is None or (detail and not kind.has_detail):
         raise ValueError(f"there is no refusal {number} with {detail}")
     return kind(detail) if kind.has_detail else kind()
@@ -346,10 +362,10 @@ def read_outcome(reader: Reader, query: Query[Any]) -> Outcome:
     read = query.answers.get(kind)
     if read is None:
         raise ValueError(f"{kind.name} answers no {type(query).__name__}")
-    if not kind.has_span():
-        return Reply(read(reader))
-    from_, to = reader.number(8), reader.number(8)
-    return Reply(read(reader), from_, to)
+    from_, to = (reader.number(8), reader.number(8)) if kind.has_span() else (None, None)
+    value = read(reader)
+    query.check(value)
+    return Reply(value, from_, to)
 
 
 def read_replies(body: bytes, queries: Sequence[Query[Any]]) -> List[Outcome]:

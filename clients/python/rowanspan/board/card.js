@@ -85,8 +85,7 @@ export class Card {
     setText(this.find("h2"), view.name || (words ? spec : `View ${view.number}`));
     setText(this.find(".number"), words && view.number !== "0" ? `view ${view.number}` : "");
     setText(this.find(".words"), view.name || !words ? spec : "");
-    // (a view that the board has built is the board's own)
-    this.find(".hide").hidden = words !== undefined;
+    this.find(".hide").hidden = view.isOwn;
     for (const [button, does] of [[".drop", "Drop"], [".hide", "Hide"]]) {
       this.find(button).setAttribute("aria-label", `${does} view ${view.number}, ${view.name || spec}`);
     }

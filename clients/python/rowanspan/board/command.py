@@ -9,9 +9,11 @@ from contextlib import contextmanager
 from functools import partial
 from typing import Callable, Iterator, List, Sequence, Tuple
 
+from ..address import Address
 from ..client import Client
 from ..core import BadReply, ConnectionLost, RowanspanError, TooLong, ViewNo, ViewSpec
-from ..shell import port, seconds
+from ..options import add_token_file, address, port, seconds
+from ..server import NotAllowed
 from ..text import HEX, LONG, TEXT, BadLine, Notation, read_number, read_query
 from ..wire import Build
 from .guard import ADDRESS, Tokens
@@ -25,16 +27,16 @@ Shows the standing views of a server in a browser, as they change: count, sums, 
 127.0.0.1, and writes its address on standard output. The page can build views and drop them.
 """
 NOTES = """\
-A server can't list its views. So the board shows those that it built, by --build or by the form on the page, and those
-that --view or the form names, whose specification it doesn't know. At its end it drops the views that it built, and no
-others.
+The board shows all views of the server, if the server knows version 3 of the wire. Another server can't list them: then
+the board shows those that it built, by --build or by the form on the page, and those that --view or the form names,
+whose specification it doesn't know. At its end it drops the views that it built, and no others.
 
 SPEC is that of a line of rowan: `range LO HI TEST` or `prefix KEY TEST`, in hex, or with --text as text (rowan --help).
-The board takes one of the server's workers, however many browsers look: start the server with one more.
+The board has two connections to the server, however many browsers look.
 
 Status: 1 if a view that is named isn't there, or can't be built; 2 for a bad command line; 3 if there is no connection
-to the server at the start, or the port of --http is taken; 130 if it was interrupted. A server that is lost later is
-waited for.
+to the server at the start, it doesn't admit the board, or the port of --http is taken; 130 if it was interrupted. A
+server that is lost later is waited for.
 """
 
 
@@ -58,8 +60,10 @@ def checked_word(word: str, most: int, least: int = 0) -> int:
 def parser() -> argparse.ArgumentParser:
     made = argparse.ArgumentParser(prog="rowan board", usage=USES, description=ABOUT, epilog=NOTES,
                                    formatter_class=argparse.RawDescriptionHelpFormatter)
-    made.add_argument("-p", "--port", type=port, required=True, help="the server's port")
+    made.add_argument("-p", "--port", type=address, required=True,
+                      help="the server's port, or unix:PATH for its Unix socket")
     made.add_argument("--host", default="127.0.0.1", help="the server's address (127.0.0.1)")
+    add_token_file(made)
     made.add_argument("--http", type=port, default=8080, metavar="PORT",
                       help="the port at which browsers find the board (8080); 0 takes any free one")
     made.add_argument("--view", type=lambda word: checked_word(word, LONG, 1), action="append", default=[], metavar="N",
@@ -136,12 +140,20 @@ def fill(poller: Poller, views: Sequence[int], specs: Sequence[ViewSpec], words:
             raise RowanspanError(f"{label}: {fault}") from fault
 
 
-def serve(options: argparse.Namespace, specs: Sequence[ViewSpec], server: BoardServer) -> int:
-    """Shows the board until a signal ends it; returns the status."""
-    board = Board(f"{options.host}:{options.port}", options.rows, Tokens())
-    poller = Poller(board, lambda: Client(options.port, options.host, options.timeout))
+def start(poller: Poller) -> None:
+    """Connects the poller, and starts it. Raises `ConnectionLost`."""
     try:
         poller.start()
+    except NotAllowed as fault:
+        raise ConnectionLost(f"the server doesn't admit the board: {fault}") from fault
+
+
+def serve(options: argparse.Namespace, specs: Sequence[ViewSpec], server: BoardServer) -> int:
+    """Shows the board until a signal ends it; returns the status."""
+    board = Board(str(Address(options.port, options.host)), options.rows, Tokens())
+    poller = Poller(board, lambda: Client(options.port, options.host, options.timeout, token=options.token))
+    try:
+        start(poller)
         fill(poller, options.view, specs, options.build)
         server.served = Served(board, poller, options.columns_as)
         print(f"board at http://{ADDRESS}:{server.server_port}/", flush=True)

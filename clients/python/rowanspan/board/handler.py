@@ -186,8 +186,8 @@ class Handler(BaseHTTPRequestHandler):
         word = fields.get("id", "")
         self._check_token(served, f"drop {word}", fields)
         card = served.board.card(int(word))
-        if card is not None and card.spec is None and "hide" in fields:
-            served.board.remove(card.id)
+        if card is not None and not card.is_own() and "hide" in fields:
+            served.board.hide(card)
         elif card is not None:
             served.poller.drop(card)
         return {"id": int(word)}

@@ -85,7 +85,8 @@ def card_event(card: Card) -> Event:
     page = card.page
     return event("view", {
         "id": card.id, "number": str(card.number), "name": card.name, "token": card.token, "trouble": card.trouble,
-        "note": card.note, "spec": None if card.spec is None else spec_words(card.spec), "lag": str(card.lag),
+        "note": card.note, "isOwn": card.is_own(), "lag": str(card.lag),
+        "spec": None if card.spec is None else spec_words(card.spec),
         "page": None if page is None else {
             "at": str(page.at), "count": str(page.count), "sums": [str(number) for number in page.sums],
             "rows": [row_value(key, row) for key, row in page.rows]}})

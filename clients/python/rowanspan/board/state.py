@@ -6,9 +6,10 @@ import secrets
 import threading
 from collections import deque
 from dataclasses import dataclass, field
-from typing import Deque, Dict, List, NamedTuple, Optional, Tuple
+from typing import Deque, Dict, List, NamedTuple, Optional, Sequence, Set, Tuple
 
 from ..core import Page, ViewNo, ViewSpec
+from ..server import StandingView
 from .guard import Tokens
 from .showing import Event, board_event, card_event, samples_event
 
@@ -31,6 +32,14 @@ class Link(enum.Enum):
     LOST = "lost"
 
 
+class Origin(enum.Enum):
+    """How a view came to the board: it built it, its number was named, or the server listed it."""
+
+    BUILT = "built"
+    NAMED = "named"
+    LISTED = "listed"
+
+
 @dataclass(frozen=True)
 class Sample:
     """The count and the sums of a view in one second since the board began."""
@@ -44,7 +53,8 @@ class Sample:
 class Card:
     """A view on the board: its number at the server, and the last page that was read. `floor` is the commit that the
     next page has to show at least; `trouble` says why no page comes, and is empty as long as pages come. `note` is
-    there if the specification isn't known. A view that `is_over` can't come back."""
+    there if the specification isn't known. A view that `is_over` can't come back. The board drops only those that it
+    has built, unless it is asked to."""
 
     id: int
     number: ViewNo
@@ -59,8 +69,13 @@ class Card:
     is_over: bool = False
     revision: int = 0
     samples: Deque[Sample] = field(default_factory=lambda: deque(maxlen=WINDOW))
+    origin: Origin = Origin.NAMED
     # the event of the revision that is named
     rendered: Tuple[int, Event] = (0, Event("", b""))
+
+    def is_own(self) -> bool:
+        """Whether the board has built it: it drops no other at its end."""
+        return self.origin is Origin.BUILT
 
     def can_be_read(self) -> bool:
         """Whether its number is that of the view at the server, as far as the board knows."""
@@ -106,6 +121,8 @@ class Board:
         self.instance = secrets.token_hex(8)
         self._changed = threading.Condition()
         self._cards: Dict[int, Card] = {}
+        # views that are not to be shown, though the server lists them
+        self._hidden: Set[ViewNo] = set()
         self._last_id = 0
         self._revision = self._own_revision = 1
         self._link, self._why = Link.LIVE, ""
@@ -128,21 +145,56 @@ class Board:
             if len(self._cards) >= MAX_CARDS:
                 raise Full(f"the board shows {MAX_CARDS} views already")
 
-    def add(self, number: ViewNo, spec: Optional[ViewSpec], name: str = "") -> Card:
+    def add(self, number: ViewNo, spec: Optional[ViewSpec], name: str = "", origin: Origin = Origin.NAMED) -> Card:
         """Adds a view, whose specification may be unknown."""
         with self._changed:
             self._last_id += 1
             token, note = self.tokens.of(f"drop {self._last_id}"), UNKNOWN if spec is None else ""
-            card = Card(self._last_id, number, name, spec, token, note)
+            card = Card(self._last_id, number, name, spec, token, note, origin=origin)
             self._cards[card.id] = card
+            self._hidden.discard(number)
             self._change(card)
             self._change()
             return card
+
+    def name_listed(self, number: ViewNo, name: str) -> Optional[Card]:
+        """Takes a view that the server has listed as one that was named. None if it isn't on the board so."""
+        with self._changed:
+            for card in self._cards.values():
+                if card.number == number and card.origin is Origin.LISTED:
+                    card.origin, card.name = Origin.NAMED, name
+                    self._change(card)
+                    return card
+            return None
 
     def remove(self, card_id: int) -> None:
         with self._changed:
             if self._cards.pop(card_id, None) is not None:
                 self._change()
+
+    def hide(self, card: Card) -> None:
+        """Takes a view off the board. It isn't shown again if the server lists it."""
+        with self._changed:
+            if card.can_be_read():
+                self._hidden.add(card.number)
+            self.remove(card.id)
+
+    def take_list(self, views: Sequence[StandingView]) -> None:
+        """Takes what the server lists: those that are new come to the board, as far as there is room, and those that
+        had come so and are gone leave it. The specifications of all are known."""
+        with self._changed:
+            listed = {view.number: view for view in views}
+            known = [card for card in self._cards.values() if card.can_be_read()]
+            for card in known:
+                view = listed.get(card.number)
+                if view is None and card.origin is Origin.LISTED:
+                    self.remove(card.id)
+                elif view is not None and card.spec is None:
+                    card.spec, card.note = view.spec, ""
+                    self._change(card)
+            for number in sorted(listed.keys() - {card.number for card in known} - self._hidden):
+                if len(self._cards) < MAX_CARDS:
+                    self.add(number, listed[number].spec, origin=Origin.LISTED)
 
     def show(self, card: Card, page: Page, lag: int, second: int) -> None:
         """Takes a page of a view that was read in this second, and by how many commits the view lagged behind."""
@@ -161,13 +213,18 @@ class Board:
                 card.trouble = why
                 self._change(card)
 
-    def start_again(self, card: Card) -> None:
-        """The server was started again, so its commits begin again: a view whose specification is known has to be built
-        again, and another one is over."""
+    def start_again(self) -> None:
+        """The server was started again, so its commits begin again: views that the board has built have to be built
+        again, and those that were named are over. Others leave the board."""
         with self._changed:
-            card.floor, card.is_over = 0, card.spec is None
-            card.number, card.trouble = (card.number, OVER) if card.is_over else (NO_VIEW, STARTED_AGAIN)
-            self._change(card)
+            self._hidden.clear()
+            for card in list(self._cards.values()):
+                if card.origin is Origin.LISTED:
+                    self.remove(card.id)
+                    continue
+                card.floor, card.is_over = 0, card.origin is Origin.NAMED
+                card.number, card.trouble = (card.number, OVER) if card.is_over else (NO_VIEW, STARTED_AGAIN)
+                self._change(card)
 
     def rebuilt(self, card: Card, number: ViewNo) -> None:
         """A view was built again, and has this number."""

@@ -7,7 +7,7 @@ import sys
 from typing import List, Optional, Sequence
 
 from ..core import RowanspanError
-from ..shell import port, seconds
+from ..options import add_token_file, address, seconds
 from .errors import BadMapping, NeedsDecision, SourceLost
 from .following import follow
 from .frames import FrameClient
@@ -46,8 +46,10 @@ def name(word: str) -> str:
 
 
 def add_common(made: argparse.ArgumentParser) -> None:
-    made.add_argument("-p", "--port", type=port, required=True, help="the server's port")
+    made.add_argument("-p", "--port", type=address, required=True,
+                      help="the server's port, or unix:PATH for its Unix socket")
     made.add_argument("--host", default="127.0.0.1", help="the server's address (127.0.0.1)")
+    add_token_file(made)
     made.add_argument("--name", type=name, required=True,
                       help="the mirror's name: each mirror of a server has another, and so has each of a PostgreSQL")
     made.add_argument("--from", dest="low", default="", metavar="KEY", help="mirrors only the keys from this one on")
@@ -122,7 +124,7 @@ def run(options: argparse.Namespace) -> None:
         owner = owner_of(source.identity, *words_of(options))
         high: Optional[bytes] = None if options.high is None else options.high.encode()
         columns = len(options.column) if options.kind == "postgres" else max(1, len(options.column))
-        with FrameClient(options.port, options.host, options.timeout) as index:
+        with FrameClient(options.port, options.host, options.timeout, token=options.token) as index:
             target = Target(index, options.name, owner, Keys(source.prefix, options.low.encode(), high), columns)
             follow(source, target, options.settle, complain)
     finally:

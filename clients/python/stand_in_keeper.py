@@ -1,0 +1,102 @@
+"""The part of the stand-in that answers as a server and not as its index: who may ask what, and its own queries. It
+follows docs/WIRE.md alone."""
+from __future__ import annotations
+
+import os
+import threading
+import time
+from dataclasses import dataclass
+from typing import TYPE_CHECKING, Any, Callable, Dict, List, Mapping, Optional, Sequence
+
+from rowanspan import (Get, GetInfo, GetRange, Greeting, Hello, ListViews, NotAllowed, Ping, Pong, Query, Refused, Role,
+                       Stop, TooMuchAtOnce, ViewRead, Wait)
+from stand_in_wire import (spelled_greeting, spelled_info, spelled_listing, spelled_pong, spelled_refusal,
+                           spelled_stopped, spelled_waited)
+
+if TYPE_CHECKING:
+    from stand_in import PlainIndex
+
+RUN_BYTES = 16
+READS = (Get, GetRange, ViewRead, Ping, GetInfo, ListViews, Wait)
+
+
+def may(role: Role, query: Query[Any]) -> bool:
+    """Whether a client of this role may ask a query."""
+    return isinstance(query, READS) if role is Role.READ else role is Role.ALL or not isinstance(query, Stop)
+
+
+@dataclass
+class Session:
+    """What is known of a connection: the role of its client, or None before it was admitted, and the name that it
+    gave."""
+
+    role: Optional[Role]
+    name: bytes = b""
+
+
+class Keeper:
+    """Answers frames: those of the index are left to it, if the client may ask them."""
+
+    def __init__(self, index: PlainIndex, tokens: Mapping[bytes, Role], columns: int) -> None:
+        self._index, self._tokens, self._columns = index, dict(tokens), columns
+        self.run = os.urandom(RUN_BYTES)
+        # of each connection since the start
+        self.sessions: List[Session] = []
+        self.open_connections = self.faults = 0
+        # how the server ends, once it was asked to
+        self.stop: Callable[[bool], None] = lambda at_once: None
+        self._began = time.monotonic()
+        self._lock = threading.Lock()
+
+    def session(self) -> Session:
+        """A new connection."""
+        session = Session(None if self._tokens else Role.ALL)
+        with self._lock:
+            self.sessions.append(session)
+        return session
+
+    def answers(self, session: Session, queries: Sequence[Query[Any]]) -> List[bytes]:
+        """The answers to a frame."""
+        query = queries[0]
+        if len(queries) == 1 and isinstance(query, Hello):
+            return [self._greet(session, query)]
+        if session.role is None or not all(may(session.role, one) for one in queries):
+            return [spelled_refusal(NotAllowed()) for _ in queries]
+        if len(queries) == 1 and query.is_alone:
+            return [self._answer(query)]
+        return [spelled_refusal(TooMuchAtOnce()) if one.is_alone else self._index.answer(one) for one in queries]
+
+    def _greet(self, session: Session, hello: Hello) -> bytes:
+        token, session.name = bytes_of(hello.token), bytes_of(hello.name)
+        role = self._tokens.get(token) if self._tokens else Role.ALL
+        if role is None:
+            return spelled_refusal(NotAllowed())
+        session.role = role
+        commits = self._index.commits
+        return spelled_greeting(Greeting(min(hello.newest, 3), role, self._columns, self.run, commits, commits))
+
+    def _answer(self, query: Query[Any]) -> bytes:
+        if isinstance(query, Ping):
+            return spelled_pong(Pong(query.number, self._index.commits))
+        if isinstance(query, GetInfo):
+            return spelled_info(self._counts())
+        if isinstance(query, ListViews):
+            return spelled_listing(self._index.listing())
+        if isinstance(query, Wait):
+            try:
+                return spelled_waited(self._index.waited(query))
+            except Refused as refusal:
+                return spelled_refusal(refusal)
+        assert isinstance(query, Stop)
+        self.stop(query.at_once)
+        return spelled_stopped(self._index.commits)
+
+    def _counts(self) -> Dict[str, int]:
+        return {"commits": self._index.commits, "nodes": 1, "feed_from": self._index.commits,
+                "connections": self.open_connections, "connections_all": len(self.sessions), "turned_away": 0,
+                "queries": self._index.events, "faults": self.faults,
+                "uptime_ms": int(1000 * (time.monotonic() - self._began))}
+
+
+def bytes_of(value: Any) -> bytes:
+    return value.encode() if isinstance(value, str) else value
