@@ -154,7 +154,7 @@ const FAULTS: [(&[u8], Option<SessionFault>, &[u8]); 11] = [
     (b"\0\0\0", Some(SessionFault::Cut), b""),
     (b"\0\0\0\x01", Some(SessionFault::BadLength), b""),
     (b"\0\x04\0\x01", Some(SessionFault::BadLength), b""),
-    (b"\0\0\0\x02\x03\x01", Some(SessionFault::BadVersion), b""),
+    (b"\0\0\0\x02\x04\x01", Some(SessionFault::BadVersion), b""),
     (b"\0\0\0\x02\x01\0", Some(SessionFault::BadBody), b""),
     // a conditional put in version 1
     (
@@ -230,7 +230,7 @@ fn faults_between_frames(rt: HostRuntime) -> Result<(), Fail> {
 // Two good frames, a bad one and a good one in one piece: the first two are answered, and nothing after them.
 #[test]
 fn bad_frame_after_good_ones(rt: HostRuntime) -> Result<(), Fail> {
-    let bad = b"\0\0\0\x02\x03\x01".as_slice();
+    let bad = b"\0\0\0\x02\x04\x01".as_slice();
     let input = joined(rt.alloc(), &[ASKED, ASKED, bad, ASKED])?;
     let both = joined(rt.alloc(), &[ANSWERED, ANSWERED_AGAIN])?;
     let (mut lone, mut pass) = Lone::start(rt.alloc(), OPTIONS)?;

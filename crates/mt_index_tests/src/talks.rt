@@ -68,7 +68,7 @@ fn talk_cut_at_each_byte(rt: HostRuntime) -> Result<(), Fail> {
 
 #[test]
 fn talk_after_good_frames(rt: HostRuntime) -> Result<(), Fail> {
-    let bad = b"\0\0\0\x02\x03\x01".as_slice();
+    let bad = b"\0\0\0\x02\x04\x01".as_slice();
     let input = joined(rt.alloc(), &[ASKED, ASKED, bad, ASKED])?;
     let both = joined(rt.alloc(), &[ANSWERED, ANSWERED_AGAIN])?;
     let mut server = new_server(rt.alloc())?;
