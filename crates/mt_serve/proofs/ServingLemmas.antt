@@ -30,7 +30,7 @@ use Rattle.mt_types.specs.declared.view.Page.{Page}
 use Rattle.mt_wire.specs.Limited.{ResponseIsLimited}
 use Rattle.mt_wire.specs.Frames.{Holds, RequestsFit, request_frame, reply_frame}
 use Rattle.mt_serve.specs.declared.fault.SessionFault.{SessionFault}
-use Rattle.mt_serve.specs.declared.fault.SessionFault.TheVariants.{Write, NoMemory}
+use Rattle.mt_serve.specs.declared.fault.SessionFault.TheVariants.{Write}
 use Rattle.mt_serve.specs.declared.session.Summary.{Summary}
 use Rattle.mt_serve.specs.Asking.{not_alone, Answers, AnswersAll, AnswersFrame, AnswersFrames, Follows, KeepsViews, call_response, changes, drop_response, end_changes, page_response}
 use Rattle.mt_serve.specs.Sources.{LosesFrame, StopsAt}

@@ -51,7 +51,10 @@ fn answer<D: Disk + Drop>(rt: &impl Print, store: &mut Store<D>, line: &str) -> 
     let (command, rest) = line.split_once(' ').unwrap_or((line, ""));
     let (key, value) = rest.split_once(' ').unwrap_or((rest, ""));
     match command {
-        "put" => print_commit(rt, Some(store.put(key.as_bytes(), &[Set::new(0, value.as_bytes())])?)),
+        "put" => print_commit(
+            rt,
+            Some(store.put(key.as_bytes(), &[Set::new(0, value.as_bytes())])?),
+        ),
         "remove" => print_commit(rt, store.remove(key.as_bytes())?),
         "get" => {
             let row = store.map().get(key.as_bytes())?;
@@ -67,7 +70,10 @@ fn answer<D: Disk + Drop>(rt: &impl Print, store: &mut Store<D>, line: &str) -> 
     }
 }
 
-fn run<D: Disk + Drop>(rt: &(impl Input + Print + AllocGlobal), store: &mut Store<D>) -> Result<()> {
+fn run<D: Disk + Drop>(
+    rt: &(impl Input + Print + AllocGlobal),
+    store: &mut Store<D>,
+) -> Result<()> {
     println!(rt; "{} commits", store.map().commits())?;
     for line in rt.lines(rt.alloc()) {
         answer(rt, store, line?.as_str())?;
