@@ -27,7 +27,8 @@ COLUMNS = 2
 Start = Callable[[Mapping[bytes, Role]], ContextManager[int]]
 Case = Callable[[Start], None]
 
-READS: Sequence[Query[Any]] = (Get(b"a"), GetRange(), ViewRead(1), Ping(5), GetInfo(), ListViews(), Wait(0))
+READS: Sequence[Query[Any]] = (Get(b"a"), GetRange(), ViewRead(1), Ping(5), GetInfo())
+LISTS: Sequence[Query[Any]] = (ListViews(), Wait(0))
 WRITES: Sequence[Query[Any]] = (Put(b"b", b"v"), PutIf(b"c", b"v", 0), Remove(b"b"), Tidy(b"b"), Build(Prefix(b"")),
                                 ViewDrop(2))
 
@@ -111,7 +112,7 @@ def nothing_before_hello(start: Start) -> None:
                         pass
         with client(port, token=OWNER) as index:
             want_same("the commits", index.ping(), 0)
-            want_same("the views", index.views(), [])
+            want_refused("a page", index.call_all([ViewRead(1)])[0], NoSuchView)
 
 
 def what_a_reader_may(start: Start) -> None:
@@ -125,7 +126,8 @@ def what_a_reader_may(start: Start) -> None:
         both = index.call_all([Get(b"a"), Put(b"a", b"w")])
         want_same("a get beside a put", [type(outcome) for outcome in both], [NotAllowed, NotAllowed])
         want_same("the row", index.get(b"a"), Row(1, (b"v", b"")))
-        want_same("the commits and the views", (index.ping(), len(index.views())), (1, 1))
+        want_same("the commits", index.ping(), 1)
+        want_refused("a page of another view", index.call_all([ViewRead(2)])[0], NoSuchView)
 
 
 def what_a_writer_may(start: Start) -> None:
@@ -165,7 +167,7 @@ def versions_after_hello(start: Start) -> None:
 def alone_in_its_frame(start: Start) -> None:
     """A query of the server beside others is refused, and the others are done."""
     with start(OPEN) as port, client(port) as index:
-        for number, query in enumerate((Ping(1), GetInfo(), ListViews(), Wait(0), Stop(), Hello())):
+        for number, query in enumerate((Ping(1), GetInfo(), Stop(), Hello())):
             put, refused, got = index.call_all([Put(b"a", b"v"), query, Get(b"a", (0,))])
             want_refused(str(query), refused, TooMuchAtOnce)
             want_same("the put and the get", [put, got], [Reply(number + 1, number, number + 1),
@@ -191,6 +193,24 @@ def info(start: Start) -> None:
         after = index.info()
         want(after["queries"] > before["queries"] and after["uptime_ms"] >= before["uptime_ms"], f"{before}, {after}")
         want_same("commits", after["commits"], 2)
+
+
+# ---- the list of views
+
+def lists_views(start: Start) -> bool:
+    """Whether a server lists its views and lets clients wait: `info` counts them then."""
+    with start(OPEN) as port, client(port) as index:
+        return "views" in index.info()
+
+
+def lists_by_role(start: Start) -> None:
+    """Every client that was admitted may list and wait, in a frame of one query."""
+    with start(TOKENS) as port, client(port, token=READER) as index:
+        for query in LISTS:
+            want_refused(str(query), index.call_all([query])[0], Reply)
+            want_refused(f"{query} beside a get", index.call_all([query, Get(b"a")])[0], TooMuchAtOnce)
+            with socket.create_connection(("127.0.0.1", port), SECONDS) as connection:
+                want_refused(f"{query} before hello", asked(connection, 3, [query])[0], NotAllowed)
 
 
 SPECS = (Prefix(b""), Prefix(b"a", Equals(1, b"v")), Range(b"a"), Range(b"", b"b", AtLeast(0, 2 ** 64 - 1)),
@@ -303,5 +323,6 @@ def stops(start: Start) -> None:
 
 CASES: List[Case] = [
     hello_without_tokens, hello_with_tokens, nothing_before_hello, what_a_reader_may, what_a_writer_may, hello_again,
-    versions_after_hello, alone_in_its_frame, pings, info, views, wait_for_commits, wait_for_a_view, waits_of_many,
-    stops]
+    versions_after_hello, alone_in_its_frame, pings, info, stops]
+# of a server that lists its views
+LIST_CASES: List[Case] = [lists_by_role, views, wait_for_commits, wait_for_a_view, waits_of_many]

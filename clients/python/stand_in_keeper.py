@@ -94,7 +94,7 @@ class Keeper:
     def _counts(self) -> Dict[str, int]:
         return {"commits": self._index.commits, "nodes": 1, "feed_from": self._index.commits,
                 "connections": self.open_connections, "connections_all": len(self.sessions), "turned_away": 0,
-                "queries": self._index.events, "faults": self.faults,
+                "queries": self._index.events, "faults": self.faults, "views": len(self._index.listing().views),
                 "uptime_ms": int(1000 * (time.monotonic() - self._began))}
 
 

@@ -50,8 +50,8 @@ class Poller(threading.Thread):
     """Reads the views of a board round by round, and does what forms ask for in between.
 
     All of it goes over one connection, however many browsers look. If that is lost, the poller tries again until there
-    is one. If the server knows version 3 of the wire, it is asked for the list of its views, pages are read only of
-    views that have changed, and a watcher waits for commits over another connection.
+    is one. If the server lists its views, it is asked for the list, pages are read only of views that have changed, and
+    a watcher waits for commits over another connection. (Its `info` counts its views then.)
     """
 
     def __init__(self, board: Board, connect: Callable[[], Client]) -> None:
@@ -67,6 +67,8 @@ class Poller(threading.Thread):
         self._began = time.monotonic()
         # what the server said of itself, if it knows version 3 of the wire
         self._greeting: Optional[Greeting] = None
+        # whether it lists its views, and lets clients wait for commits
+        self._lists = False
         # of the index that was seen last: the name of its run, its commits, and the greatest number of a view
         self._run: Optional[bytes] = None
         self._commits = 0
@@ -180,15 +182,17 @@ class Poller(threading.Thread):
         index = self._connect()
         try:
             self._greeting = index.hello
+            self._lists = "views" in index.info()
         except HelloUnanswered:
             # (the server ends a connection by which it is asked what it doesn't know)
             index.close()
-            self._greeting = None
+            self._greeting, self._lists = None, False
             return self._connect()
         except BaseException:
             index.close()
             raise
-        self._watcher = self._new_watcher()
+        if self._lists:
+            self._watcher = self._new_watcher()
         return index
 
     def _new_watcher(self) -> Optional[Watcher]:
@@ -236,7 +240,7 @@ class Poller(threading.Thread):
 
     def _listed(self, index: Client) -> Optional[Listing]:
         """What the server lists, if it does. The board takes it."""
-        outcome = index.call_all([ListViews()])[0] if self._greeting is not None else None
+        outcome = index.call_all([ListViews()])[0] if self._lists else None
         if not isinstance(outcome, Reply):
             return None
         listing: Listing = outcome.value
