@@ -51,7 +51,8 @@ pub struct Connection {
     // Whether all bytes were read.
     has_ended: bool,
     fault: Option<ConnectionFault>,
-    // Seconds of the server: when it was accepted, when bytes came last, when the frame that is there in part began, and when bytes went last.
+    // Seconds of the server: when it was accepted, when bytes came last, when the frame that is there in part began, and
+    // when bytes went last.
     accepted: u64,
     came: u64,
     began: Option<u64>,

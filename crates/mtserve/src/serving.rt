@@ -101,8 +101,9 @@ fn may_listen(is_loopback: bool, has_secrets: bool, is_open: bool) -> bool
 ///
 /// # Errors
 ///
-/// If the secrets couldn't be read; if the address is none, or all could do all from elsewhere; if listening, a thread, a wait or the first line failed; if the index can't be opened with these options; or if the
-/// counts at its end don't add up.
+/// If the secrets couldn't be read; if the address is none, or all could do all from elsewhere; if listening, a thread,
+/// a wait or the first line failed; if the index can't be opened with these options; or if the counts at its end don't
+/// add up.
 pub fn serve_all<R>(rt: &R, alloc: Global, settings: Settings<'_>) -> Result<Totals, ServeError>
 where
     R: Net + Threads + Wait + Clock + Files + RandomSource + AllocGlobal + Sync + Eprint,
