@@ -44,23 +44,21 @@ module _ (C : ℕ) (first s : MachineView) (columns : first.columns ≡ C) (empt
     newest : at.newest ≡ n
     newest = let last = last_counts header.base entries in let is = keeps.newest in let count = many in omega (arith, last, is, count, base)
 
-    is_stored : IsStored s at seen may_leave
+    is_stored : IsStored again s at seen may_leave
     is_stored =
         let same_columns : s.columns ≡ C = adds.0 ∙ columns in
         let whole : length (records_in entries) ≤ at.newest = let a = many in let b = newest in omega (arith, a, b) in
-        let a = ap (λ (cs : List Change). length cs) g.2 in
-        let b = counted in
-        let c = newest in
+        let a = counted in
+        let b = newest in
         record {
-          h = g.0;
-          stands = g.1;
+          made = record { h = g.0; stands = g.1; commits = g.2 };
           header = header;
           own = record { columns = own ∙ sym same_columns; base = base };
           entries = entries;
           keeps = keeps;
-          within = omega (arith, a, b, c);
+          within = omega (arith, a, b);
           written = sym (take_all at.newest (records_in entries) whole)
-              ∙ (ap (take at.newest) (sym same) ∙ (ap (λ (cs : List Change). take at.newest (records_of C cs)) (sym g.2) ∙ ap (λ (k : ℕ). take at.newest (records_of k (moment g.0).commits)) (sym same_columns)));
+              ∙ (ap (take at.newest) (sym same) ∙ ap (λ (k : ℕ). take at.newest (records_of k again)) (sym same_columns));
         }
 
     pub finds_again : (durable : ℕ) → durable ≤ n → FindsAgain C changes durable s at seen may_leave
@@ -68,10 +66,10 @@ module _ (C : ℕ) (first s : MachineView) (columns : first.columns ≡ C) (empt
       count = n;
       within = within;
       kept = kept;
-      h = g.0;
-      stands = g.1;
-      commits = ap (λ (cs : List Change). length cs) g.2 ∙ counted;
-      same_rows = ap (after C) g.2 ∙ (ap (λ (rs : List Record). after C (map change_again rs)) records ∙ prefixes_make_rows C n changes);
+      again = again;
+      as_many = counted;
+      same_records = same ∙ records;
+      same_rows = ap (λ (rs : List Record). after C (map change_again rs)) records ∙ prefixes_make_rows C n changes;
       stored = is_stored;
     }
 

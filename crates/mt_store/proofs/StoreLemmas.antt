@@ -13,7 +13,7 @@ use Rattle.mt_journal.specs.Keeping.{AllSurvive, Keeps}
 use Rattle.mt_replay.specs.Replay.{record_of, records_of}
 use Rattle.mt_replay.proofs.ReplayLemmas.{records_taken}
 use Rattle.mt_store.specs.Extending.{Adds}
-use Rattle.mt_store.specs.Stored.{AllRecover, IsStored, Recovers}
+use Rattle.mt_store.specs.Stored.{AllRecover, HasMade, IsStored, Recovers}
 use Rattle.mt_store.proofs.RecordLemmas.{longer, recovers_as_it_is, recovers_longer, still_within}
 
 -- ---- more commits
@@ -40,75 +40,73 @@ more_recovers C changes made durable left r =
       records = r.records ∙ sym (same_records C r.count changes made r.within);
     }
 
-pub found_more : (s t : MachineView) (made : List Change) (durable : ℕ) (may_leave : List ℕ → Type 0) → Adds s made t → AllRecover s durable may_leave → AllRecover t durable may_leave
-found_more s t made durable may_leave adds r =
+has_made : (s t : MachineView) (changes made : List Change) → Adds s made t → HasMade changes s → HasMade (changes ++ made) t
+has_made s t changes made adds r =
     let (g, stands, is) = adds.1 r.h r.stands in
-    record {
-      h = g;
-      stands = stands;
-      found = λ left may. subst (λ (C : ℕ). Recovers C (moment g).commits durable left) (sym adds.0)
-          (subst (λ (cs : List Change). Recovers s.columns cs durable left) (sym is) (more_recovers s.columns (moment r.h).commits made durable left (r.found left may)));
-    }
+    record { h = g; stands = stands; commits = is ∙ ap (λ (cs : List Change). cs ++ made) r.commits }
 
-pub stored_more : (s t : MachineView) (made : List Change) (at : Position) (seen : List ℕ) (may_leave : List ℕ → Type 0) → Adds s made t → IsStored s at seen may_leave → IsStored t at seen may_leave
-stored_more s t made at seen may_leave adds st =
-    let (g, stands, is) = adds.1 st.h st.stands in
-    let all = ap (λ (cs : List Change). length cs) is ∙ length-append (moment st.h).commits made in
+pub found_more : (s t : MachineView) (changes made : List Change) (durable : ℕ) (may_leave : List ℕ → Type 0) → Adds s made t → AllRecover changes s durable may_leave → AllRecover (changes ++ made) t durable may_leave
+found_more s t changes made durable may_leave adds r = record {
+  made = has_made s t changes made adds r.made;
+  found = λ left may. subst (λ (C : ℕ). Recovers C (changes ++ made) durable left) (sym adds.0) (more_recovers s.columns changes made durable left (r.found left may));
+}
+
+pub stored_more : (s t : MachineView) (changes made : List Change) (at : Position) (seen : List ℕ) (may_leave : List ℕ → Type 0) → Adds s made t → IsStored changes s at seen may_leave → IsStored (changes ++ made) t at seen may_leave
+stored_more s t changes made at seen may_leave adds st =
+    let all = length-append changes made in
     let within = st.within in
     record {
-      h = g;
-      stands = stands;
+      made = has_made s t changes made adds st.made;
       header = st.header;
       own = record { columns = st.own.columns ∙ sym adds.0; base = st.own.base };
       entries = st.entries;
       keeps = st.keeps;
       within = omega (arith, all, within);
-      written = st.written ∙ (sym (same_records s.columns at.newest (moment st.h).commits made st.within)
-          ∙ (ap (λ (cs : List Change). take at.newest (records_of s.columns cs)) (sym is) ∙ ap (λ (C : ℕ). take at.newest (records_of C (moment g).commits)) (sym adds.0)));
+      written = st.written ∙ (sym (same_records s.columns at.newest changes made st.within)
+          ∙ ap (λ (C : ℕ). take at.newest (records_of C (changes ++ made))) (sym adds.0));
     }
 
 -- ---- the log
-module _ (s : MachineView) (at : Position) (seen : List ℕ) (may_leave : List ℕ → Type 0) (st : IsStored s at seen may_leave) where
-  pub found_as_it_is : (durable : ℕ) (leaves : List ℕ → Type 0) → AllSurvive st.header st.entries durable leaves → AllRecover s durable leaves
+module _ (changes : List Change) (s : MachineView) (at : Position) (seen : List ℕ) (may_leave : List ℕ → Type 0) (st : IsStored changes s at seen may_leave) where
+  pub found_as_it_is : (durable : ℕ) (leaves : List ℕ → Type 0) → AllSurvive st.header st.entries durable leaves → AllRecover changes s durable leaves
   found_as_it_is durable leaves survive = record {
-    h = st.h;
-    stands = st.stands;
-    found = λ left may. recovers_as_it_is s.columns (moment st.h).commits st.header st.entries at st.own.base st.own.columns st.keeps.newest st.within st.written durable left (survive left may);
+    made = st.made;
+    found = λ left may. recovers_as_it_is s.columns changes st.header st.entries at st.own.base st.own.columns st.keeps.newest st.within st.written durable left (survive left may);
   }
 
-  pub stored_same : (then_at : Position) (then_seen : List ℕ) (leaves : List ℕ → Type 0) → Keeps then_at then_seen leaves st.header st.entries → then_at.newest ≡ at.newest → IsStored s then_at then_seen leaves
+  pub stored_same : (then_at : Position) (then_seen : List ℕ) (leaves : List ℕ → Type 0) → Keeps then_at then_seen leaves st.header st.entries → then_at.newest ≡ at.newest → IsStored changes s then_at then_seen leaves
   stored_same then_at then_seen leaves keeps newest =
       let within = st.within in
       record {
-        h = st.h;
-        stands = st.stands;
+        made = st.made;
         header = st.header;
         own = st.own;
         entries = st.entries;
         keeps = keeps;
         within = omega (arith, within, newest);
-        written = st.written ∙ ap (λ (n : ℕ). take n (records_of s.columns (moment st.h).commits)) (sym newest);
+        written = st.written ∙ ap (λ (n : ℕ). take n (records_of s.columns changes)) (sym newest);
       }
 
   module _ (limit : ℕ) (deltas : List Delta) (fed : (h : History) → Stands s h → deltas ≡ take limit (drop at.newest (deltas_of s.columns (moment h).commits))) (records : List Record) (made : records ≡ map record_of deltas) where
-    pub found_longer : (durable : ℕ) (leaves : List ℕ → Type 0) → AllSurvive st.header (with_commits at records st.entries) durable leaves → AllRecover s durable leaves
+    from_changes : deltas ≡ take limit (drop at.newest (deltas_of s.columns changes))
+    from_changes = fed st.made.h st.made.stands ∙ ap (λ (cs : List Change). take limit (drop at.newest (deltas_of s.columns cs))) st.made.commits
+
+    pub found_longer : (durable : ℕ) (leaves : List ℕ → Type 0) → AllSurvive st.header (with_commits at records st.entries) durable leaves → AllRecover changes s durable leaves
     found_longer durable leaves survive = record {
-      h = st.h;
-      stands = st.stands;
-      found = λ left may. recovers_longer s.columns (moment st.h).commits st.header st.entries at limit deltas st.own.base st.keeps.newest st.within st.written (fed st.h st.stands) records made durable left st.own.columns (survive left may);
+      made = st.made;
+      found = λ left may. recovers_longer s.columns changes st.header st.entries at limit deltas st.own.base st.keeps.newest st.within st.written from_changes records made durable left st.own.columns (survive left may);
     }
 
-    pub stored_longer : (then_at : Position) (then_seen : List ℕ) (leaves : List ℕ → Type 0) → Keeps then_at then_seen leaves st.header (with_commits at records st.entries) → then_at.newest ≡ at.newest + length records → IsStored s then_at then_seen leaves
+    pub stored_longer : (then_at : Position) (then_seen : List ℕ) (leaves : List ℕ → Type 0) → Keeps then_at then_seen leaves st.header (with_commits at records st.entries) → then_at.newest ≡ at.newest + length records → IsStored changes s then_at then_seen leaves
     stored_longer then_at then_seen leaves keeps newest =
-        let within = still_within s.columns (moment st.h).commits st.header st.entries at limit deltas st.own.base st.keeps.newest st.within st.written (fed st.h st.stands) records made in
+        let within = still_within s.columns changes st.header st.entries at limit deltas st.own.base st.keeps.newest st.within st.written from_changes records made in
         record {
-          h = st.h;
-          stands = st.stands;
+          made = st.made;
           header = st.header;
           own = st.own;
           entries = with_commits at records st.entries;
           keeps = keeps;
           within = omega (arith, within, newest);
-          written = longer s.columns (moment st.h).commits st.header st.entries at limit deltas st.own.base st.keeps.newest st.within st.written (fed st.h st.stands) records made
-              ∙ ap (λ (n : ℕ). take n (records_of s.columns (moment st.h).commits)) (sym newest);
+          written = longer s.columns changes st.header st.entries at limit deltas st.own.base st.keeps.newest st.within st.written from_changes records made
+              ∙ ap (λ (n : ℕ). take n (records_of s.columns changes)) (sym newest);
         }

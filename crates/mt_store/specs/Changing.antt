@@ -1,5 +1,6 @@
 -- What a change of a store came to.
-use Rattle.std.specs.Prelude.{ℕ, ◌≡◌, Result, Ok, Err}
+use Rattle.std.specs.Prelude.{ℕ, ◌≡◌, List, [], Option, Some, None, Result, Ok, Err}
+use Rattle.mt_types.specs.declared.row.Change.{Change}
 use Rattle.mt_types.specs.declared.refusal.Refusal.{Refusal}
 use Rattle.mt_map.specs.Tidies.{MapView}
 use Rattle.mt_store.specs.declared.error.StoreError.{StoreError}
@@ -13,6 +14,19 @@ Changes came made s (Err (Refused refusal)) t = came (Err refusal) t
 Changes came made s (Err (NotWritten commit error)) t = came (Ok (made commit)) t
 Changes came made s (Err Behind) t = t ≡ s
 Changes came made s (Err _) t = ⊥
+
+-- the commits that a call has made, of which this is the change: none if it was refused
+abbrev pub made_of : {A : Type 0} → List Change → Result A StoreError → List Change
+made_of change (Ok found) = change
+made_of change (Err (NotWritten commit error)) = change
+made_of change (Err _) = []
+
+-- the same of a remove, which makes none if there is no row
+abbrev pub removed_of : List Change → Result (Option ℕ) StoreError → List Change
+removed_of change (Ok None) = []
+removed_of change (Ok (Some commit)) = change
+removed_of change (Err (NotWritten commit error)) = change
+removed_of change (Err _) = []
 
 -- nothing is left to be written
 abbrev pub IsWritten : {A : Type 0} → Result A StoreError → Type 0 → Type 0

@@ -1,16 +1,17 @@
 //! A map of one caller whose commits are in a log on a disk.
 
-ghost use Rattle.std.specs.Prelude.{◌≡◌, ◌≤◌, ℕ, List, [], Some, OnOk, IfOk, IsTrue, IsFalse, map};
+ghost use Rattle.std.specs.Prelude.{◌≡◌, ◌≤◌, ◌++◌, ℕ, List, [], Some, OnOk, IfOk, IsTrue, IsFalse, map};
 ghost use Rattle.mt_types.specs.declared.row.Change.{Change};
 ghost use Rattle.mt_index.specs.Stands.{Stands};
 ghost use Rattle.mt_commit.specs.Log.{newest};
 ghost use Rattle.mt_types.specs.declared.event.Answer.TheVariants.{Stored};
-ghost use Rattle.mt_types.specs.declared.event.Request.TheVariants.{Put, PutIf};
+ghost use Rattle.mt_types.specs.declared.event.Request.TheVariants.{Put, PutIf, Remove};
+ghost use Rattle.mt_promise.specs.History.{change_of};
 ghost use Rattle.mt_asked.specs.Borrowed.{sets_of};
 ghost use Rattle.mt_map.specs.Calls.{answered_by};
 ghost use Rattle.mt_map.specs.Tidies.{MapComesTo, Removes};
 ghost use Rattle.mt_replay.specs.Replay.{record_of};
-ghost use Rattle.mt_store.specs.Changing.{Changes, IsLogged, IsWritten};
+ghost use Rattle.mt_store.specs.Changing.{Changes, IsLogged, IsWritten, made_of, removed_of};
 ghost use Rattle.mt_store.specs.Stored.{AllRecover, FindsAgain, IsStored, Recovers};
 
 use crate::error::StoreError;
@@ -86,7 +87,7 @@ impl<D: Disk + Drop> Store<D> {
     /// the disk can have anything.
     pub fn make(alloc: Global, disk: D, options: Options) -> Result<Store<D>, StoreError>
         ensures empty { IfOk result (λ store. Stands store.map.machine []) }
-        ensures stored { IfOk result (λ store. IsStored store.map.machine store.journal.at (D.Disk.seen store.journal.disk)
+        ensures stored { IfOk result (λ store. IsStored [] store.map.machine store.journal.at (D.Disk.seen store.journal.disk)
             (D.Disk.may_leave store.journal.disk)) }
     {
         let map = match Map::open(alloc, with_retention(options)) {
@@ -156,9 +157,10 @@ impl<D: Disk + Drop> Store<D> {
     /// [`Store::open`] finds exactly the rows after the first of the map's commits, with their versions, and at least those
     /// up to this number.
     pub fn durable(&self) -> u64
-        ensures found { IsStored self.now.map.machine self.now.journal.at (D.Disk.seen self.now.journal.disk)
+        ensures found { (changes : List Change)
+            → IsStored changes self.now.map.machine self.now.journal.at (D.Disk.seen self.now.journal.disk)
             (D.Disk.may_leave self.now.journal.disk)
-            → AllRecover self.now.map.machine result (D.Disk.may_leave self.now.journal.disk) }
+            → AllRecover changes self.now.map.machine result (D.Disk.may_leave self.now.journal.disk) }
         ensures number { result ≡ self.now.journal.at.durable }
     {
         self.journal.position().durable
@@ -167,9 +169,10 @@ impl<D: Disk + Drop> Store<D> {
     // Whether the log lacks a commit.
     fn is_behind(&self) -> bool
         ensures all { IsFalse result → newest self.now.map.machine.log ≤ self.now.journal.at.newest }
-        ensures found { IsStored self.now.map.machine self.now.journal.at (D.Disk.seen self.now.journal.disk)
+        ensures found { (changes : List Change)
+            → IsStored changes self.now.map.machine self.now.journal.at (D.Disk.seen self.now.journal.disk)
             (D.Disk.may_leave self.now.journal.disk)
-            → AllRecover self.now.map.machine self.now.journal.at.durable (D.Disk.may_leave self.now.journal.disk) }
+            → AllRecover changes self.now.map.machine self.now.journal.at.durable (D.Disk.may_leave self.now.journal.disk) }
     {
         self.journal.position().newest < self.map.commits()
     }
@@ -182,15 +185,17 @@ impl<D: Disk + Drop> Store<D> {
     /// Those of [`Journal::append`], and `NoMemory`.
     pub fn write(&mut self) -> Result<(), JournalError>
         ensures map { self.new.map ≡ self.old.map }
-        ensures stored { IsStored self.old.map.machine self.old.journal.at (D.Disk.seen self.old.journal.disk)
+        ensures stored { (changes : List Change)
+            → IsStored changes self.old.map.machine self.old.journal.at (D.Disk.seen self.old.journal.disk)
             (D.Disk.may_leave self.old.journal.disk)
             → IsTrue (D.Disk.is_mixing self.new.journal.disk)
-            → OnOk result (IsStored self.new.map.machine self.new.journal.at (D.Disk.seen self.new.journal.disk)
+            → OnOk result (IsStored changes self.new.map.machine self.new.journal.at (D.Disk.seen self.new.journal.disk)
             (D.Disk.may_leave self.new.journal.disk)) }
-        ensures found { IsStored self.old.map.machine self.old.journal.at (D.Disk.seen self.old.journal.disk)
+        ensures found { (changes : List Change)
+            → IsStored changes self.old.map.machine self.old.journal.at (D.Disk.seen self.old.journal.disk)
             (D.Disk.may_leave self.old.journal.disk)
             → IsTrue (D.Disk.is_mixing self.new.journal.disk)
-            → AllRecover self.new.map.machine self.old.journal.at.durable (D.Disk.may_leave self.new.journal.disk) }
+            → AllRecover changes self.new.map.machine self.old.journal.at.durable (D.Disk.may_leave self.new.journal.disk) }
     {
         let from = self.journal.position().newest;
         let Ok(deltas) = self.map.feed(from, MAX_RANGE) else {
@@ -207,15 +212,17 @@ impl<D: Disk + Drop> Store<D> {
     fn logged(&mut self, commit: u64) -> Result<u64, StoreError>
         ensures map { self.new.map ≡ self.old.map }
         ensures commit { IsLogged commit result }
-        ensures stored { IsStored self.old.map.machine self.old.journal.at (D.Disk.seen self.old.journal.disk)
+        ensures stored { (changes : List Change)
+            → IsStored changes self.old.map.machine self.old.journal.at (D.Disk.seen self.old.journal.disk)
             (D.Disk.may_leave self.old.journal.disk)
             → IsTrue (D.Disk.is_mixing self.new.journal.disk)
-            → OnOk result (IsStored self.new.map.machine self.new.journal.at (D.Disk.seen self.new.journal.disk)
+            → OnOk result (IsStored changes self.new.map.machine self.new.journal.at (D.Disk.seen self.new.journal.disk)
             (D.Disk.may_leave self.new.journal.disk)) }
-        ensures found { IsStored self.old.map.machine self.old.journal.at (D.Disk.seen self.old.journal.disk)
+        ensures found { (changes : List Change)
+            → IsStored changes self.old.map.machine self.old.journal.at (D.Disk.seen self.old.journal.disk)
             (D.Disk.may_leave self.old.journal.disk)
             → IsTrue (D.Disk.is_mixing self.new.journal.disk)
-            → AllRecover self.new.map.machine self.old.journal.at.durable (D.Disk.may_leave self.new.journal.disk) }
+            → AllRecover changes self.new.map.machine self.old.journal.at.durable (D.Disk.may_leave self.new.journal.disk) }
     {
         match self.write() {
             Ok(()) => Ok(commit),
@@ -237,15 +244,18 @@ impl<D: Disk + Drop> Store<D> {
     pub fn put(&mut self, key: &[u8], sets: &[Set<'_>]) -> Result<u64, StoreError>
         ensures comes { Changes (λ found map. MapComesTo self.old.map (Put key.now (sets_of sets.now)) (answered_by Stored found) map)
             (λ commit. commit) self.old.map result self.new.map }
-        ensures stored { IsStored self.old.map.machine self.old.journal.at (D.Disk.seen self.old.journal.disk)
+        ensures stored { (changes : List Change)
+            → IsStored changes self.old.map.machine self.old.journal.at (D.Disk.seen self.old.journal.disk)
             (D.Disk.may_leave self.old.journal.disk)
             → IsTrue (D.Disk.is_mixing self.new.journal.disk)
-            → IsWritten result (IsStored self.new.map.machine self.new.journal.at (D.Disk.seen self.new.journal.disk)
-            (D.Disk.may_leave self.new.journal.disk)) }
-        ensures found { IsStored self.old.map.machine self.old.journal.at (D.Disk.seen self.old.journal.disk)
+            → IsWritten result (IsStored (changes ++ made_of (change_of (Put key.now (sets_of sets.now))) result) self.new.map.machine
+            self.new.journal.at (D.Disk.seen self.new.journal.disk) (D.Disk.may_leave self.new.journal.disk)) }
+        ensures found { (changes : List Change)
+            → IsStored changes self.old.map.machine self.old.journal.at (D.Disk.seen self.old.journal.disk)
             (D.Disk.may_leave self.old.journal.disk)
             → IsTrue (D.Disk.is_mixing self.new.journal.disk)
-            → AllRecover self.new.map.machine self.old.journal.at.durable (D.Disk.may_leave self.new.journal.disk) }
+            → AllRecover (changes ++ made_of (change_of (Put key.now (sets_of sets.now))) result) self.new.map.machine
+            self.old.journal.at.durable (D.Disk.may_leave self.new.journal.disk) }
     {
         if self.is_behind() {
             return Err(StoreError::Behind);
@@ -264,15 +274,18 @@ impl<D: Disk + Drop> Store<D> {
     pub fn put_if(&mut self, key: &[u8], sets: &[Set<'_>], version: u64) -> Result<u64, StoreError>
         ensures comes { Changes (λ found map. MapComesTo self.old.map (PutIf key.now (sets_of sets.now) version) (answered_by Stored found) map)
             (λ commit. commit) self.old.map result self.new.map }
-        ensures stored { IsStored self.old.map.machine self.old.journal.at (D.Disk.seen self.old.journal.disk)
+        ensures stored { (changes : List Change)
+            → IsStored changes self.old.map.machine self.old.journal.at (D.Disk.seen self.old.journal.disk)
             (D.Disk.may_leave self.old.journal.disk)
             → IsTrue (D.Disk.is_mixing self.new.journal.disk)
-            → IsWritten result (IsStored self.new.map.machine self.new.journal.at (D.Disk.seen self.new.journal.disk)
-            (D.Disk.may_leave self.new.journal.disk)) }
-        ensures found { IsStored self.old.map.machine self.old.journal.at (D.Disk.seen self.old.journal.disk)
+            → IsWritten result (IsStored (changes ++ made_of (change_of (PutIf key.now (sets_of sets.now) version)) result) self.new.map.machine
+            self.new.journal.at (D.Disk.seen self.new.journal.disk) (D.Disk.may_leave self.new.journal.disk)) }
+        ensures found { (changes : List Change)
+            → IsStored changes self.old.map.machine self.old.journal.at (D.Disk.seen self.old.journal.disk)
             (D.Disk.may_leave self.old.journal.disk)
             → IsTrue (D.Disk.is_mixing self.new.journal.disk)
-            → AllRecover self.new.map.machine self.old.journal.at.durable (D.Disk.may_leave self.new.journal.disk) }
+            → AllRecover (changes ++ made_of (change_of (PutIf key.now (sets_of sets.now) version)) result) self.new.map.machine
+            self.old.journal.at.durable (D.Disk.may_leave self.new.journal.disk) }
     {
         if self.is_behind() {
             return Err(StoreError::Behind);
@@ -291,21 +304,27 @@ impl<D: Disk + Drop> Store<D> {
     pub fn remove(&mut self, key: &[u8]) -> Result<Option<u64>, StoreError>
         ensures comes { Changes (λ found map. Removes self.old.map key.now found map) (λ commit. Some commit)
             self.old.map result self.new.map }
-        ensures stored { IsStored self.old.map.machine self.old.journal.at (D.Disk.seen self.old.journal.disk)
+        ensures stored { (changes : List Change)
+            → IsStored changes self.old.map.machine self.old.journal.at (D.Disk.seen self.old.journal.disk)
             (D.Disk.may_leave self.old.journal.disk)
             → IsTrue (D.Disk.is_mixing self.new.journal.disk)
-            → IsWritten result (IsStored self.new.map.machine self.new.journal.at (D.Disk.seen self.new.journal.disk)
-            (D.Disk.may_leave self.new.journal.disk)) }
-        ensures found { IsStored self.old.map.machine self.old.journal.at (D.Disk.seen self.old.journal.disk)
+            → IsWritten result (IsStored (changes ++ removed_of (change_of (Remove key.now)) result) self.new.map.machine
+            self.new.journal.at (D.Disk.seen self.new.journal.disk) (D.Disk.may_leave self.new.journal.disk)) }
+        ensures found { (changes : List Change)
+            → IsStored changes self.old.map.machine self.old.journal.at (D.Disk.seen self.old.journal.disk)
             (D.Disk.may_leave self.old.journal.disk)
             → IsTrue (D.Disk.is_mixing self.new.journal.disk)
-            → AllRecover self.new.map.machine self.old.journal.at.durable (D.Disk.may_leave self.new.journal.disk) }
+            → AllRecover (changes ++ removed_of (change_of (Remove key.now)) result) self.new.map.machine
+            self.old.journal.at.durable (D.Disk.may_leave self.new.journal.disk) }
     {
         if self.is_behind() {
             return Err(StoreError::Behind);
         }
         match self.map.remove(key) {
-            Ok(Some(commit)) => Ok(Some(self.logged(commit)?)),
+            Ok(Some(commit)) => match self.logged(commit) {
+                Ok(commit) => Ok(Some(commit)),
+                Err(error) => Err(error),
+            },
             Ok(None) => Ok(None),
             Err(refusal) => Err(StoreError::Refused(refusal)),
         }
@@ -320,15 +339,17 @@ impl<D: Disk + Drop> Store<D> {
         ensures map { self.new.map ≡ self.old.map }
         ensures number { IfOk result (λ number. number ≡ self.new.journal.at.durable) }
         ensures all { IfOk result (λ number. newest self.new.map.machine.log ≤ number) }
-        ensures stored { IsStored self.old.map.machine self.old.journal.at (D.Disk.seen self.old.journal.disk)
+        ensures stored { (changes : List Change)
+            → IsStored changes self.old.map.machine self.old.journal.at (D.Disk.seen self.old.journal.disk)
             (D.Disk.may_leave self.old.journal.disk)
             → IsTrue (D.Disk.is_mixing self.new.journal.disk)
-            → OnOk result (IsStored self.new.map.machine self.new.journal.at (D.Disk.seen self.new.journal.disk)
+            → OnOk result (IsStored changes self.new.map.machine self.new.journal.at (D.Disk.seen self.new.journal.disk)
             (D.Disk.may_leave self.new.journal.disk)) }
-        ensures found { IsStored self.old.map.machine self.old.journal.at (D.Disk.seen self.old.journal.disk)
+        ensures found { (changes : List Change)
+            → IsStored changes self.old.map.machine self.old.journal.at (D.Disk.seen self.old.journal.disk)
             (D.Disk.may_leave self.old.journal.disk)
             → IsTrue (D.Disk.is_mixing self.new.journal.disk)
-            → AllRecover self.new.map.machine self.old.journal.at.durable (D.Disk.may_leave self.new.journal.disk) }
+            → AllRecover changes self.new.map.machine self.old.journal.at.durable (D.Disk.may_leave self.new.journal.disk) }
     {
         if self.is_behind() {
             return Err(StoreError::Behind);

@@ -8,26 +8,26 @@ use Rattle.mt_store.proofs.StoreLemmas.{found_as_it_is, found_longer, stored_lon
 use Rattle.mt_store.proofs.store.Store.write.Goals as goal
 
 pub returns-in_default-clause-found : goal.returns-in_default-clause-found
-returns-in_default-clause-found g c = λ st mixing.
-    subst (λ (at : Position). AllRecover c.args.self.now.map.machine at.durable (g.D.Disk.may_leave c.args.self.now.journal.disk)) c.position-from.ensures.value
-    (found_as_it_is c.args.self.now.map.machine c.args.self.now.journal.at (g.D.Disk.seen c.args.self.now.journal.disk) (g.D.Disk.may_leave c.args.self.now.journal.disk) st c.position-from.result.durable (g.D.Disk.may_leave c.args.self.now.journal.disk) (c.position-from.ensures.survive st.header st.entries st.keeps))
+returns-in_default-clause-found g c = λ changes st mixing.
+    subst (λ (at : Position). AllRecover changes c.args.self.now.map.machine at.durable (g.D.Disk.may_leave c.args.self.now.journal.disk)) c.position-from.ensures.value
+    (found_as_it_is changes c.args.self.now.map.machine c.args.self.now.journal.at (g.D.Disk.seen c.args.self.now.journal.disk) (g.D.Disk.may_leave c.args.self.now.journal.disk) st c.position-from.result.durable (g.D.Disk.may_leave c.args.self.now.journal.disk) (c.position-from.ensures.survive st.header st.entries st.keeps))
 
 pub returns-in_default-records_of-clause-found : goal.returns-in_default-records_of-clause-found
-returns-in_default-records_of-clause-found g c = λ st mixing.
-    subst (λ (at : Position). AllRecover c.args.self.now.map.machine at.durable (g.D.Disk.may_leave c.args.self.now.journal.disk)) c.position-from.ensures.value
-    (found_as_it_is c.args.self.now.map.machine c.args.self.now.journal.at (g.D.Disk.seen c.args.self.now.journal.disk) (g.D.Disk.may_leave c.args.self.now.journal.disk) st c.position-from.result.durable (g.D.Disk.may_leave c.args.self.now.journal.disk) (c.position-from.ensures.survive st.header st.entries st.keeps))
+returns-in_default-records_of-clause-found g c = λ changes st mixing.
+    subst (λ (at : Position). AllRecover changes c.args.self.now.map.machine at.durable (g.D.Disk.may_leave c.args.self.now.journal.disk)) c.position-from.ensures.value
+    (found_as_it_is changes c.args.self.now.map.machine c.args.self.now.journal.at (g.D.Disk.seen c.args.self.now.journal.disk) (g.D.Disk.may_leave c.args.self.now.journal.disk) st c.position-from.result.durable (g.D.Disk.may_leave c.args.self.now.journal.disk) (c.position-from.ensures.survive st.header st.entries st.keeps))
 
 pub returns-in_err-append-clause-found : goal.returns-in_err-append-clause-found
-returns-in_err-append-clause-found g c = λ st mixing. found_longer c.args.self.now.map.machine c.args.self.now.journal.at (g.D.Disk.seen c.args.self.now.journal.disk) (g.D.Disk.may_leave c.args.self.now.journal.disk) st 1000 c.in-Ok.deltas.items
+returns-in_err-append-clause-found g c = λ changes st mixing. found_longer changes c.args.self.now.map.machine c.args.self.now.journal.at (g.D.Disk.seen c.args.self.now.journal.disk) (g.D.Disk.may_leave c.args.self.now.journal.disk) st 1000 c.in-Ok.deltas.items
     (λ h stands. c.in-Ok.ensures.tells h stands ∙ ap (λ (at : Position). take 1000 (drop at.newest (deltas_of c.args.self.now.map.machine.columns (moment h).commits))) c.position-from.ensures.value)
     c.in-Ok-records_of.records (c.in-Ok-records_of.ensures ∙ ap (map record_of) c.deref.ensures.value) c.args.self.now.journal.at.durable (g.D.Disk.may_leave c.append.new.self.disk) (c.append.ensures.crash st.header st.entries st.keeps mixing)
 
 pub returns-clause-stored : goal.returns-clause-stored
-returns-clause-stored g c = λ st mixing. stored_longer c.args.self.now.map.machine c.args.self.now.journal.at (g.D.Disk.seen c.args.self.now.journal.disk) (g.D.Disk.may_leave c.args.self.now.journal.disk) st 1000 c.in-Ok.deltas.items
+returns-clause-stored g c = λ changes st mixing. stored_longer changes c.args.self.now.map.machine c.args.self.now.journal.at (g.D.Disk.seen c.args.self.now.journal.disk) (g.D.Disk.may_leave c.args.self.now.journal.disk) st 1000 c.in-Ok.deltas.items
     (λ h stands. c.in-Ok.ensures.tells h stands ∙ ap (λ (at : Position). take 1000 (drop at.newest (deltas_of c.args.self.now.map.machine.columns (moment h).commits))) c.position-from.ensures.value)
     c.in-Ok-records_of.records (c.in-Ok-records_of.ensures ∙ ap (map record_of) c.deref.ensures.value) c.append.new.self.at (g.D.Disk.seen c.append.new.self.disk) (g.D.Disk.may_leave c.append.new.self.disk) (c.in_ok-append.ensures.kept st.header st.entries st.keeps mixing) c.in_ok-append.ensures.newest
 
 pub returns-clause-found : goal.returns-clause-found
-returns-clause-found g c = λ st mixing. found_longer c.args.self.now.map.machine c.args.self.now.journal.at (g.D.Disk.seen c.args.self.now.journal.disk) (g.D.Disk.may_leave c.args.self.now.journal.disk) st 1000 c.in-Ok.deltas.items
+returns-clause-found g c = λ changes st mixing. found_longer changes c.args.self.now.map.machine c.args.self.now.journal.at (g.D.Disk.seen c.args.self.now.journal.disk) (g.D.Disk.may_leave c.args.self.now.journal.disk) st 1000 c.in-Ok.deltas.items
     (λ h stands. c.in-Ok.ensures.tells h stands ∙ ap (λ (at : Position). take 1000 (drop at.newest (deltas_of c.args.self.now.map.machine.columns (moment h).commits))) c.position-from.ensures.value)
     c.in-Ok-records_of.records (c.in-Ok-records_of.ensures ∙ ap (map record_of) c.deref.ensures.value) c.args.self.now.journal.at.durable (g.D.Disk.may_leave c.append.new.self.disk) (c.append.ensures.crash st.header st.entries st.keeps mixing)
