@@ -106,10 +106,11 @@ class Server(Program):
         return Client(self.port, timeout=SECONDS)
 
     def lists_views(self) -> bool:
-        """Whether it knows version 3 of the wire, so that a board shows all of its views and knows what they are of."""
+        """Whether it lists its views, so that a board shows all of them and knows what they are of. Its `info` counts
+        them then."""
         try:
             with self.index() as index:
-                return index.hello.version >= 3
+                return index.hello.version >= 3 and "views" in index.info()
         except HelloUnanswered:
             return False
 
