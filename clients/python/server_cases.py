@@ -1,7 +1,7 @@
 """Cases of the queries of a server, over any server of version 3: the stand-in, or a build of mtserve.
 
 `CASES` are functions of a `Start`, which runs a server with these tokens and two columns, without end. Each is a test
-by itself, and raises what is wrong.
+alone, and raises what is wrong.
 """
 from __future__ import annotations
 
@@ -39,11 +39,11 @@ def want(is_so: bool, why: str) -> None:
 
 
 def want_same(what: str, got: object, wanted: object) -> None:
-    want(got == wanted, f"{what}: {str(got)[:300]} in place of {str(wanted)[:300]}")
+    want(got == wanted, f"{what}: {str(got)[:300]} instead of {str(wanted)[:300]}")
 
 
 def want_refused(what: str, outcome: object, kind: type) -> None:
-    want(isinstance(outcome, kind), f"{what}: {outcome!r} in place of {kind.__name__}")
+    want(isinstance(outcome, kind), f"{what}: {outcome!r} instead of {kind.__name__}")
 
 
 def client(port: int, **given: Any) -> Client:
@@ -165,7 +165,7 @@ def versions_after_hello(start: Start) -> None:
 # ---- what the server says of itself
 
 def alone_in_its_frame(start: Start) -> None:
-    """A query of the server beside others is refused, and the others are done."""
+    """A query of the server that has others in its frame is refused, and the others are done."""
     with start(OPEN) as port, client(port) as index:
         for number, query in enumerate((Ping(1), GetInfo(), Stop(), Hello())):
             put, refused, got = index.call_all([Put(b"a", b"v"), query, Get(b"a", (0,))])

@@ -85,7 +85,7 @@ class PlainIndex:
                                           for number, spec in self._views.items()])
 
     def waited(self, query: Wait) -> Waited:
-        """Waits until there are so many commits, for so long. Raises `NoSuchView`."""
+        """Waits until there are `commit` commits, at most the query's time. Raises `NoSuchView`."""
         with self._changed:
             self._changed.wait_for(lambda: self.is_ending or self.commits >= query.commit
                                    or query.view not in (None, *self._views), query.patience())

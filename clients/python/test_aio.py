@@ -17,7 +17,7 @@ Body = Callable[[aio.Client], Coroutine[Any, Any, None]]
 
 
 class Silent:
-    """A server that takes connections and what they send, and answers when it is told so."""
+    """A server that takes connections and what they send, and answers when a test says so."""
 
     def __init__(self) -> None:
         self.frames = 0

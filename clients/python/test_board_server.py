@@ -96,7 +96,7 @@ class ServerPollerTest(PollerCase):
         return found[0]
 
     def quiet(self, seconds: float) -> None:
-        """Lets the poller look by itself only after such a time."""
+        """Lets the poller look without its watcher only after this time."""
         patch = mock.patch.object(polling, "QUIET", seconds)
         patch.start()
         self.addCleanup(patch.stop)
@@ -175,7 +175,7 @@ class ServerPollerTest(PollerCase):
             self.until(lambda: self.at(card) == writes)
 
     def test_without_its_watcher(self) -> None:
-        """It asks by itself, as often as it would without one."""
+        """It asks alone, as often as it would without one."""
         self.quiet(3 * SECONDS)
         with Client(self.server.port) as index:
             index.build(Prefix(b"a"))

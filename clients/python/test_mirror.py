@@ -115,7 +115,7 @@ class Killed(Exception):
 
 
 def copy_of(at: int, rows: Rows, many: int = 1) -> Copy:
-    """A copy of these rows, so many at a time."""
+    """A copy of these rows, `many` at a time."""
     puts = [spelled_change(key, sets) for key, sets in rows.items()]
 
     def take_all(take: TakePuts) -> None:

@@ -41,7 +41,7 @@ class WantingLibrary:
 
 
 def wanting(index: Index) -> WantingLibrary:
-    """Puts a library that may want memory in the place of the index's own. The extension module makes no calls."""
+    """Puts a library that may be out of memory in the place of the index's own. The extension module makes no calls."""
     library = WantingLibrary(index._library)
     index._library, index._native = library, NoCalls()
     return library

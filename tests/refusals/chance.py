@@ -1,6 +1,6 @@
 """Scripts by chance of which allocations are refused by chance, many in one run.
 
-The program ends where it wants memory itself, for a line or its answer. Such an allocation is spared and the run made
+The program ends if it is itself out of memory, for a line or its answer. Such an allocation is spared and the run made
 again: the runs are the same up to there. So at last a run comes to its end in which all others that were drawn are
 refused.
 """
@@ -33,7 +33,7 @@ def keys_of_layers(chance: random.Random) -> List[bytes]:
 
 @dataclass
 class Writer:
-    """Writes a script of so many lines by chance, over these keys."""
+    """Writes the lines of a script by chance, over these keys."""
 
     chance: random.Random
     keys: Sequence[bytes]
@@ -78,7 +78,7 @@ class Writer:
 
 
 def script_by_chance(seed: int, count: int) -> Script:
-    """A script of so many lines: many puts first, then as many removes as puts."""
+    """A script of `count` lines: many puts first, then as many removes as puts."""
     chance = random.Random(f"script {seed}")
     keys = keys_of_one_layer() if seed % 2 == 0 else keys_of_layers(chance)
     writer = Writer(chance, keys)
@@ -120,12 +120,12 @@ def refuse_by_chance(stepping: Stepping, seed: int) -> ByChance:
 
 
 def judge(stepping: Stepping, run: Run, own: int) -> ByChance:
-    """Holds a whole run against the plain map, with the same refusals in the script and none behind it."""
+    """Holds a whole run against the plain map, with the same refusals in the script and none after it."""
     refused = [told.number for told in run.told]
     whole = stepping.play(stepping.lines, refused)
     want(whole.run.output.startswith(run.output), "the same refusals are answered otherwise")
     Held(stepping.script.columns, whole.said)
-    want(stepping.is_ended(whole), "a call behind the script doesn't end")
+    want(stepping.is_ended(whole), "a call after the script doesn't end")
     lines = sum(REFUSED in one.answers for one in whole.said)
     more = stepping.judge_growth(whole, refused, range(MOST_UNPOSTED)) if stepping.has_kept_room else 0
     return ByChance(len(refused) + own, own, lines, more)

@@ -168,7 +168,7 @@ class Member:
                 self.lost_removes.append((change, before, outcome.to))
                 self.keep(change)
             else:
-                want(now == had, f"{change.key!r} has {now!r} in place of {had!r}")
+                want(now == had, f"{change.key!r} has {now!r} instead of {had!r}")
 
 
 def logs(members: Sequence[Member], count: int) -> Iterator[List[Query[Any]]]:

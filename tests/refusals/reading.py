@@ -41,7 +41,7 @@ class Said(NamedTuple):
 
 
 def said_of(lines: Sequence[str], answers: Sequence[str]) -> List[Said]:
-    """Each line with its answers: those of a feed go on to its mark."""
+    """Each line with its answers: those of a feed continue to its mark."""
     said: List[Said] = []
     at = 0
     for line in lines:
@@ -259,7 +259,7 @@ class Views:
             return
         want(answer.startswith("applied "), "an apply is answered otherwise")
         at = number_of(answer[8:])
-        want(at <= counts[1], "there aren't so many commits")
+        want(at <= counts[1], "there are fewer commits")
         self.pin(view, at - 1)
         self.may[view] = {at}
 
@@ -271,7 +271,7 @@ class Views:
             return
         want(answer.startswith("applied "), "an apply is answered otherwise")
         at = number_of(answer[8:])
-        want(at <= counts[1], "there aren't so many commits")
+        want(at <= counts[1], "there are fewer commits")
         may_be = [view for view in self.may if at - 1 in self.may[view]
                   and all(max(self.may[other]) >= at - (other > view) for other in self.may if other != view)]
         want(bool(may_be), f"no view is at {at - 1} and the furthest behind")
@@ -413,7 +413,7 @@ class Held:
             want(answer == self.page(view, stands, command.start, limit), "its page is another")
 
     def page(self, view: int, at: int, start: bytes, limit: int) -> str:
-        """The text of a page, afresh from the rows after so many commits."""
+        """The text of a page, again from the rows after `at` commits."""
         spec = self.specs[view].spec
         assert spec is not None
         stood = [(key, *self.rows.at(key, at)) for key in self.rows.keys]

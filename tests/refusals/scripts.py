@@ -124,9 +124,9 @@ def keys_of(lines: Sequence[str]) -> List[bytes]:
 
 
 def ending(script: Script, gathered: Gathering, views: int) -> List[str]:
-    """What is done behind a script. All calls are finished, so no lock may be left. Each row is read, and each view
+    """What is done after a script. All calls are finished, so no lock may be left. Each row is read, and each view
     once more where it has been taken on to the end. Each key is put: its border's lock is free. Then each is
-    removed, what is empty is taken out and freed, and new keys make nodes anew."""
+    removed, what is empty is taken out and freed, and new keys make nodes again."""
     keys = [word_of(key) for key in keys_of(script.lines)]
     last = gathered.last_call + gathered.unsure + 1
     lines = [f"finish {call}" for _ in range(ROUNDS) for call in range(1, last + 1)]
@@ -141,6 +141,6 @@ def ending(script: Script, gathered: Gathering, views: int) -> List[str]:
 
 
 def growing(count: int) -> List[str]:
-    """Puts of so many new keys, which make nodes anew: the memory of nodes grows at the same put wherever as many
+    """Puts of so many new keys, which make nodes again: the memory of nodes grows at the same put wherever as many
     numbers of nodes were free before."""
     return [f"alone put ff{number:06x} -" for number in range(count)]

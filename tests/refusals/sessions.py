@@ -1,4 +1,4 @@
-"""Sessions of a server whose allocations are refused: a client that asks frames of lines, and holds what it is told."""
+"""Sessions of a server whose allocations are refused: a client that asks frames of lines, and holds the answers against the model."""
 from __future__ import annotations
 
 import os

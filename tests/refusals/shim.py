@@ -26,7 +26,7 @@ class Told:
 
 @dataclass(frozen=True)
 class Run:
-    """How a program ended, what it wrote, and what was told of its allocations."""
+    """How a program ended, what it wrote, and what was reported of its allocations."""
 
     status: int
     output: bytes

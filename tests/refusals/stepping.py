@@ -83,7 +83,7 @@ class Stepping:
         self.whole = self.play(self.lines)
         self.held = Held(script.columns, self.whole.said)
         want(all(one.answer != REFUSED for one in self.whole.said), "memory is wanting without refusals")
-        want(self.is_ended(self.whole), "a call behind the script doesn't end")
+        want(self.is_ended(self.whole), "a call after the script doesn't end")
         self.places = self.places_of_each()
 
     def play(self, lines: Sequence[str], refused: Sequence[int] = (), large: int = LARGE) -> Played:
@@ -94,7 +94,7 @@ class Stepping:
         return self.shim.run(self.script.words, given, refused, large)
 
     def add_growing(self) -> None:
-        """New keys at the end, till the memory of nodes grows by them, and grows once more: a run with a refusal may
+        """New keys at the end, until the memory of nodes grows by them, and grows once more: a run with a refusal may
         have had more nodes at once before."""
         count = 64
         while True:
@@ -155,7 +155,7 @@ class Stepping:
         want(self.whole.at(told[0].written) == self.places[number], "another line is in work")
         kind = self.judge(it, self.places[number])
         self.counts[kind] += 1
-        want(self.is_ended(it), "a call behind the script doesn't end")
+        want(self.is_ended(it), "a call after the script doesn't end")
         # a border that was not posted is found from its left alone, so no tidy takes it out
         if self.has_kept_room:
             self.judge_growth(it, [number], (0, 1) if kind == LEFT_OUT else (0,))
@@ -232,7 +232,7 @@ class Stepping:
         return LEFT_OUT
 
     def is_of_put(self, it: Played, at: int) -> bool:
-        """Whether a line goes on with a put."""
+        """Whether a line continues with a put."""
         command = it.said[at].command
         if command is None:
             return False
@@ -252,7 +252,7 @@ class Stepping:
         return all(one.answers == other.said[at].answers for at, one in enumerate(it.said) if at not in skipped)
 
     def is_ended(self, it: Played) -> bool:
-        """Whether each call behind the script has ended, so that no lock and no call is left."""
+        """Whether each call after the script has ended, so that no lock and no call is left."""
         alone = [one.answer for one in it.said[self.tail:] if one.line.startswith("alone ")]
         return all(answer.startswith("done ") for answer in alone)
 

@@ -1,4 +1,4 @@
-"""Where a server listens: a port of a host, by TLS if a proxy speaks it; or a Unix socket."""
+"""The address of a server: a port of a host, by TLS if a proxy speaks it; or a Unix socket."""
 from __future__ import annotations
 
 import socket

@@ -50,7 +50,7 @@ class ServerCalls(abc.ABC):
 
     async def wait(self, commit: Optional[int] = None, view: Union[View, int, None] = None,
                    timeout: Optional[float] = None) -> bool:
-        """Waits until there are `commit` commits; with a view of this index, or its number, until that is at so many.
+        """Waits until there are `commit` commits; with a view of this index, or its number, until that is at this commit.
         Without `commit` it waits for the next one. Returns whether it was reached in `timeout` seconds (None: waits
         without end). It uses a connection of its own, so the other calls don't wait for it. Raises `NoSuchView`."""
         number, time_left = None if view is None else self._number_of(view), checked_wait(timeout)

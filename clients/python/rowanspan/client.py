@@ -121,7 +121,7 @@ class Asker(RowMap):
 
     def wait(self, commit: Optional[int] = None, view: Union[View, int, None] = None,
              timeout: Optional[float] = None) -> bool:
-        """Waits until there are `commit` commits; with a view of this index, or its number, until that is at so many.
+        """Waits until there are `commit` commits; with a view of this index, or its number, until that is at this commit.
         Without `commit` it waits for the next one. Returns whether it was reached in `timeout` seconds (None: waits
         without end). The server says so when it is reached, so nothing is asked in between. Raises `NoSuchView`."""
         number, time_left = None if view is None else number_of_view(self, view), checked_wait(timeout)
@@ -142,7 +142,7 @@ class Client(Asker):
 
     `port` is a port of `host`, or `unix:` and the path of a Unix socket. `timeout` is for how many seconds a connect, a
     send or a receive may wait (None: without end); one that waits longer closes the connection. `tls` is how a server
-    behind a TLS proxy is spoken to, such as `ssl.create_default_context()`.
+    after a TLS proxy is spoken to, such as `ssl.create_default_context()`.
 
     `token` is the secret that a server may ask for, and `name` is for the people that look after it: up to 64 bytes. If
     one of them is given, the client says hello first, which only a server that knows version 3 of the wire answers. If

@@ -1,4 +1,4 @@
-"""The C library, through ctypes: where it is, its functions and values, and how its answers are read."""
+"""The C library, through ctypes: its file, its functions and values, and how its answers are read."""
 from __future__ import annotations
 
 import ctypes

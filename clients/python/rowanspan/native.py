@@ -1,4 +1,4 @@
-"""The extension module of the embedded index: where it is, and the calls that it makes in the place of ctypes."""
+"""The extension module of the embedded index: its file, and the calls that it makes instead of ctypes."""
 from __future__ import annotations
 
 import ctypes

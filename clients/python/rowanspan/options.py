@@ -1,4 +1,4 @@
-"""Options of the command lines: where the server is, how it is connected to, and the token that it asks for."""
+"""Options of the command lines: the address of the server, how it is connected to, and the token that it asks for."""
 from __future__ import annotations
 
 import argparse

@@ -23,7 +23,7 @@ class NotAllowed(Refused, PermissionError):
 
 
 class TooMuchAtOnce(Refused):
-    """A query of the server was asked beside others. Nothing was changed by it."""
+    """A query of the server had others in its frame. Nothing was changed by it."""
 
     number, cause = 25, "a query of the server is alone in its frame"
 

@@ -165,7 +165,7 @@ class ListViews(ServerQuery[Listing]):
 
 @dataclass(frozen=True)
 class Wait(ServerQuery[Waited]):
-    """Waits until there are so many commits, or until a view is at so many, but at most this time."""
+    """Waits until there are `commit` commits, or until a view is at this commit, but at most this time."""
 
     answers: ClassVar[Answers[Waited]] = {AnswerKind.WAITED: read_waited}
     commit: int

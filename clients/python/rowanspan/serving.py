@@ -1,4 +1,4 @@
-"""The server of the package: where the program mtserve is, and how it is run so that a signal ends it gracefully."""
+"""The server of the package: the file of the program mtserve, and how it is run so that a signal ends it gracefully."""
 from __future__ import annotations
 
 import os

@@ -156,7 +156,7 @@ pub frame_takes : (generation place : ℕ) (bytes : List ℕ) (entry : Entry) (n
 unfolding frame_at
 frame_takes generation place bytes entry n fits e = read_by generation place bytes entry n fits (front bytes) refl e
 
--- ---- where a log ends
+-- ---- the end of a log
 
 pub front_ended : (bytes : List ℕ) → ends bytes ≡ true → front bytes ≡ Ok None
 unfolding front

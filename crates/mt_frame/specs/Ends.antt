@@ -1,4 +1,4 @@
--- Where a log ends: at a zero within the frame that would be there.
+-- The end of a log: a zero within the frame that would be there.
 use Rattle.std.specs.Prelude.{ℕ, ◌+◌, ◌*◌, ◌%◌, ◌^◌, ◌==◌, ◌&&◌, ◌||◌, Bool, nat_le, List, take, drop, length, slice_index}
 use Rattle.std.specs.List.{list_any, list_all}
 use Rattle.mt_frame.specs.declared.limits.TheConstants.{LENGTH_BYTES, MAX_TEXT_BYTES}
@@ -18,7 +18,7 @@ is_length bytes =
     (length bytes == LENGTH_BYTES) && list_all (λ byte. nat_le 128 byte) bytes && nat_le 1 (announced bytes)
     && nat_le (announced bytes) MAX_TEXT_BYTES
 
--- the first five bytes, if there are so many, and those of the text that they announce
+-- the first five bytes, or all if there are fewer, and those of the text that they announce
 abbrev pub length_part : List ℕ → List ℕ
 length_part bytes = take LENGTH_BYTES bytes
 

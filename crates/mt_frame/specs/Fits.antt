@@ -25,7 +25,7 @@ CommitsFit commits =
     (commits.first < 2 ^ 64) × (commits.durable < 2 ^ 64)
     × ((length commits.records ≤ MAX_RECORDS) × AllByRecursion RecordFits commits.records)
 
--- there are at most so many records: the types keep the rest of what EntryFits says
+-- there are at most MAX_RECORDS records: the types keep the rest of what EntryFits says
 abbrev pub CountFits : Entry → Type 0
 CountFits (Header header) = Unit {0}
 CountFits (Group commits) = length commits.records ≤ MAX_RECORDS

@@ -19,7 +19,7 @@ FramesReadOneWay =
     → HasFrame generation place y → frame_of generation place x ++ after_x ≡ frame_of generation place y ++ after_y
     → (x ≡ y) × (after_x ≡ after_y)
 
--- where a frame is, the log doesn't end
+-- the log doesn't end at a frame
 abbrev pub FramesDoNotEnd : Type 0
 FramesDoNotEnd =
     (generation place : ℕ) (entry : Entry) (rest : List ℕ) → HasFrame generation place entry
@@ -32,6 +32,6 @@ TornFramesEnd =
     → OldOrNew (frame_of generation place entry) left
     → (left ≡ frame_of generation place entry) ⊎ IsTrue (ends (left ++ rest))
 
--- where a log ends it still ends if a crash sets some of the bytes to zero
+-- bytes at which a log ends still end it if a crash sets some of them to zero
 abbrev pub EndsStay : Type 0
 EndsStay = (bytes left : List ℕ) → OldOrNew bytes left → IsTrue (ends bytes) → IsTrue (ends left)

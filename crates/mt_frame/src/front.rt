@@ -9,7 +9,7 @@ ghost use Rattle.mt_frame.specs.Faults.{front};
 use crate::fault::FrameFault;
 use crate::limits::{LENGTH_BYTES, MAX_TEXT_BYTES};
 
-// The first bytes, at most so many.
+// The first bytes, at most `count`.
 fn first(bytes: &[u8], count: usize) -> &[u8]
     ensures { result.now ≡ take count bytes.now }
 {

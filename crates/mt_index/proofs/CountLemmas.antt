@@ -1,4 +1,4 @@
--- How many of the open calls change the tree, as calls begin, go on and end.
+-- How many of the open calls change the tree, as calls begin, continue and end.
 use Rattle.std.proofs.Common.{ℕ, ◌≡◌, ◌≤◌, ◌+◌, ◌++◌, Bool, true, false, [], ◌∷◌, length, Some, ap, cond, arith}
 use Rattle.mt_types.specs.declared.event.Request.{Request}
 use Rattle.mt_promise.specs.Legal.{reads_log}

@@ -40,7 +40,7 @@ counts_none : (b : Bool) → ◌≡◌ {A = ℕ} (cond b 0 1) 0 → b ≡ true
 counts_none true e = refl
 counts_none false e = absurd (omega (arith, e))
 
--- where none of the calls changes the tree, each only reads
+-- if none of the calls changes the tree, each only reads
 pub all_read : (ks : Entries) → changing ks ≡ 0 → (k : ℕ × Call) → Among k ks → reads_log (request_of k.1.work) ≡ true
 all_read [] none k i = elim i [ ]
 all_read (x ∷ xs) none k i = elim (among_cases k x xs i) [

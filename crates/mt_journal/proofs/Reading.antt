@@ -114,7 +114,7 @@ same_found x y m n e =
     let pair : (x, m) ≡ (y, n) = cc in
     ap (λ (z : Entry × ℕ). z.0) pair
 
--- where a log continues there is no fault
+-- if a log continues, there is no fault
 pub no_fault : (at : Position) (bytes rest : List ℕ) (most : ℕ) (fault : FrameFault) → rest ≡ drop at.end bytes → Ahead at bytes most
     → (IsTrue (ends rest) → none_found ≡ faulty fault)
     → ((entry : Entry) (after : List ℕ) → HasFrame at.generation at.end entry → rest ≡ frame_of at.generation at.end entry ++ after → found entry (length (frame_of at.generation at.end entry)) ≡ faulty fault) → ⊥

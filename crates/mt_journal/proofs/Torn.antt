@@ -12,7 +12,7 @@ use Rattle.mt_journal.specs.Log.{last_number, HaveFrames, header_frame, log_spel
 use Rattle.mt_journal.specs.Keeping.{Survives, IsTorn}
 use Rattle.mt_journal.proofs.Frames.{log_append, have_parts, last_append, last_least, take_over, says_front}
 
--- where a zero is, the log ends
+-- the log ends at a zero
 pub ends_at_zero : (bytes : List ℕ) → ends (0 ∷ bytes) ≡ true
 unfolding ends
 ends_at_zero bytes = refl

@@ -52,7 +52,7 @@ pub record Keeps (at : Position) (seen : List ℕ) (may_leave : List ℕ → Typ
   pub durable : at.durable ≡ last_number header.base synced
   pub left : (left : List ℕ) → may_leave left → IsTorn header synced since at.room left
 
--- after the room the file has so many more zeros
+-- after the room the file has this number of further zeros
 abbrev pub HasZeros : Position → ℕ → List ℕ → LogHeader → List Entry → Type 0
 HasZeros at more seen header entries =
     (zeros : ℕ) × (rest : List ℕ)

@@ -102,14 +102,14 @@ impl<D: Disk + Drop> Journal<D> {
         }
     }
 
-    // Whether so many bytes and one zero have room.
+    // Whether `count` bytes and one zero have room.
     fn has_room(&self, count: usize) -> bool
         ensures { IsTrue result → self.now.at.end + count < self.now.at.room }
     {
         self.at.room.saturating_sub(self.at.end) > count
     }
 
-    // Makes room for so many bytes, if there is less.
+    // Makes room for `count` bytes, if there is less.
     fn make_room(&mut self, alloc: Global, count: usize) -> Result<(), JournalError>
         requires { IsTrue (D.Disk.is_usable self.old.disk) }
         ensures kept { (header : LogHeader) (entries : List Entry)
@@ -139,7 +139,7 @@ impl<D: Disk + Drop> Journal<D> {
         Err(JournalError::TooLong)
     }
 
-    // Writes an entry with so many commits at the end, after zeros if there is no room for it.
+    // Writes an entry with `count` commits at the end, after zeros if there is no room for it.
     fn put(&mut self, alloc: Global, entry: &Entry, count: u64) -> Result<(), JournalError>
         requires usable { IsTrue (D.Disk.is_usable self.old.disk) }
         requires follows { AreNumbered self.old.at.newest (entry.now ∷ []) }

@@ -59,7 +59,7 @@ fn read_file<D: Disk>(alloc: Global, disk: &mut D) -> Result<Vec<u8>, JournalErr
 }
 
 /// Reads the log of a file, and sets what follows its end to zero, so that frames may be appended. The file must be a log
-/// of an index with so many columns. Up to five calls of the disk. It keeps the bytes of the file in memory meanwhile.
+/// of an index with `columns` columns. Up to five calls of the disk. It keeps the bytes of the file in memory meanwhile.
 ///
 /// A crash during the call leaves what a crash could leave before, or a log of the same entries.
 ///

@@ -1,11 +1,11 @@
-//! Where a log ends, and the numbers of its commits.
+//! The end of a log, and the numbers of its commits.
 
-/// Where a log ends, and the numbers of its commits.
+/// The end of a log, and the numbers of its commits.
 #[derive(Clone, Copy, Debug, PartialEq, Eq)]
 pub struct Position {
     /// The generation of the files that the log belongs to.
     pub generation: u64,
-    /// Where the next frame goes.
+    /// The place of the next frame.
     pub end: usize,
     /// From the end to here the file had zeros when it was synced, one at least.
     pub room: usize,

@@ -22,7 +22,7 @@ pub struct Recovered {
     pub header: LogHeader,
     /// The entries after the header, in their order.
     pub entries: Vec<Entry>,
-    /// Where the log ends.
+    /// The end of the log.
     pub at: Position,
 }
 
@@ -172,7 +172,7 @@ fn no_header(fault: FrameFault) -> JournalError {
     }
 }
 
-/// Reads a log of an index with so many columns from the bytes of its file. O(n) in the bytes.
+/// Reads a log of an index with `columns` columns from the bytes of its file. O(n) in the bytes.
 ///
 /// # Errors
 ///

@@ -11,7 +11,7 @@ use crate::position::Position;
 use sqlite_disk::Disk;
 use std::io;
 
-/// Writes the frame of an entry with so many commits at the end. One call of the disk.
+/// Writes the frame of an entry with `count` commits at the end. One call of the disk.
 pub fn write_frame<D: Disk>(
     disk: &mut D,
     at: &mut Position,

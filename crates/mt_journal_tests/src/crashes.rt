@@ -7,7 +7,7 @@ use sqlite_disk::Memory;
 use std::alloc::Global;
 use std::test::Fail;
 
-// The first bytes of the file after so many turns, and the numbers of the last commit and the last that is durable.
+// The first bytes of the file after `turns` turns, and the numbers of the last commit and the last that is durable.
 fn file_after(alloc: Global, turns: usize) -> Result<(Vec<u8>, u64, u64), Fail> {
     let mut journal = new_journal(alloc, Memory::new(alloc))?;
     for turn in TURNS.iter().take(turns) {

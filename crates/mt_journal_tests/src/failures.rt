@@ -8,7 +8,7 @@ use std::alloc::Global;
 use std::process::Abort;
 use std::test::Fail;
 
-// Takes the turns on a disk that fails after so many calls. Returns the first bytes of the file, and the number of the
+// Takes the turns on a disk that fails after `calls` calls. Returns the first bytes of the file, and the number of the
 // last commit that was reported as durable, or `None` if no journal was made.
 fn run_until_failure(
     rt: &impl Abort,

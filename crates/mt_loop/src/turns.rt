@@ -141,7 +141,7 @@ impl Turns {
     }
 }
 
-// What the lock is kept for while so many frames of one kind are answered.
+// What the lock is kept for while `frames` frames of one kind are answered.
 fn keeping_for(frames: usize, keeping: Keeping) -> Keeping {
     if frames == 1 { Keeping::Frame } else { keeping }
 }

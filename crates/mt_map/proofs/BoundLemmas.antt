@@ -57,7 +57,7 @@ past_end (Excluded bound) new key out after = go (key_three new bound) after
     go (inr (inr more)) comes = ap is_lt (cmp_greater key bound (past bound new key more comes))
 past_end Unbounded new key out after = absurd (false≢true (sym out))
 
--- ---- where a walk within bounds begins
+-- ---- the begin of a walk within bounds
 pub begins_included : (map : Rows) (start : List ℕ) → BeginsFrom map (Included start) (record { key = start; given = false })
 begins_included map start key row has = (there, back (key_three start key))
   where
@@ -88,7 +88,7 @@ begins_absent map start none key row has = (there, λ is. inr (lt_less (key_cmp 
     there (inl same) = absurd (none (subst (λ (f : Option Row). IsSome f) (sym (ap (get map) same ∙ has)) refl))
     there (inr less) = ap is_lt less
 
--- if it has one, the walk gives that first, and is then behind it
+-- if it has one, the walk gives that first, and is then after it
 pub begins_behind : (map : Rows) (start : List ℕ) (found : Option Row) (new : At) → IsSome (get map start) → GivesNext map (record { key = start; given = false }) found new → BeginsFrom map (Excluded start) new
 begins_behind map start found new there gives = go (get map start) refl there found gives
   where

@@ -14,7 +14,7 @@ use Rattle.mt_walk.specs.Walk.{Gives}
 use Rattle.mt_map.specs.Walks.{At, IsAfter, keys_of, keys_after, keys_to_come}
 use Rattle.mt_map.proofs.WalkLemmas.{after_of, is_given, less_back, place_at}
 
--- so many times k, and less than k, are less than once more k
+-- n times k, and less than k, are less than n + 1 times k
 step : (p q k r s : ℕ) → p + 1 ≤ q → r < k → p * k + r < q * k + s
 step p q k r s more few =
     let most : (p + 1) * k ≤ q * k = mul-le (p + 1) k q k more (omega arith) in omega (arith, most, few)

@@ -258,7 +258,7 @@ page_shows s view floor start limit page shows reads h st = at (page_fault start
         ]
 
 -- ---- a page whose start is not copied
--- where a page is read, there may be no memory for it
+-- if a page is read, there may be no memory for it
 pub page_wants : (s : MachineView) (view : ℕ) (floor : ℕ) (page : Page) → ReadsView s view floor [] 1 (View page) → ReadsView s view floor [] 1 (Refused NoMemory)
 page_wants s view floor page reads = at (state_at view s.views.views) reads
   where

@@ -58,7 +58,7 @@ keys_after (suc bytes) (byte ∷ key) = (255 - byte) * keys_of bytes + keys_afte
 abbrev pub keys_to_come : At → ℕ
 keys_to_come at = if at.given then keys_after MAX_KEY_BYTES at.key else keys_after MAX_KEY_BYTES at.key + 1
 
--- ---- a walk as contracts see it: the machine, where it is, and whether it was refused memory
+-- ---- a walk as contracts see it: the machine, its place, and whether it was refused memory
 pub record RowsView : Type 0 where
   pub machine : MachineView
   pub at : At

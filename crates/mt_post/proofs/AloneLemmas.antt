@@ -55,7 +55,7 @@ gone_stays chart new number evolves g = elim (evolves number g.role g.prefix g.l
   | inr freed ↦ absurd (let less = freed.2 in omega (arith, less))
 ]
 
--- ---- where it walks, all that is taken being its own
+-- ---- its walk, if all that is taken is its own
 module _ (a : ArenaView) (posting : Posting) (w : World) (now begun : ℕ) (prefix : List ℕ) (node : NodeNo) (world : IsWorld a now w) (border : IsToPost a w prefix posting.half.0 posting.low) (waiting : AreWaiting a w prefix posting.waiting)
     (at : IsWalking begun prefix (goal posting.half posting.low posting.waiting) node.0 w) (taken : (number : ℕ) → IsTaken a w number → Among number (split_owns posting.half.0 posting.waiting)) where
   -- the interior isn't locked: those that the posting has locked are lower
@@ -74,7 +74,7 @@ module _ (a : ArenaView) (posting : Posting) (w : World) (now begun : ℕ) (pref
     | inr locked ↦ not_locked i named locked
   ]) held
 
-  -- ---- where it is at no marked node, it goes to none
+  -- ---- if it is at no marked node, it goes to none
   module _ (after : ArenaView) (then : Posting) (marked : (number : ℕ) → mark_of (node_at a.nodes number) ≡ true → HasGone w.chart number) (marks : MarksNone a after) where
     -- what is on isn't marked
     on_unmarked : (number : ℕ) (role : Role) (layer : List ℕ) (low : ℕ) (posted : Bool) → w.chart number ≡ Some (spot role layer low (on posted)) → IsUnmarked after number

@@ -1,4 +1,4 @@
--- What a tidy reads on its way to the border before the one that it unlinks: where it leads, and what others leave of it.
+-- What a tidy reads on its way to the border before the one that it unlinks: what it leads to, and what others leave of it.
 use Rattle.std.proofs.Common.{ℕ, ◌≡◌, ◌<◌, List, [], Option, Some, None, Bool, true, false, if◌then◌else◌, refl, sym, subst}
 use Rattle.std.specs.Prelude.{◌^◌, nat_le}
 use Rattle.std.specs.Int.{w64, to_be_bytes}

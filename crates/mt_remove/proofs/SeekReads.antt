@@ -1,4 +1,4 @@
--- What a tidy reads on its way to its place: where it leads, why it waits, and what others leave of it.
+-- What a tidy reads on its way to its place: what it leads to, why it waits, and what others leave of it.
 use Rattle.std.proofs.Common.{ℕ, suc, ◌≡◌, ◌<◌, ◌+◌, List, [], ◌∷◌, length, drop, Option, Some, None, Bool, true, false, if◌then◌else◌, sym, subst, arith, add-one}
 use Rattle.std.specs.Prelude.{nat_lt, nat_le}
 use Rattle.std.specs.Str.{bytes_eq}
@@ -47,7 +47,7 @@ use Rattle.mt_steps.proofs.WayLemmas.{layer_below}
 use Rattle.mt_remove.specs.Reading.{without_row, seek_reading}
 use Rattle.mt_remove.specs.Known.{SeekFinding, SeekIsTrue}
 
--- ---- where a reading leads
+-- ---- what a reading leads to
 module _ (a : ArenaView) (now : ℕ) (w : World) (world : IsWorld a now w) (begun : ℕ) (key : List ℕ) (way : Way) (past : List Arena) where
   abbrev slice : ℕ
   slice = slice_number (rest_of key way)
@@ -65,7 +65,7 @@ module _ (a : ArenaView) (now : ℕ) (w : World) (world : IsWorld a now w) (begu
   abbrev GetLeads : Finding → FindReading → Type 0
   GetLeads finding reading = LeadsTo key [] way finding begun past a w reading
 
-  -- where a get's reading leads it
+  -- what a get's reading leads it to
   as_visit : (finding : Finding) (visit : Visit) → GetLeads finding (by_visit visit) → SeekLeads finding (by_visit visit)
   as_visit finding VisitAgain led = tt
   as_visit finding (VisitTo next) led = led.on

@@ -14,7 +14,7 @@ pub struct Unlinking {
     pub border: NodeNo,
     /// The head of the layer.
     pub head: NodeNo,
-    /// Where the call is on that way.
+    /// The place of the call on that way.
     pub node: NodeNo,
     /// The slice before the border's low.
     pub slice: u64,

@@ -93,7 +93,7 @@ pub read_ends : (s t : InnerView) (p q : PassView) (h : History) (request : Requ
     → IsAlone t q h × IsReadAtOnce (store_of s h) request result (store_of t h)
 read_ends s t p q h request result a read = subst (λ (k : InnerView). Came s p h request a result k q) (sym read.same) (told s p h request a read.read result q read.shown read.told)
 
--- where no trace is kept, no get or range need be driven
+-- if no trace is kept, no get or range need be driven
 never_driven : (s : InnerView) (p : PassView) (h : History) (request : Request) → IsAlone s p h → s.trace ≡ Off → IsRead request → MustDrive ReadsNow s p.number request → ⊥
 never_driven s p h request a off read (inl other) = other read
 never_driven s p h request a off read (inr none) =

@@ -126,7 +126,7 @@ shows_key content class suffix is_class is_suffix =
     go (Long own row) = (row, refl)
     go (Link head) = (head.0, refl)
 
--- ---- where a reading leads
+-- ---- what a reading leads to
 module _ (show : Row → Row) (a : ArenaView) (now : ℕ) (w : World) (world : IsWorld a now w) (begun : ℕ) (prefix : List ℕ) (slice number : ℕ) (past : List Arena) where
   abbrev arenas : List Arena
   arenas = arena_seen a ∷ past

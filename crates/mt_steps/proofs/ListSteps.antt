@@ -37,7 +37,7 @@ use Rattle.mt_tree.specs.declared.visit.Visit.TheVariants.{Below as VisitBelow, 
 use Rattle.mt_tree.proofs.DescentLemmas.{leads_head, leads_interior}
 use Rattle.mt_tree.proofs.HeldLemmas.{held_may_visit}
 
--- ---- where a reading leads
+-- ---- what a reading leads to
 module _ (show : Row → Row) (a : ArenaView) (now : ℕ) (w : World) (world : IsWorld a now w) (begun : ℕ) (prefix : List ℕ) (slice number : ℕ) (past : List Arena) (fits : slice < 2 ^ 64) (held : Holds w.chart begun number prefix slice) where
   abbrev Leads : ListReading → Type 0
   Leads reading = ListLeads show prefix slice number begun past a w reading

@@ -138,7 +138,7 @@ left_most all one other most = omega arith
 way_within : (a : ArenaView) (number : ℕ) → way_left a 0 number ≤ all_heights
 way_within a number = omega arith
 
--- ---- where a scan stands
+-- ---- the place of a scan
 -- its node is on, in the layer of its prefix
 pub record ScanStands (chart : Chart) (number : ℕ) (prefix : List ℕ) : Type 0 where
   pub role : Role

@@ -87,7 +87,7 @@ lent_of a number field part is sound arena = go (node_at a.nodes number) refl is
     go (Some node) named is sound = record { node = node; named = named; sound = sound; is = is; arena = arena }
     go None named is sound = absurd is
 
--- ---- where a reading leads, by what is so of each that it may be
+-- ---- what a reading leads to, by what is so of each that it may be
 module _ {N K F : Type 0} (P : Reading N K F → Type 0) where
   pub looked_by : (version : VersionView) → (version.deleted ≡ true → P Restarts) → (is_flagged version ≡ true → P Repeats) → (version.deleted ≡ false → P (GoesOn (Looked (counters_of version)))) → P (looked version)
   looked_by version gone flagged on = go version.deleted refl (is_flagged version) refl

@@ -1,4 +1,4 @@
-//! What a server answers by itself: its own queries, and refusals of what a client may not ask.
+//! What a server answers without its index: its own queries, and refusals of what a client may not ask.
 
 ghost use Rattle.std.specs.Prelude.{◌≡◌, ◌≤◌, ◌<◌, ◌∷◌, [], None, Some, length, IfOk, IfSome, OnErr};
 ghost use Rattle.std.specs.Option.{option_map, option_copied};

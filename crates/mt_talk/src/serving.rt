@@ -14,7 +14,7 @@ use std::alloc::{AllocError, Global};
 pub struct Server<A> {
     /// What answers the queries of the index.
     pub inner: A,
-    /// What the server answers by itself.
+    /// What the server answers without its index.
     pub keeper: Keeper,
     alloc: Global,
 }

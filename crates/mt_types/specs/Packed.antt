@@ -11,7 +11,7 @@ pieces (column ∷ columns) = length column ∷ (column ++ pieces columns)
 abbrev pub packed : List (List ℕ) → List ℕ
 packed columns = length columns ∷ pieces columns
 
--- as many columns as are told, from their pieces
+-- as many columns as are given, from their pieces
 unfoldable pub cut : ℕ → List ℕ → List (List ℕ)
 cut zero bytes = []
 cut (suc n) [] = []

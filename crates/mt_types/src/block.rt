@@ -11,7 +11,7 @@ use std::sync::ArcSlice;
 /// At most this many bytes lie in place. So a row takes 32 bytes, and a slot of a border with its row a cache line.
 pub(crate) const FEW: usize = 22;
 
-/// Where the bytes of a block are.
+/// The places of the bytes of a block.
 #[derive(Debug, Drop)]
 pub(crate) enum Kept {
     /// In place: the first of these bytes, this many.
@@ -37,7 +37,7 @@ impl Model for Block {
     ghost invariant = { λ b. IsKept b.kept };
 }
 
-/// Where the bytes are of a block that is being made.
+/// The places of the bytes of a block that is being made.
 #[derive(Debug, Drop)]
 pub(crate) enum Made {
     Few(ArrayVec<u8, FEW>),

@@ -18,7 +18,7 @@ use Rattle.mt_walk.specs.Standing.{AreNarrow}
 abbrev scan_at : List ℕ → Place → ScanView
 scan_at prefix at = record { prefix = prefix; at = at; taken = []; limit = 0; asked = [] }
 
--- where a walk is, as far as its slice tells
+-- the place of a walk, as far as its slice says
 abbrev pub coarse : ℕ → Bool → Place
 coarse slice after = last slice (cond after 10 0)
 

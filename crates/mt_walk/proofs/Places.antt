@@ -123,7 +123,7 @@ module _ (prefix : List ℕ) (at : Place) (b : BorderView) (sound : IsBorder b) 
       go (inr (e, x, row, i, holds, same)) = subst (λ (k : Place). Precedes k (under prefix y)) (sym same)
           (under_precedes prefix x y (place_before e f x y row (done_before b sound place e f i j) holds slice class_is))
 
-  -- a place behind the whole border
+  -- a place after the whole border
   pub done_behind : (y : Place) → Precedes at y → ((e : PlainEntry) (x : Place) → Among e (border_seen b).entries → first_slice x ≡ e.slice → Precedes x y) → Precedes pair.key (under prefix y)
   done_behind y before all = go done
     where

@@ -48,7 +48,7 @@ pub(crate) struct Course<'t> {
     tree: &'t Tree,
     // The stops above the layer, from layer 0 on.
     path: Vec<Stop>,
-    // Where it is, and the border there.
+    // Its place, and the border there.
     here: Stop,
     border: &'t Border,
     // Whether it has come back from the layer below the slice of `here`.

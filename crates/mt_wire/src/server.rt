@@ -84,7 +84,7 @@ impl ServerRefusal {
 pub enum ServerResponse {
     /// The query was refused, and nothing was done for it.
     Refused(ServerRefusal),
-    /// The client may go on, in this role.
+    /// The client may continue, in this role.
     Hello {
         /// The version of the wire up to which both know it.
         version: u8,

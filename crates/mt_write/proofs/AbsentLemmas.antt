@@ -53,7 +53,7 @@ absent_part rest live all = go (found_for rest live) refl
     go (OtherSuffix place) e = absurd (never (OtherSuffix place) e (λ k clash. cc))
     go (LinkFound place top) e = absurd (never (LinkFound place top) e (λ k clash. cc))
 
--- ---- where it belongs
+-- ---- its place
 -- one place alone is after what comes before a rank and before what comes after it
 one_place : (rank : ℕ) (live : List Entry) (one other : ℕ) → IsBetween rank one live → IsBetween rank other live → one ≡ other
 one_place rank live one other a b = elim (cases_lt one other) [

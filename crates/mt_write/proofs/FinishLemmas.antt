@@ -67,7 +67,7 @@ as_may C a same log kept write stage (tree, logs) may = subst (λ (x : ArenaView
 pub as_none : (C : ℕ) (a same after : ArenaView) (log kept left : LogView) (write : Write) (there : There) → (same ≡ a) × (kept ≡ log) → FindsNone C same after kept left write there → FindsNone C a after log left write there
 as_none C a same after log kept left write there (tree, logs) none = subst (λ (x : ArenaView). FindsNone C x after log left write there) tree (subst (λ (l : LogView). FindsNone C same after l left write there) logs none)
 
--- at the border that it has locked and read it has come to this stage, in so many steps
+-- at the border that it has locked and read it has come to this stage, in `steps` steps
 pub record ReadiedAt (C : ℕ) (a : ArenaView) (log : LogView) (write : Write) (there : There) (between : ArenaView) (reserved : LogView) (stage : Stage) (steps : ℕ) : Type 0 where
   pub running : Running C (state a log (record write { stage = Searched there })) steps 0 (state between reserved (record write { stage = stage }))
   pub may : MayRun C (state between reserved (record write { stage = stage }))

@@ -42,7 +42,7 @@ use Rattle.mt_write.specs.Writing.{MayStage}
 use Rattle.mt_steps.specs.declared.entering.Entered.TheVariants.{Here}
 
 -- ---- steps that move
--- since a state it has made so many steps, and continues
+-- since a state it has made `steps` steps, and continues
 pub record HasCome (C : ℕ) (log : LogView) (s : WriteState) (steps : ℕ) (a : ArenaView) (write : Write) : Type 0 where
   pub running : Running C s steps 0 (state a log write)
   pub may : MayRun C (state a log write)

@@ -1,4 +1,4 @@
--- Where a put or remove that runs alone stands, and how much of its way is left at most.
+-- The place of a put or remove that runs alone, and how much of its way is left at most.
 use Rattle.std.proofs.Common.{ℕ, ◌≡◌, ◌<◌, ◌≤◌, ◌+◌, ◌*◌, ◌-◌, inl, inr, List, [], ◌∷◌, length, Option, Some, sym, ap, subst, ◌∙◌, refl, arith}
 use Rattle.std.specs.Prelude.{◌^◌}
 use Rattle.std.proofs.Math.Nat.{mul-le-mul_left}

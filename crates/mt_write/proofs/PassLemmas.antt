@@ -50,7 +50,7 @@ use Rattle.mt_write.proofs.EnterSteps.{goes_right, locks_border, reads_field}
 use Rattle.mt_write.proofs.ReadLemmas.{IsLastField, Reads, reads_all, reads_right}
 
 -- ---- the fields, one a step
--- since a state it has made so many steps, and has read so far
+-- since a state it has made `steps` steps, and has read so far
 pub record HasRead (C : ℕ) (a : ArenaView) (log : LogView) (write : Write) (s : WriteState) (steps : ℕ) (next : Entered) : Type 0 where
   pub running : Running C s steps 0 (state a log (record write { stage = entered_stage next }))
   pub may : MayRun C (state a log (record write { stage = entered_stage next }))
@@ -76,7 +76,7 @@ module _ (C : ℕ) (a : ArenaView) (log : LogView) (write : Write) (is_trimmed :
       subst (λ (k : ℕ). HasRead C a log write s k final) one
       (reads_on n (steps + 1) (entered (rest_of write.key write.way) entering part) final more (reads_one steps entering part lent (subst (λ (x : Entered). HasRead C a log write s steps x) is has)))
 
--- ---- where a visit of a border leads
+-- ---- what a visit of a border leads to
 -- to the right, into the layer below, or no further, if the border is not marked deleted
 abbrev pub Leads : List ℕ → BorderView → Visit → Type 0
 Leads rest b Again = ⊥
@@ -120,7 +120,7 @@ module _ (rest : List ℕ) (b : BorderView) where
   ends_here none is (BelowEntered head) last (right, at, found) = absurd (subst IsLast found is)
   ends_here none is (Here there) last true_of = (there, refl)
 
--- where a visit leads, it continues
+-- it continues at what a visit leads to
 abbrev pub Continues : Write → Went → Progress → Write → Type 0
 Continues write went p new = (next : Way) → went ≡ WentTo next → (p ≡ Moved) × (new ≡ record write { way = next; head = new.head })
     × (((next.layer ≡ write.way.layer) × (new.head ≡ write.head)) ⊎ ((next.layer ≢ write.way.layer) × (new.head ≡ next.node)))
@@ -263,7 +263,7 @@ module _ (C : ℕ) (a locked : ArenaView) (log : LogView) (write : Write) (may :
             read = read;
           }
 
-      -- ---- it goes on
+      -- ---- it continues
       module _ (after : ArenaView) (unlocked : after ≡ with_border_changed locked write.way.node.0 with_unlocked) (kept : KeepsTree locked after) (arena_after : IsArena after) where
         leaves : (steps : ℕ) (final : Entered) (new : Write) → HasRead C locked log write (state a log write) steps final → TreeStep locked after write (entered_stage final) Moved new → PassesAt C a after log write (record { steps = steps + 1; commits = 0; last = Moved }) new
         leaves steps final new has step =

@@ -229,7 +229,7 @@ module _ (a : ArenaView) (write : Write) (went : Went) (visits : Visits a write.
       subst (λ (s : Stage). WriteStep C a a log log write Seeks Waits (record { key = write.key; edit = write.edit; way = write.way; head = write.head; stage = s })) (sym idle)
       (leads C a a log log write Seeks Waits Seeks write.way refl (seek_waits C a write.key write.edit write.way log) (inr locked) (tt, tt) (refl, inr (unmarked, locked, refl)) tt tt tt)
 
--- where a visit leads that doesn't end at its border
+-- what a visit leads to that doesn't end at its border
 pub seeks_led : (a : ArenaView) (write : Write) (went : Went) (p : Progress) (then : Write) → Visits a write.key write.way went → write.stage ≡ Seeks → went ≢ Here → (went ≢ Again → border_at a.nodes write.way.node.0 ≡ None) → (went ≡ Again → IsMarkedAt a write.way.node.0)
     → (went ≡ Again → (p ≡ Waits) × (then ≡ record write { way = start; head = start.node }))
     → ((next : Way) → went ≡ To next → (p ≡ Moved) × (then ≡ record write { way = next; head = then.head }) × (((next.layer ≡ write.way.layer) × (then.head ≡ write.head)) ⊎ ((next.layer ≢ write.way.layer) × (then.head ≡ next.node))))

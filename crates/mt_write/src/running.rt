@@ -53,7 +53,7 @@ fn trim_after(log: &mut Log, progress: &Progress) -> u64
 // How many steps a put makes at most, from the lock of a border that it splits until the new row is to be made for a half.
 const STEPS_OF_SPLIT: u64 = 37;
 
-// The place of its key in the border that a write splits, where it has found this.
+// The place of its key in the border that a write splits, if it has found this.
 fn split_place(edit: &Edit, border: &Border, found: Found) -> Option<usize>
     ensures some { IfSome result (λ place. (found ≡ Found.Absent place) × (length border.now.live ≡ SLOTS)
         × (edit.now ≢ Edit.Remove)) }

@@ -10,7 +10,7 @@ use std::time::{Duration, Instant};
 /// Nanoseconds a call, or bytes a key, each with its name.
 pub type Figures = Vec<(&'static str, f64)>;
 
-// A store of fewer keys is filled and asked again, till so many calls are measured of each kind.
+// A store of fewer keys is filled and asked again, until enough calls are measured of each kind.
 const LEAST_CALLS: usize = 100_000;
 
 const RANGES: usize = 1_000;
@@ -94,7 +94,7 @@ fn plan(kind: Kind, count: usize) -> Plan {
     }
 }
 
-/// Measures a store that is filled with so many keys.
+/// Measures a store that is filled with `count` keys.
 pub fn all_phases<S: Store>(kind: Kind, count: usize, views: usize) -> Outcome<Figures> {
     let plan = plan(kind, count);
     let rounds = LEAST_CALLS.div_ceil(count.max(1));

@@ -1,4 +1,4 @@
-//! The two sides: the index behind a lock, and the map behind a lock.
+//! The two sides: the index under a lock, and the map under a lock.
 //!
 //! Each keeps, where views are asked for, some of all rows whose first column is at least a number, with their count and
 //! the sum of those numbers, up to date after each put.

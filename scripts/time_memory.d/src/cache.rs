@@ -19,7 +19,7 @@ type Group = [u8; GROUP_BYTES];
 type Key = [u8; KEY_BYTES];
 
 /// A cache with places for keys, of which half are taken by chance, at the beginning and after any number of steps. The
-/// keys of a group begin with the same 32 bytes, which are chosen anew when the group has become empty: two keys of a
+/// keys of a group begin with the same 32 bytes, which are chosen again when the group has become empty: two keys of a
 /// group are in a layer four layers below the first, which no other group uses.
 pub struct Cache {
     chance: Chance,

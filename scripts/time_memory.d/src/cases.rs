@@ -8,7 +8,7 @@ use crate::window::Window;
 use crate::Outcome;
 use std::time::{Duration, Instant};
 
-// A store of fewer rows is filled and emptied again, until so many removes are timed.
+// A store of fewer rows is filled and emptied again, until enough removes are timed.
 const LEAST_CALLS: usize = 100_000;
 
 /// Rows that come and go, in steps, while about as many stay.

@@ -42,7 +42,7 @@ class Watcher(threading.Thread):
                     self._is_waiting = False
                     self._wake.set()
             except RowanspanError:
-                # (it can wait no longer: the poller asks the server by itself)
+                # (it can wait no longer: the poller asks the server without it)
                 self._wake.set()
 
     def _wait_once(self) -> bool:

@@ -97,7 +97,7 @@ class Target:
                 raise BadMapping(f"the keys {found.prefix!r} are those of the mirror {name}: choose another prefix")
 
     def find(self, settle: float) -> Optional[Position]:
-        """The position of the rows, after it was still for so many seconds; None if they aren't of this source and this
+        """The position of the rows, after it was still for `settle` seconds; None if they aren't of this source and this
         mapping. A mirror that was killed may have left a last frame, which the server has yet to read."""
         found = self._read()
         for _ in range(LOOKS):
@@ -214,7 +214,7 @@ class Target:
         self._await(0)
 
     def _send(self, changes: Sequence[bytes], ahead: int) -> None:
-        """Sends any number of changes in their order, so that at most so many frames have no reply."""
+        """Sends any number of changes in their order, so that at most `ahead` frames have no reply."""
         for begin in range(0, len(changes), CHANGES):
             self._await(ahead - 1)
             self._send_frame(changes[begin:begin + CHANGES])
@@ -224,7 +224,7 @@ class Target:
         self._waiting.append(changes)
 
     def _await(self, most: int) -> None:
-        """Waits until at most so many frames have no reply. If the log of the server was full, those changes of a
+        """Waits until at most `most` frames have no reply. If the log of the server was full, those changes of a
         frame that weren't made are sent again, after the frames that are on their way: so for the order of the changes
         there may be one."""
         while len(self._waiting) > most:

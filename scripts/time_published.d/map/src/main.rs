@@ -36,7 +36,7 @@ fn write(map: &Map, keys: &[u64], mut pace: Pace) -> u64 {
     turns
 }
 
-// Reads pages from keys by chance, till all is put.
+// Reads pages from keys by chance, until all is put.
 fn watch(map: &Map, keys: &[u64], seed: u64, ended: &AtomicBool) -> u64 {
     let mut chance = Chance::new(seed);
     let mut reads = 0;

@@ -1,4 +1,4 @@
-//! The map, with its count and the sum of its rows, behind a lock of readers and writers.
+//! The map, with its count and the sum of its rows, under a lock of readers and writers.
 
 use std::collections::BTreeMap;
 use std::hint::black_box;
@@ -20,7 +20,7 @@ struct Rows {
     sum: u128,
 }
 
-/// Rows behind a lock.
+/// Rows under a lock.
 pub struct Map {
     rows: RwLock<Rows>,
 }

@@ -5,7 +5,7 @@ use std::time::{Duration, Instant};
 
 const BETWEEN_TURNS: Duration = Duration::from_millis(1);
 
-/// Changes at a rate, till all are made: in each turn those that are due by the clock.
+/// Changes at a rate, until all are made: in each turn those that are due by the clock.
 pub struct Pace {
     begun: Instant,
     rate: u64,
