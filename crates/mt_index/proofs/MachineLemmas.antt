@@ -1,5 +1,5 @@
 -- What the functions of the machine do to its fields, as the specifications of its events state it.
-use Rattle.std.proofs.Common.{ℕ, ◌≡◌, ◌≤◌, ◌<◌, ◌+◌, ◌⊎◌, inl, inr, length, true, cond, Option, Some, None, refl, sym, ap, subst, ◌∙◌, arith}
+use Rattle.std.proofs.Common.{ℕ, ◌≡◌, ◌≤◌, ◌<◌, ◌+◌, ◌⊎◌, inl, inr, length, true, cond, List, Option, Some, None, refl, sym, ap, subst, ◌∙◌, arith}
 use Rattle.std.specs.Option.{option_map}
 use Rattle.mt_types.specs.Numbers.{greatest_number}
 use Rattle.mt_types.specs.Limits.{key_fault, request_fault}
@@ -15,7 +15,7 @@ use Rattle.mt_commit.specs.Log.{LogView, IsLog, newest, delta_of, trimmed}
 use Rattle.mt_commit.specs.Laws.{times_held}
 use Rattle.mt_commit.specs.Holders.{with_holder, without_holder}
 use Rattle.mt_view.specs.State.{StateView}
-use Rattle.mt_view.specs.Views.{ViewsView, standing, state_at, without}
+use Rattle.mt_view.specs.Views.{ViewsView, Rises, standing, state_at, without}
 use Rattle.mt_view.proofs.StandingLemmas.{view-of-state}
 use Rattle.std.specs.Prelude.{Result, Ok, Err, IfOk, IfErr, OnOk, OnErr}
 use Rattle.mt_promise.specs.Legal.{is_build as is_build_request, reads_log}
@@ -26,7 +26,7 @@ use Rattle.mt_works.specs.Building.{IsUpTo}
 use Rattle.mt_works.specs.Works.{request_of, KeyFits, IsBuiltWork}
 use Rattle.mt_index.specs.declared.calls.Call.{Call}
 use Rattle.mt_index.specs.Calls.{CallsView, IsBuiltCall, call_at, without as without_call}
-use Rattle.mt_index.specs.Viewing.{TakesView, CopiesView}
+use Rattle.mt_index.specs.Viewing.{TakesView, CopiesView, ListsViews}
 use Rattle.mt_index.specs.Stands.{MachineView, CallStands, Stands, Applies, Drops, EndsBuild, HasBounds, built_outcome, meant_number, with_view, vacated}
 use Rattle.mt_index.proofs.ListLemmas.{total_without}
 use Rattle.mt_index.proofs.PairedLemmas.{paired-some, paired-length}
@@ -80,6 +80,13 @@ copies_view s h st number state there = record {
   there = ap (view_of number) st.views.standing ∙ view-of-state number s.views.views state there;
   is_its = (exact_at s.columns (moment h) number state s.views.views st.views.exact there).state;
 }
+
+pub lists_views : (s : MachineView) (h : History) (st : Stands s h) (listed : List (ℕ × StateView)) → listed ≡ s.views.views → ListsViews s.columns (moment h) listed
+lists_views s h st listed are = subst (λ (views : List (ℕ × StateView)). ListsViews s.columns (moment h) views) (sym are) (record {
+  standing = st.views.standing;
+  exact = st.views.exact;
+  rises = subst (λ (built : ℕ). Rises 0 built s.views.views) st.views.built st.views.rises;
+})
 
 -- ---- a drop
 pub drops_view : (s : MachineView) (view at : ℕ) (unpinned left : LogView) (kept : ViewsView) → option_map (λ (st : StateView). st.at) (state_at view s.views.views) ≡ Some at → unpinned ≡ record s.log { holders = without_holder at s.log.holders } → IsLog unpinned → left ≡ trimmed unpinned

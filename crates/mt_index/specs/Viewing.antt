@@ -30,6 +30,12 @@ abbrev pub AreExact : ℕ → Moment → List (ℕ × StateView) → Type 0
 AreExact C m [] = Unit {0}
 AreExact C m (view ∷ views) = IsExact C m view × AreExact C m views
 
+-- these are all views of the history, each with its number and exact, in the order of the numbers
+pub record ListsViews (C : ℕ) (m : Moment) (listed : List (ℕ × StateView)) : Type 0 where
+  pub standing : m.views ≡ all_standing listed
+  pub exact : AreExact C m listed
+  pub rises : Rises 0 m.built listed
+
 -- the state is that of the view of this number, which exists: exactly what its specification yields there
 pub record CopiesView (C : ℕ) (m : Moment) (number : ℕ) (state : StateView) : Type 0 where
   pub view : StandingView

@@ -1,7 +1,8 @@
 //! Views in the machine: how a view is opened, advanced and read, while it holds the log from the number of commits at
 //! which it is.
 
-ghost use Rattle.std.specs.Prelude.{◌≡◌, ◌+◌, ◌<◌, ◌≤◌, ◌⊎◌, ◌↔◌, length, IfOk, IfErr, IfSome, IsSome, IsTrue, OnOk, OnErr, MatchOption, Some, Err, true};
+ghost use Rattle.std.specs.Prelude.{ℕ, ◌≡◌, ◌+◌, ◌<◌, ◌≤◌, ◌⊎◌, ◌↔◌, length, IfOk, IfErr, IfSome, IsSome, IsTrue, OnOk, OnErr, MatchOption, Some, Err, true};
+ghost use Rattle.std.specs.Map.Iter.{ShowsInOrder, deref_pair};
 ghost use Rattle.std.specs.Option.{option_copied};
 ghost use Rattle.mt_promise.specs.History.{History, moment};
 ghost use Rattle.mt_commit.specs.Laws.{times_held};
@@ -14,7 +15,7 @@ ghost use Rattle.mt_view.specs.State.{StateView, applied, page_of_state};
 ghost use Rattle.mt_view.specs.Views.{state_at, with_state};
 ghost use Rattle.mt_commit.specs.Log.{IsLog};
 ghost use Rattle.mt_index.specs.Stands.{Stands, Applies, ReadsView, Drops, HasBounds, meant_number, with_view, vacated};
-ghost use Rattle.mt_index.specs.Viewing.{TakesView, CopiesView, page_outcome};
+ghost use Rattle.mt_index.specs.Viewing.{TakesView, CopiesView, ListsViews, page_outcome};
 
 use crate::machine::Machine;
 use bytes::Bytes;
@@ -29,6 +30,7 @@ use mt_types::view::Page;
 use mt_view::state::ViewState;
 use mt_view::views::Views;
 use std::alloc::Global;
+use std::collections::btree_map::Iter;
 
 // Opens a view in the place of a build. It holds the log from the number of commits at which it is. On an error nothing
 // changes.
@@ -179,6 +181,15 @@ impl Machine {
             (λ state. (h : History) → Stands self.now h → CopiesView self.now.columns (moment h) view.0 state) }
     {
         self.views.get(view.0)
+    }
+
+    /// Iterates over the views, each with its number, in the order of the numbers. Copies nothing. No event happens.
+    pub fn views(&self) -> Iter<'_, u64, ViewState>
+        ensures listed { result ≡ self.now.views.views }
+        ensures exact { (h : History) → Stands self.now h → ListsViews self.now.columns (moment h) result }
+        ensures runs { ShowsInOrder (deref_pair {K = ℕ} {X = StateView}) }
+    {
+        self.views.iter()
     }
 
     /// Returns the number of commits at which a view is, and a copy of its state. From there on a caller can advance

@@ -7,7 +7,7 @@ use Rattle.mt_wire.specs.declared.frame.Frame.{Frame}
 use Rattle.mt_wire.specs.declared.server.Role.{Role}
 use Rattle.mt_wire.specs.declared.server.Role.TheVariants.{Read}
 use Rattle.mt_wire.specs.declared.server.ServerQuery.{ServerQuery}
-use Rattle.mt_wire.specs.declared.server.ServerQuery.TheVariants.{Hello, Ping, Info, Stop}
+use Rattle.mt_wire.specs.declared.server.ServerQuery.TheVariants.{Hello, Ping, Info, Views, Wait, Stop}
 use Rattle.mt_wire.specs.Spelling.{framed}
 use Rattle.mt_talk.specs.declared.server.Keeper.{Keeper}
 use Rattle.mt_talk.specs.declared.serving.Server.{Server}
@@ -28,6 +28,8 @@ closed_alone : (k l : Keeper) (queries : List Query) (query : Option ServerQuery
 closed_alone k l queries (Some (Hello newest secret name)) answered none key keeps = greets_none k l queries newest secret name answered key keeps
 closed_alone k l queries (Some (Ping number)) answered none key keeps = closed_within k l queries (Some (Ping number)) answered none keeps
 closed_alone k l queries (Some Info) answered none key keeps = closed_within k l queries (Some Info) answered none keeps
+closed_alone k l queries (Some Views) answered none key keeps = closed_within k l queries (Some Views) answered none keeps
+closed_alone k l queries (Some (Wait of number milliseconds)) answered none key keeps = closed_within k l queries (Some (Wait of number milliseconds)) answered none keeps
 closed_alone k l queries (Some (Stop is_at_once)) answered none key keeps = closed_within k l queries (Some (Stop is_at_once)) answered none keeps
 closed_alone k l queries None answered none key keeps = closed_within k l queries None answered none keeps
 
@@ -69,6 +71,8 @@ lets_alone : (k l : Keeper) (queries : List Query) (query : Option ServerQuery) 
 lets_alone k l queries (Some (Hello newest secret name)) answered reader keeps = lets_greeted k l queries newest secret answered keeps
 lets_alone k l queries (Some (Ping number)) answered reader keeps = lets_within k l queries (Some (Ping number)) answered reader keeps
 lets_alone k l queries (Some Info) answered reader keeps = lets_within k l queries (Some Info) answered reader keeps
+lets_alone k l queries (Some Views) answered reader keeps = lets_within k l queries (Some Views) answered reader keeps
+lets_alone k l queries (Some (Wait of number milliseconds)) answered reader keeps = lets_within k l queries (Some (Wait of number milliseconds)) answered reader keeps
 lets_alone k l queries (Some (Stop is_at_once)) answered reader keeps = lets_within k l queries (Some (Stop is_at_once)) answered reader keeps
 lets_alone k l queries None answered reader keeps = lets_within k l queries None answered reader keeps
 

@@ -1,32 +1,38 @@
--- WHAT A SERVER ANSWERS BY ITSELF, around what answers the queries of its index: who may ask what, and its own queries.
-use Rattle.std.specs.Prelude.{◌≡◌, ℕ, Bool, true, false, MatchBool, MatchOption, List, [], ◌∷◌, map, Option, Some, None, nat_lt, not, if◌then◌else◌}
+-- WHAT A SERVER ANSWERS WITHOUT ITS INDEX, around what answers the queries of its index: who may ask what, and its own queries.
+use Rattle.std.specs.Prelude.{◌≡◌, ℕ, Bool, true, false, MatchBool, MatchOption, List, [], ◌∷◌, map, Option, Some, None, nat_le, nat_lt, not, if◌then◌else◌}
 use Rattle.std.specs.List.{list_any}
 use Rattle.sha2.specs.Sha256.{sha256}
 use Rattle.mt_types.specs.declared.event.Request.TheVariants.{Get, Range}
 use Rattle.mt_wire.specs.declared.query.Query.{Query}
 use Rattle.mt_wire.specs.declared.query.Query.TheVariants.{Call, ViewRead, Server}
 use Rattle.mt_wire.specs.declared.response.Response.{Response}
-use Rattle.mt_wire.specs.declared.response.Response.TheVariants.{Server as Served}
+use Rattle.mt_wire.specs.declared.response.Response.TheVariants.{Refused, Server as Served}
+use Rattle.mt_types.specs.declared.refusal.Refusal.TheVariants.{NoSuchView}
 use Rattle.mt_wire.specs.declared.server.Role.{Role}
 use Rattle.mt_wire.specs.declared.server.Role.TheVariants.{Read, Write, All}
 use Rattle.mt_wire.specs.declared.server.ServerRefusal.TheVariants.{NotAllowed}
+use Rattle.mt_wire.specs.declared.server.Awaited.{Awaited}
+use Rattle.mt_wire.specs.declared.server.Awaited.TheVariants.{Commits, View}
 use Rattle.mt_wire.specs.declared.server.Count.{Count}
+use Rattle.mt_wire.specs.declared.server.ListedView.{ListedView}
 use Rattle.mt_wire.specs.declared.server.ServerQuery.{ServerQuery}
-use Rattle.mt_wire.specs.declared.server.ServerQuery.TheVariants.{Hello, Ping, Info, Stop}
-use Rattle.mt_wire.specs.declared.server.ServerResponse.TheVariants.{Refused as OfServer, Hello as Greeting, Ping as Ponged, Info as Counted, Stopped}
+use Rattle.mt_wire.specs.declared.server.ServerQuery.TheVariants.{Hello, Ping, Info, Views, Wait, Stop}
+use Rattle.mt_wire.specs.declared.server.ServerResponse.TheVariants.{Refused as OfServer, Hello as Greeting, Ping as Ponged, Info as Counted, Views as Listed, Waited, Stopped}
 use Rattle.mt_talk.specs.declared.facts.Facts.{Facts}
 use Rattle.mt_talk.specs.declared.server.Keeper.{Keeper}
 use Rattle.mt_talk.specs.Tokens.{Admits}
 
 -- ---- who may ask what
 
--- gets, ranges, pages of views, and what the server counts
+-- gets, ranges, pages of views, and what the server counts, lists and waits for
 abbrev pub reads : Query → Bool
 reads (Call (Get key columns)) = true
 reads (Call (Range start limit columns)) = true
 reads (ViewRead view floor start limit) = true
 reads (Server (Ping number)) = true
 reads (Server Info) = true
+reads (Server Views) = true
+reads (Server (Wait of number milliseconds)) = true
 reads _ = false
 
 -- all but the end of the server
@@ -59,14 +65,26 @@ greeting facts newest role =
 -- what is counted, in the order in which it is named
 abbrev pub numbers : Facts → List ℕ
 numbers facts =
-    facts.commits ∷ facts.nodes ∷ facts.logged ∷ facts.connections ∷ facts.accepted ∷ facts.turned_away
-    ∷ facts.queries ∷ facts.faults ∷ facts.milliseconds ∷ []
+    facts.commits ∷ facts.nodes ∷ facts.standing ∷ facts.logged ∷ facts.connections ∷ facts.accepted ∷ facts.turned_away
+    ∷ facts.frames ∷ facts.queries ∷ facts.faults ∷ facts.input_bytes ∷ facts.output_bytes ∷ facts.milliseconds ∷ []
+
+-- the end of a wait for this number: whether the commits have reached it, or the view
+abbrev pub reached : ℕ → ℕ → Option ℕ → Response
+reached number commits None = Refused NoSuchView
+reached number commits (Some at) = Served (Waited (nat_le number at) commits at)
+
+abbrev pub waited : Facts → Awaited → ℕ → Response
+waited facts Commits number = Served (Waited (nat_le number facts.commits) facts.commits 0)
+waited facts (View view) number = reached number facts.commits facts.watched
 
 -- the server's answer to one of its queries (a hello doesn't come here)
 abbrev pub IsTold : Facts → ServerQuery → Response → Type 0
 IsTold facts (Ping number) response = response ≡ Served (Ponged number facts.commits)
 IsTold facts Info response =
     (counts : List Count) × (response ≡ Served (Counted counts)) × (map (λ (count : Count). count.number) counts ≡ numbers facts)
+IsTold facts Views response =
+    (views : List ListedView) × (facts.views ≡ Some views) × (response ≡ Served (Listed facts.commits views))
+IsTold facts (Wait of number milliseconds) response = response ≡ waited facts of number
 IsTold facts (Stop is_at_once) response = response ≡ Served (Stopped facts.commits)
 IsTold facts (Hello newest secret name) response = response ≡ Served (OfServer NotAllowed)
 
@@ -114,6 +132,9 @@ abbrev pub KeepsAlone : Keeper → List Query → Option ServerQuery → Option 
 KeepsAlone k queries (Some (Hello newest secret name)) answered l = Greets k queries newest secret answered l
 KeepsAlone k queries (Some (Ping number)) answered l = Within k queries (Some (Ping number)) answered l
 KeepsAlone k queries (Some Info) answered l = Within k queries (Some Info) answered l
+KeepsAlone k queries (Some Views) answered l = Within k queries (Some Views) answered l
+KeepsAlone k queries (Some (Wait of number milliseconds)) answered l =
+    Within k queries (Some (Wait of number milliseconds)) answered l
 KeepsAlone k queries (Some (Stop is_at_once)) answered l = Within k queries (Some (Stop is_at_once)) answered l
 KeepsAlone k queries None answered l = Within k queries None answered l
 

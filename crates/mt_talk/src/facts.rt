@@ -5,12 +5,13 @@ ghost use Rattle.std.specs.List.{AllByRecursion};
 ghost use Rattle.mt_wire.specs.declared.server.Count.{Count};
 ghost use Rattle.mt_talk.specs.Serving.{numbers};
 
+use crate::listing::Listing;
 use bytes::Bytes;
 use mt_wire::server::Count;
 use std::alloc::{AllocError, Global};
 
 /// What a server knows of itself and of its index, at one time.
-#[derive(Clone, Copy, Debug, Default, PartialEq, Eq)]
+#[derive(Default, Drop)]
 pub struct Facts {
     /// The name of this run of the server.
     pub run: u128,
@@ -21,15 +22,25 @@ pub struct Facts {
     pub logged: u64,
     /// How many numbers of nodes are in use.
     pub nodes: u64,
+    /// How many views there are.
+    pub standing: u64,
     /// How many connections are open, and how many were accepted and turned away since the start.
     pub connections: u64,
     pub accepted: u64,
     pub turned_away: u64,
-    /// How many queries were answered, and how many sessions were broken off.
+    /// How many frames and queries were answered, and how many sessions were broken off.
+    pub frames: u64,
     pub queries: u64,
     pub faults: u64,
+    /// How many bytes were read of connections and written to them.
+    pub input_bytes: u64,
+    pub output_bytes: u64,
     /// The time since the start.
     pub milliseconds: u64,
+    /// The views, if a client has asked for them.
+    pub views: Option<Listing>,
+    /// The number of commits at which the view is that a client waits for, if there is such a view.
+    pub watched: Option<u64>,
 }
 
 // A number under its name.
@@ -54,12 +65,16 @@ impl Facts {
         Ok(vec![in alloc;
             count(b"commits", self.commits),
             count(b"nodes", self.nodes),
+            count(b"views", self.standing),
             count(b"feed_from", self.logged),
             count(b"connections", self.connections),
             count(b"connections_all", self.accepted),
             count(b"turned_away", self.turned_away),
+            count(b"frames", self.frames),
             count(b"queries", self.queries),
             count(b"faults", self.faults),
+            count(b"input_bytes", self.input_bytes),
+            count(b"output_bytes", self.output_bytes),
             count(b"uptime_ms", self.milliseconds),
         ]?)
     }

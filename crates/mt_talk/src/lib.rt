@@ -3,6 +3,7 @@
 
 pub mod facts;
 pub mod laws;
+pub mod listing;
 pub mod replying;
 pub mod server;
 pub mod serving;

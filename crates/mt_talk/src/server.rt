@@ -7,15 +7,16 @@ ghost use Rattle.mt_wire.specs.Limited.{ResponseIsLimited};
 ghost use Rattle.mt_wire.specs.Frames.{Holds};
 ghost use Rattle.sha2.specs.Sha256.{sha256};
 ghost use Rattle.mt_talk.specs.Tokens.{first_role};
-ghost use Rattle.mt_talk.specs.Serving.{reads, writes, may, may_all, refusals, common_version, greeting, alone, IsTold, Greets, Allows, Within, Keeps};
+ghost use Rattle.mt_talk.specs.Serving.{reads, writes, may, may_all, refusals, common_version, greeting, waited, alone, IsTold, Greets, Allows, Within, Keeps};
 
 use crate::facts::Facts;
 use crate::tokens::{Token, admit};
 use mt_types::event::Request;
 use mt_types::items::Items;
+use mt_types::refusal::Refusal;
 use mt_wire::query::Query;
 use mt_wire::response::Response;
-use mt_wire::server::{Role, ServerQuery, ServerRefusal, ServerResponse};
+use mt_wire::server::{Awaited, Role, ServerQuery, ServerRefusal, ServerResponse};
 use mt_wire::version::WireVersion;
 use std::alloc::{AllocError, Global};
 
@@ -32,7 +33,7 @@ pub struct Keeper {
     alloc: Global,
 }
 
-// Gets, ranges, pages of views, and what the server counts.
+// Gets, ranges, pages of views, and what the server counts, lists and waits for.
 fn reads(query: &Query) -> bool
     ensures { result ≡ reads query.now }
 {
@@ -40,7 +41,12 @@ fn reads(query: &Query) -> bool
         query,
         Query::Call(Request::Get { .. } | Request::Range { .. })
             | Query::ViewRead { .. }
-            | Query::Server(ServerQuery::Ping(_) | ServerQuery::Info)
+            | Query::Server(
+                ServerQuery::Ping(_)
+                    | ServerQuery::Info
+                    | ServerQuery::Views
+                    | ServerQuery::Wait { .. }
+            )
     )
 }
 
@@ -117,6 +123,28 @@ fn greeting(facts: &Facts, newest: u8, role: Role) -> Response
     })
 }
 
+// The end of a wait.
+fn waited(facts: &Facts, of: Awaited, number: u64) -> Response
+    ensures value { result ≡ waited facts.now of number }
+    ensures limited { ResponseIsLimited result }
+{
+    let at = match of {
+        Awaited::Commits => Some(facts.commits),
+        Awaited::View(_) => facts.watched,
+    };
+    let Some(at) = at else {
+        return Response::Refused(Refusal::NoSuchView);
+    };
+    Response::Server(ServerResponse::Waited {
+        is_reached: number <= at,
+        commits: facts.commits,
+        view: match of {
+            Awaited::Commits => 0,
+            Awaited::View(_) => at,
+        },
+    })
+}
+
 impl Keeper {
     /// Returns what a server with these secrets keeps, before a client was admitted.
     pub fn new(alloc: Global, tokens: Vec<Token>) -> Keeper
@@ -185,6 +213,21 @@ impl Keeper {
         Ok(answered)
     }
 
+    // The views, if they were read.
+    fn list(&self) -> Result<Response, AllocError>
+        ensures value { IfOk result (λ response. IsTold self.now.facts ServerQuery.Views response) }
+        ensures limited { IfOk result ResponseIsLimited }
+    {
+        let commits = self.facts.commits;
+        let Some(listing) = &self.facts.views else {
+            return Err(AllocError);
+        };
+        let Ok(views) = listing.views(self.alloc) else {
+            return Err(AllocError);
+        };
+        Ok(Response::Server(ServerResponse::Views { commits, views }))
+    }
+
     // The answer to a query of the server that is no hello.
     fn response(&self, query: &ServerQuery) -> Result<Response, AllocError>
         ensures value { IfOk result (λ response. IsTold self.now.facts query.now response) }
@@ -199,6 +242,8 @@ impl Keeper {
             ServerQuery::Info => {
                 ServerResponse::Info(Items::from_vec(self.facts.counts(self.alloc)?))
             }
+            ServerQuery::Views => return self.list(),
+            ServerQuery::Wait { of, number, .. } => return Ok(waited(&self.facts, *of, *number)),
             ServerQuery::Stop { .. } => ServerResponse::Stopped { commits },
             ServerQuery::Hello { .. } => ServerResponse::Refused(ServerRefusal::NotAllowed),
         };

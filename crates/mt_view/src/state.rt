@@ -97,6 +97,13 @@ impl ViewState {
         Ok(state)
     }
 
+    /// Returns the specification of the view.
+    pub fn spec(&self) -> &ViewSpec
+        ensures { result.now ≡ self.now.spec }
+    {
+        &self.spec
+    }
+
     /// Returns the number of the commit at which the state is.
     pub fn at(&self) -> u64
         ensures { result ≡ self.now.at }

@@ -1,6 +1,7 @@
 //! The views of an index, by their numbers, and the places that open builds keep among them.
 
-ghost use Rattle.std.specs.Prelude.{Some, ◌≡◌, ◌+◌, ◌-◌, ◌<◌, ◌≤◌, ◌⊎◌, ◌↔◌, ◌++◌, [], ◌∷◌, IfOk, IfErr, IsErrOf, IsSome, IsTrue, OnOk, OnErr};
+ghost use Rattle.std.specs.Prelude.{Some, ℕ, ◌≡◌, ◌+◌, ◌-◌, ◌<◌, ◌≤◌, ◌⊎◌, ◌↔◌, ◌++◌, [], ◌∷◌, IfOk, IfErr, IsErrOf, IsSome, IsTrue, OnOk, OnErr};
+ghost use Rattle.std.specs.Map.Iter.{ShowsInOrder, deref_pair};
 ghost use Rattle.std.specs.Option.{option_copied, option_map};
 ghost use Rattle.mt_types.specs.Numbers.{greatest_number};
 ghost use Rattle.mt_types.specs.declared.limits.TheConstants.{MAX_VIEWS};
@@ -15,6 +16,7 @@ use mt_types::refusal::{NoMemory, Refusal};
 use mt_types::row::Delta;
 use mt_types::view::Page;
 use std::alloc::Global;
+use std::collections::btree_map::Iter;
 use std::collections::{BTreeMap, BTreeSet};
 use std::marker::Model;
 
@@ -160,6 +162,14 @@ impl Views {
         ensures { option_copied result ≡ state_at number self.now.views }
     {
         self.views.get(&number)
+    }
+
+    /// Iterates over the views, each with its number, in the order of the numbers. Copies nothing.
+    pub fn iter(&self) -> Iter<'_, u64, ViewState>
+        ensures rest { result ≡ self.now.views }
+        ensures runs { ShowsInOrder (deref_pair {K = ℕ} {X = StateView}) }
+    {
+        self.views.iter()
     }
 
     /// Advances a view by the delta of the next commit. O(log n) in the views and in the rows of this one. On an error

@@ -2,11 +2,11 @@
 -- put together of them.
 use Rattle.std.proofs.Common.{◌≡◌, ℕ, zero, suc, ◌+◌, ◌^◌, ◌<◌, ◌≤◌, Bool, true, false, cond, ltb, List, [], ◌∷◌, ◌++◌, length, get_or, take, drop, Option, Some, None, refl, sym, ap, subst, ◌∙◌, append_assoc, arith, inl, inr}
 use Rattle.std.specs.List.{flat_map, AllByRecursion}
-use Rattle.std.specs.Int.{Width, w16, w64, byte_len, from_be_bytes, to_be_bytes}
+use Rattle.std.specs.Int.{Width, w16, w32, w64, byte_len, from_be_bytes, to_be_bytes}
 use Rattle.std.proofs.lemmas.Bool.{cases_lt, ltb-false, le-ltb}
 use Rattle.std.proofs.lemmas.List.{take_at, drop_at, take-append-drop, length-append, length-take, get_or-drop, get_or-take, get_or_past}
 use Rattle.std.proofs.lemmas.List.Concat.{flat_map-cons}
-use Rattle.std.proofs.lemmas.Nat.{be_bytes_2, be_bytes_8, from_be_bytes-to_be_bytes_2, from_be_bytes-to_be_bytes_8}
+use Rattle.std.proofs.lemmas.Nat.{be_bytes_2, be_bytes_4, be_bytes_8, from_be_bytes-to_be_bytes_2, from_be_bytes-to_be_bytes_4, from_be_bytes-to_be_bytes_8}
 use Rattle.mt_wire.specs.Spelling.{key_spelling, short_spelling, counted}
 use Rattle.mt_wire.specs.Fits.{KeyFits, ShortFits, CountedFits}
 use Rattle.mt_wire.specs.Reading.{Reader, ◌>>=◌, both, made, nothing_at, bytes_at, number_at, byte_at, key_at, short_at, times_at, counted_at, kind_at}
@@ -164,6 +164,14 @@ wide16 = record {
   back = λ bytes len fits. be_bytes_2 bytes _ len fits refl;
   again = λ n lt. from_be_bytes-to_be_bytes_2 n lt;
   below = λ bytes fits. omega (arith, fits 0, fits 1);
+}
+
+pub wide32 : IsWide w32 (2 ^ 32)
+wide32 = record {
+  len = λ n. refl;
+  back = λ bytes len fits. be_bytes_4 bytes _ len fits refl;
+  again = λ n lt. from_be_bytes-to_be_bytes_4 n lt;
+  below = λ bytes fits. omega (arith, fits 0, fits 1, fits 2, fits 3);
 }
 
 pub wide64 : IsWide w64 (2 ^ 64)

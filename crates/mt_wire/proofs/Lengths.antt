@@ -1,5 +1,5 @@
 -- How long the spelling of an answer is at most, if the answer keeps the limits of an index.
-use Rattle.std.proofs.Common.{ℕ, ◌*◌, ◌≤◌, List, [], ◌∷◌, length, All, arith, length-append}
+use Rattle.std.proofs.Common.{ℕ, ◌*◌, ◌≤◌, ◌++◌, List, [], ◌∷◌, length, Option, Some, None, true, false, All, arith, length-append}
 use Rattle.std.specs.List.{AllByRecursion, flat_map}
 use Rattle.std.specs.Int.{w64, to_be_bytes}
 use Rattle.std.proofs.lemmas.List.Elements.{All-nil, All-cons}
@@ -7,17 +7,22 @@ use Rattle.std.proofs.lemmas.List.Concat.{length-flat_map}
 use Rattle.std.proofs.lemmas.List.Sums.{sum_by-le}
 use Rattle.mt_types.specs.declared.row.Row.{Row}
 use Rattle.mt_types.specs.declared.limits.TheConstants.{MAX_COLUMN_BYTES}
+use Rattle.mt_types.specs.declared.view.ViewSpec.{ViewSpec}
+use Rattle.mt_types.specs.declared.view.ViewSpec.TheVariants.{Range as RangeOf, Prefix as PrefixOf}
+use Rattle.mt_types.specs.declared.view.RowTest.{RowTest}
+use Rattle.mt_types.specs.declared.view.RowTest.TheVariants.{Any, Equals, AtLeast}
 use Rattle.mt_wire.specs.declared.response.Response.{Response}
 use Rattle.mt_wire.specs.declared.response.Response.TheVariants.{Refused, Done, View, Dropped, Server}
 use Rattle.mt_wire.specs.declared.server.Count.{Count}
+use Rattle.mt_wire.specs.declared.server.ListedView.{ListedView}
 use Rattle.mt_wire.specs.declared.server.ServerResponse.{ServerResponse}
-use Rattle.mt_wire.specs.declared.server.ServerResponse.TheVariants.{Info}
+use Rattle.mt_wire.specs.declared.server.ServerResponse.TheVariants.{Info, Views, Waited}
 use Rattle.mt_wire.specs.declared.response.End.{End}
 use Rattle.mt_wire.specs.declared.response.End.TheVariants.{Found, Rows}
-use Rattle.mt_wire.specs.Spelling.{key_spelling, short_spelling, sum_spelling, row_spelling, pair_spelling, pairs_spelling, count_spelling, served_spelling, response_spelling}
-use Rattle.mt_wire.specs.Fits.{KeyFits, ServedLengths, ShortFits, RowLengths, EndLengthsOf, ResponseLengths}
+use Rattle.mt_wire.specs.Spelling.{key_spelling, short_spelling, test_spelling, end_spelling, spec_spelling, sum_spelling, row_spelling, pair_spelling, pairs_spelling, count_spelling, listed_spelling, served_spelling, response_spelling}
+use Rattle.mt_wire.specs.Fits.{KeyFits, ServedLengths, ShortFits, TestLengths, EndLengths, SpecLengths, RowLengths, EndLengthsOf, ResponseLengths}
 use Rattle.mt_types.specs.Limited.{ColumnIsLimited, RowIsLimited, PairIsLimited, PairsAreLimited}
-use Rattle.mt_wire.specs.Limited.{EndIsLimited, ServedIsLimited, ResponseIsLimited}
+use Rattle.mt_wire.specs.Limited.{EndIsLimited, TestIsLimited, UpperIsLimited, SpecIsLimited, ServedIsLimited, ResponseIsLimited}
 use Rattle.mt_wire.specs.Laws.{LimitedRepliesFit}
 
 -- ---- lists
@@ -70,10 +75,41 @@ sums_most sums = spelled_most (λ (sum : ℕ). Unit {0}) sum_spelling 16 (λ sum
 count_most : (count : Count) → length count.name ≤ 64 → length (count_spelling count) ≤ 74
 count_most count h = omega (arith, h, length-append (key_spelling count.name) (to_be_bytes w64 count.number))
 
-served_most : (response : ServerResponse) → ServedIsLimited response → length (served_spelling response) ≤ 4739
+-- ---- views: 2,146 bytes each
+
+test_most : (test : RowTest) → TestIsLimited test → length (test_spelling test) ≤ 67
+test_most Any h = omega arith
+test_most (Equals column bytes) h = omega (arith, h)
+test_most (AtLeast column least) h = omega arith
+
+upper_most : (upper : Option (List ℕ)) → UpperIsLimited upper → length (end_spelling upper) ≤ 1027
+upper_most None h = omega arith
+upper_most (Some key) h = omega (arith, h)
+
+spec_most : (spec : ViewSpec) → SpecIsLimited spec → length (spec_spelling spec) ≤ 2121
+spec_most (RangeOf lo hi test) h =
+    let upper = upper_most hi h.1 in
+    let tested = test_most test h.2 in
+    let both = length-append (key_spelling lo ++ end_spelling hi) (test_spelling test) in
+    let ends = length-append (key_spelling lo) (end_spelling hi) in
+    omega (arith, h.0, upper, tested, both, ends)
+spec_most (PrefixOf key test) h =
+    let tested = test_most test h.1 in
+    let both = length-append (key_spelling key) (test_spelling test) in
+    omega (arith, h.0, tested, both)
+
+listed_most : (view : ListedView) → SpecIsLimited view.spec → length (listed_spelling view) ≤ 2145
+listed_most view h = let spec = spec_most view.spec h in omega (arith, spec)
+
+served_most : (response : ServerResponse) → ServedIsLimited response → length (served_spelling response) ≤ 137290
 served_most (Info counts) h =
     let each = spelled_most (λ (count : Count). length count.name ≤ 64) count_spelling 74 count_most counts h.1 in
     omega (arith, h.0, each)
+served_most (Views commits views) h =
+    let each = spelled_most (λ (view : ListedView). SpecIsLimited view.spec) listed_spelling 2145 listed_most views h.1 in
+    omega (arith, h.0, each)
+served_most (Waited false commits view) h = omega arith
+served_most (Waited true commits view) h = omega arith
 served_most _ h = omega arith
 
 response_most : (response : Response) → ResponseIsLimited response → length (response_spelling response) ≤ 2075276
@@ -100,8 +136,22 @@ end_lengths (Found row) h = row_lengths row h
 end_lengths (Rows pairs) h = (omega (arith, h.0), pairs_lengths pairs h.1)
 end_lengths _ h = tt
 
+test_lengths : (test : RowTest) → TestIsLimited test → TestLengths test
+test_lengths Any h = tt
+test_lengths (Equals column bytes) h = omega (arith, h)
+test_lengths (AtLeast column least) h = tt
+
+upper_lengths : (upper : Option (List ℕ)) → UpperIsLimited upper → EndLengths upper
+upper_lengths None h = tt
+upper_lengths (Some key) h = omega (arith, h)
+
+spec_lengths : (spec : ViewSpec) → SpecIsLimited spec → SpecLengths spec
+spec_lengths (RangeOf lo hi test) h = (omega (arith, h.0), upper_lengths hi h.1, test_lengths test h.2)
+spec_lengths (PrefixOf key test) h = (omega (arith, h.0), test_lengths test h.1)
+
 served_lengths : (response : ServerResponse) → ServedIsLimited response → ServedLengths response
 served_lengths (Info counts) h = (omega (arith, h.0), each_of (λ (count : Count). length count.name ≤ 64) (λ count. KeyFits count.name) (λ count short. omega (arith, short)) counts h.1)
+served_lengths (Views commits views) h = (omega (arith, h.0), each_of (λ (view : ListedView). SpecIsLimited view.spec) (λ view. SpecLengths view.spec) (λ view limited. spec_lengths view.spec limited) views h.1)
 served_lengths _ h = tt
 
 response_lengths : (response : Response) → ResponseIsLimited response → ResponseLengths response

@@ -1,6 +1,7 @@
 pub mod ResponseReading
 pub mod Loop
 pub mod Exact
+pub mod ServedLists
 pub mod ServerLaws
 pub mod QueryLaws
 pub mod ResponseLaws

@@ -71,7 +71,7 @@ end_again (Some hi) rest h = made_again (λ x. Some x) key_exact hi rest h
 end_exact : IsExact (Option (List ℕ)) EndLengths end_spelling (kind_at end_rest)
 end_exact = kind_exact end_takes end_again
 
-abbrev SpecFits : ViewSpec → Type 0
+abbrev pub SpecFits : ViewSpec → Type 0
 SpecFits spec = SpecLengths spec × SpecNumbers spec
 
 spec_takes : (kind : ℕ) (bytes : List ℕ) (y : ViewSpec × List ℕ) → IsBytes bytes → spec_rest kind bytes ≡ Some y → Takes (kind ∷ bytes) (spec_spelling y.0) y.1 × SpecFits y.0
@@ -86,7 +86,7 @@ spec_again (RangeOf lo hi test) rest h =
     made_again (λ x. RangeOf x.0.0 x.0.1 x.1) (both_exact (both_exact key_exact end_exact) test_exact) ((lo, hi), test) rest ((h.0.0, h.0.1), (h.0.2, h.1))
 spec_again (PrefixOf key test) rest h = made_again (λ x. PrefixOf x.0 x.1) (both_exact key_exact test_exact) (key, test) rest (h.0.0, (h.0.1, h.1))
 
-spec_exact : IsExact ViewSpec SpecFits spec_spelling (kind_at spec_rest)
+pub spec_exact : IsExact ViewSpec SpecFits spec_spelling (kind_at spec_rest)
 spec_exact = kind_exact spec_takes spec_again
 
 -- ---- queries
@@ -140,6 +140,8 @@ query_again (ViewDrop view) rest h = made_again (λ x. ViewDrop (record { 0 = x 
 query_again (Server (asks.Hello newest secret name)) rest h = served_again 16 _ (asks.Hello newest secret name) rest (server_again (asks.Hello newest secret name) rest h)
 query_again (Server (asks.Ping number)) rest h = served_again 17 _ (asks.Ping number) rest (server_again (asks.Ping number) rest h)
 query_again (Server asks.Info) rest h = served_again 18 _ asks.Info rest (server_again asks.Info rest h)
+query_again (Server asks.Views) rest h = served_again 19 _ asks.Views rest (server_again asks.Views rest h)
+query_again (Server (asks.Wait of number milliseconds)) rest h = served_again 20 _ (asks.Wait of number milliseconds) rest (server_again (asks.Wait of number milliseconds) rest h)
 query_again (Server (asks.Stop is_at_once)) rest h = served_again 21 _ (asks.Stop is_at_once) rest (server_again (asks.Stop is_at_once) rest h)
 
 pub query_exact : IsExact Query QueryFits query_spelling (kind_at query_rest)

@@ -19,16 +19,16 @@ use Rattle.mt_wire.specs.declared.server.ServerRefusal.{ServerRefusal}
 use Rattle.mt_wire.specs.declared.server.ServerRefusal.TheVariants.{NotAllowed, TooMuchAtOnce}
 use Rattle.mt_wire.specs.declared.server.Role.{Role}
 use Rattle.mt_wire.specs.declared.server.Role.TheVariants.{Read, Write, All}
-use Rattle.mt_wire.specs.declared.server.Count.{Count}
 use Rattle.mt_wire.specs.declared.server.ServerResponse.{ServerResponse}
-use Rattle.mt_wire.specs.declared.server.ServerResponse.TheVariants.{Refused as OfServer, Hello, Ping, Info, Stopped}
+use Rattle.mt_wire.specs.declared.server.ServerResponse.TheVariants.{Refused as OfServer, Hello, Ping, Info, Views, Waited, Stopped}
 use Rattle.mt_wire.specs.ServerNumbers.{role_number, server_refusal_number}
 use Rattle.mt_wire.specs.declared.response.End.TheVariants.{Absent, Found, Committed, Rows, Tidied, Built}
-use Rattle.mt_wire.specs.Spelling.{key_spelling, sum_spelling, row_spelling, pair_spelling, pairs_spelling, refusal_spelling, rule_spelling, span_spelling, count_spelling, served_spelling, response_spelling}
-use Rattle.mt_wire.specs.Fits.{KeyFits, RowLengths, RefusalNumbers, ServedLengths, ServedNumbers, PairNumbers, ResponseFits}
+use Rattle.mt_wire.specs.Spelling.{key_spelling, sum_spelling, row_spelling, pair_spelling, pairs_spelling, refusal_spelling, rule_spelling, span_spelling, served_spelling, response_spelling}
+use Rattle.mt_wire.specs.Fits.{RowLengths, RefusalNumbers, ServedLengths, ServedNumbers, PairNumbers, ResponseFits}
 use Rattle.mt_wire.specs.Reading.{◌>>=◌, both, made, byte_at, number_at, key_at, kind_at}
-use Rattle.mt_wire.proofs.ResponseReading.{counted16_at, sum_at, row_at, index_key_at, pair_at, refusal_rest, rule_rest, ended_rest, response_rest, zero_at, turned_rest, refused_rest, role_rest, hello_at, ping_at, count_at, info_at, stopped_at, served_rest, span_at, absent_at, found_at, committed_at, rows_at, tidied_at, built_at, view_at}
-use Rattle.mt_wire.proofs.ServerLaws.{TakesAt, kind_or}
+use Rattle.mt_wire.proofs.ResponseReading.{counted16_at, sum_at, row_at, index_key_at, pair_at, refusal_rest, rule_rest, ended_rest, response_rest, zero_at, turned_rest, refused_rest, role_rest, hello_at, ping_at, info_at, views_at, waited_at, stopped_at, served_rest, span_at, absent_at, found_at, committed_at, rows_at, tidied_at, built_at, view_at}
+use Rattle.mt_wire.proofs.ServerLaws.{TakesAt, flag_exact, kind_or}
+use Rattle.mt_wire.proofs.ServedLists.{count_exact, counts_parts, counts_whole, listed_exact, listed_parts, listed_whole}
 use Rattle.mt_wire.proofs.Exact.{IsBytes, IsBytes-rest, Takes, IsExact, bind_some, some_is, wide64, both_exact, made_takes, made_again, made_exact, kind_exact, nothing_exact, byte_exact, number_exact, key_exact, short_exact, counted_exact, counted16_exact}
 
 abbrev n64 : IsExact ℕ (λ n. n < 2 ^ 64) (λ n. to_be_bytes w64 n) (number_at w64)
@@ -282,22 +282,6 @@ role_again All rest h = refl
 role_exact : IsExact Role (λ _. Unit {0}) (λ r. role_number r ∷ []) (kind_at role_rest)
 role_exact = kind_exact role_takes role_again
 
-abbrev CountFits : Count → Type 0
-CountFits count = KeyFits count.name × (count.number < 2 ^ 64)
-
-count_exact : IsExact Count CountFits count_spelling count_at
-unfolding count_at
-count_exact = made_exact (λ x. record { name = x.0; number = x.1 }) (λ count. (count.name, count.number)) count_spelling CountFits (both_exact key_exact n64)
-    (λ x h. refl) (λ x h. h) (λ y h. h) (λ y. refl) (λ y. refl)
-
-counts_parts : (counts : List Count) → AllByRecursion CountFits counts → AllByRecursion (λ count. KeyFits count.name) counts × AllByRecursion (λ count. count.number < 2 ^ 64) counts
-counts_parts [] h = (tt, tt)
-counts_parts (count ∷ counts) h = let others = counts_parts counts h.1 in ((h.0.0, others.0), (h.0.1, others.1))
-
-counts_whole : (counts : List Count) → AllByRecursion (λ count. KeyFits count.name) counts → AllByRecursion (λ count. count.number < 2 ^ 64) counts → AllByRecursion CountFits counts
-counts_whole [] h k = tt
-counts_whole (count ∷ counts) h k = ((h.0, k.0), counts_whole counts h.1 k.1)
-
 abbrev ServedFits : ServerResponse → Type 0
 ServedFits response = ServedLengths response × ServedNumbers response
 
@@ -323,6 +307,14 @@ info_takes : TakesAt ServedFits served_spelling 18 info_at
 unfolding info_at
 info_takes = made_takes (λ x. Info x) served_spelling ServedFits 18 (counted16_exact count_exact) (λ x. refl) (λ x h. let parts = counts_parts x h.1 in ((h.0, parts.0), parts.1))
 
+views_takes : TakesAt ServedFits served_spelling 19 views_at
+unfolding views_at
+views_takes = made_takes (λ x. Views x.0 x.1) served_spelling ServedFits 19 (both_exact n64 (counted_exact listed_exact)) (λ x. refl) (λ x h. let parts = listed_parts x.1 h.1.1 in ((h.1.0, parts.0), (h.0, parts.1)))
+
+waited_takes : TakesAt ServedFits served_spelling 20 waited_at
+unfolding waited_at
+waited_takes = made_takes (λ x. Waited x.0.0 x.0.1 x.1) served_spelling ServedFits 20 (both_exact (both_exact flag_exact n64) n64) (λ x. refl) (λ x h. (tt, (h.0.1, h.1)))
+
 stopped_takes : TakesAt ServedFits served_spelling 21 stopped_at
 unfolding stopped_at
 stopped_takes = made_takes (λ x. Stopped x) served_spelling ServedFits 21 n64 (λ x. refl) (λ x h. (tt, h))
@@ -336,7 +328,9 @@ served_takes kind =
     kind_or ServedFits served_spelling kind 16 _ _ hello_takes
     (kind_or ServedFits served_spelling kind 17 _ _ ping_takes
     (kind_or ServedFits served_spelling kind 18 _ _ info_takes
-    (kind_or ServedFits served_spelling kind 21 _ _ stopped_takes (not_served kind))))
+    (kind_or ServedFits served_spelling kind 19 _ _ views_takes
+    (kind_or ServedFits served_spelling kind 20 _ _ waited_takes
+    (kind_or ServedFits served_spelling kind 21 _ _ stopped_takes (not_served kind))))))
 
 response_served : (kind : ℕ) → TakesAt ResponseFits response_spelling kind (made (λ x. Served x) (served_rest kind))
 response_served kind bytes y fits e =
@@ -371,11 +365,13 @@ IsServedBack (OfServer turned) rest = Unit {0}
 IsServedBack response rest = kind_at served_rest (served_spelling response ++ rest) ≡ Some (response, rest)
 
 served_back : (x : ServerResponse) (rest : List ℕ) → ServedFits x → IsServedBack x rest
-unfolding kind_at byte_at served_rest ping_at info_at stopped_at
+unfolding kind_at byte_at served_rest ping_at info_at views_at waited_at stopped_at
 served_back (OfServer turned) rest h = tt
 served_back (Hello version role columns run commits logged) rest h = hello_again version role columns run commits logged rest h
 served_back (Ping number commits) rest h = made_again (λ x. Ping x.0 x.1) (both_exact n64 n64) (number, commits) rest h.1
 served_back (Info counts) rest h = made_again (λ x. Info x) (counted16_exact count_exact) counts rest (h.0.0, counts_whole counts h.0.1 h.1)
+served_back (Views commits views) rest h = made_again (λ x. Views x.0 x.1) (both_exact n64 (counted_exact listed_exact)) (commits, views) rest (h.1.0, (h.0.0, listed_whole views h.0.1 h.1.1))
+served_back (Waited is_reached commits view) rest h = made_again (λ x. Waited x.0.0 x.0.1 x.1) (both_exact (both_exact flag_exact n64) n64) ((is_reached, commits), view) rest ((tt, h.1.0), h.1.1)
 served_back (Stopped commits) rest h = made_again (λ x. Stopped x) n64 commits rest h.1
 
 response_again : (x : Response) (rest : List ℕ) → ResponseFits x → kind_at response_rest (response_spelling x ++ rest) ≡ Some (x, rest)
@@ -396,6 +392,8 @@ response_again (Served (OfServer turned)) rest h = turned_served turned rest
 response_again (Served (Hello version role columns run commits logged)) rest h = served_again 16 _ (Hello version role columns run commits logged) rest (served_back (Hello version role columns run commits logged) rest h)
 response_again (Served (Ping number commits)) rest h = served_again 17 _ (Ping number commits) rest (served_back (Ping number commits) rest h)
 response_again (Served (Info counts)) rest h = served_again 18 _ (Info counts) rest (served_back (Info counts) rest h)
+response_again (Served (Views commits views)) rest h = served_again 19 _ (Views commits views) rest (served_back (Views commits views) rest h)
+response_again (Served (Waited is_reached commits view)) rest h = served_again 20 _ (Waited is_reached commits view) rest (served_back (Waited is_reached commits view) rest h)
 response_again (Served (Stopped commits)) rest h = served_again 21 _ (Stopped commits) rest (served_back (Stopped commits) rest h)
 
 pub response_exact : IsExact Response ResponseFits response_spelling (kind_at response_rest)

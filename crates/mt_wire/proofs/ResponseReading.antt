@@ -14,10 +14,12 @@ use Rattle.mt_wire.specs.declared.server.ServerRefusal.TheVariants.{NotAllowed, 
 use Rattle.mt_wire.specs.declared.server.Role.{Role}
 use Rattle.mt_wire.specs.declared.server.Role.TheVariants.{Read, Write, All}
 use Rattle.mt_wire.specs.declared.server.Count.{Count}
+use Rattle.mt_wire.specs.declared.server.ListedView.{ListedView}
 use Rattle.mt_wire.specs.declared.server.ServerResponse.{ServerResponse}
-use Rattle.mt_wire.specs.declared.server.ServerResponse.TheVariants.{Refused as OfServer, Hello, Ping, Info, Stopped}
+use Rattle.mt_wire.specs.declared.server.ServerResponse.TheVariants.{Refused as OfServer, Hello, Ping, Info, Views, Waited, Stopped}
 use Rattle.mt_wire.specs.declared.response.End.TheVariants.{Absent, Found, Committed, Rows, Tidied, Built}
-use Rattle.mt_wire.specs.Reading.{Reader, ◌>>=◌, both, made, nothing_at, byte_at, number_at, key_at, short_at, times_at, counted_at, kind_at}
+use Rattle.mt_wire.specs.Reading.{Reader, ◌>>=◌, both, made, nothing_at, byte_at, number_at, key_at, short_at, times_at, counted_at, kind_at, spec_rest}
+use Rattle.mt_wire.specs.ServerReading.{flag_rest}
 
 -- two bytes that count them, and the items
 unfoldable pub counted16_at : {A : Type 0} → Reader A → Reader (List A)
@@ -132,6 +134,17 @@ count_at = made (λ x. record { name = x.0; number = x.1 }) (both key_at (number
 unfoldable pub info_at : Reader ServerResponse
 info_at = made (λ x. Info x) (counted16_at count_at)
 
+unfoldable pub listed_at : Reader ListedView
+listed_at =
+    made (λ x. record { number = record { 0 = x.0.0.0 }; at = x.0.0.1; rows = x.0.1; spec = x.1 })
+    (both (both (both (number_at w64) (number_at w64)) (number_at w64)) (kind_at spec_rest))
+
+unfoldable pub views_at : Reader ServerResponse
+views_at = made (λ x. Views x.0 x.1) (both (number_at w64) (counted_at listed_at))
+
+unfoldable pub waited_at : Reader ServerResponse
+waited_at = made (λ x. Waited x.0.0 x.0.1 x.1) (both (both (kind_at flag_rest) (number_at w64)) (number_at w64))
+
 unfoldable pub stopped_at : Reader ServerResponse
 stopped_at = made (λ x. Stopped x) (number_at w64)
 
@@ -140,6 +153,8 @@ served_rest kind =
     if kind == 16 then hello_at
     else if kind == 17 then ping_at
     else if kind == 18 then info_at
+    else if kind == 19 then views_at
+    else if kind == 20 then waited_at
     else if kind == 21 then stopped_at
     else λ bytes. None
 

@@ -15,10 +15,13 @@ use Rattle.mt_wire.specs.declared.query.Query.{Query}
 use Rattle.mt_wire.specs.declared.query.Query.TheVariants.{Call, ViewRead, ViewDrop, Server}
 use Rattle.mt_wire.specs.declared.response.Response.{Response}
 use Rattle.mt_wire.specs.declared.response.Response.TheVariants.{Refused, Done, View, Dropped, Server as Served}
+use Rattle.mt_wire.specs.declared.server.Awaited.{Awaited}
+use Rattle.mt_wire.specs.declared.server.Awaited.TheVariants as awaits
+use Rattle.mt_wire.specs.declared.server.ListedView.{ListedView}
 use Rattle.mt_wire.specs.declared.server.ServerQuery.{ServerQuery}
 use Rattle.mt_wire.specs.declared.server.ServerQuery.TheVariants as asks
 use Rattle.mt_wire.specs.declared.server.ServerResponse.{ServerResponse}
-use Rattle.mt_wire.specs.declared.server.ServerResponse.TheVariants.{Refused as OfServer, Hello, Ping, Info, Stopped}
+use Rattle.mt_wire.specs.declared.server.ServerResponse.TheVariants.{Refused as OfServer, Hello, Ping, Info, Views, Waited, Stopped}
 use Rattle.mt_wire.specs.declared.response.End.{End}
 use Rattle.mt_wire.specs.declared.response.End.TheVariants.{Absent, Found, Committed, Rows, Tidied, Built}
 
@@ -76,6 +79,7 @@ EndLengthsOf _ = Unit {0}
 
 abbrev pub ServedLengths : ServerResponse → Type 0
 ServedLengths (Info counts) = (length counts < 2 ^ 16) × AllByRecursion (λ count. KeyFits count.name) counts
+ServedLengths (Views commits views) = CountedFits (λ view. SpecLengths view.spec) views
 ServedLengths _ = Unit {0}
 
 abbrev pub ResponseLengths : Response → Type 0
@@ -96,8 +100,14 @@ abbrev pub SpecNumbers : ViewSpec → Type 0
 SpecNumbers (RangeOf lo hi test) = TestNumbers test
 SpecNumbers (PrefixOf key test) = TestNumbers test
 
+abbrev pub AwaitedNumbers : Awaited → Type 0
+AwaitedNumbers awaits.Commits = Unit {0}
+AwaitedNumbers (awaits.View view) = view.0 < 2 ^ 64
+
 abbrev pub ServerNumbers : ServerQuery → Type 0
 ServerNumbers (asks.Ping number) = number < 2 ^ 64
+ServerNumbers (asks.Wait of number milliseconds) =
+    AwaitedNumbers of × (number < 2 ^ 64) × (milliseconds < 2 ^ 32)
 ServerNumbers _ = Unit {0}
 
 abbrev pub QueryNumbers : Query → Type 0
@@ -129,12 +139,18 @@ EndNumbers (Rows pairs) = AllByRecursion PairNumbers pairs
 EndNumbers (Tidied rule) = Unit {0}
 EndNumbers (Built view) = view.0 < 2 ^ 64
 
+abbrev pub ListedNumbers : ListedView → Type 0
+ListedNumbers view =
+    (view.number.0 < 2 ^ 64) × (view.at < 2 ^ 64) × (view.rows < 2 ^ 64) × SpecNumbers view.spec
+
 abbrev pub ServedNumbers : ServerResponse → Type 0
 ServedNumbers (OfServer refusal) = Unit {0}
 ServedNumbers (Hello version role columns run commits logged) =
     (run < 2 ^ 128) × (commits < 2 ^ 64) × (logged < 2 ^ 64)
 ServedNumbers (Ping number commits) = (number < 2 ^ 64) × (commits < 2 ^ 64)
 ServedNumbers (Info counts) = AllByRecursion (λ count. count.number < 2 ^ 64) counts
+ServedNumbers (Views commits views) = (commits < 2 ^ 64) × AllByRecursion ListedNumbers views
+ServedNumbers (Waited is_reached commits view) = (commits < 2 ^ 64) × (view < 2 ^ 64)
 ServedNumbers (Stopped commits) = commits < 2 ^ 64
 
 abbrev pub ResponseNumbers : Response → Type 0

@@ -21,8 +21,11 @@ use Rattle.mt_wire.specs.declared.response.End.TheVariants.{Absent, Found, Commi
 use Rattle.mt_wire.specs.declared.server.ServerQuery.{ServerQuery}
 use Rattle.mt_wire.specs.declared.server.ServerQuery.TheVariants as asks
 use Rattle.mt_wire.specs.declared.server.ServerResponse.{ServerResponse}
-use Rattle.mt_wire.specs.declared.server.ServerResponse.TheVariants.{Refused as OfServer, Hello, Ping, Info, Stopped}
+use Rattle.mt_wire.specs.declared.server.ServerResponse.TheVariants.{Refused as OfServer, Hello, Ping, Info, Views, Waited, Stopped}
+use Rattle.mt_wire.specs.declared.server.Awaited.{Awaited}
+use Rattle.mt_wire.specs.declared.server.Awaited.TheVariants as awaits
 use Rattle.mt_wire.specs.declared.server.Count.{Count}
+use Rattle.mt_wire.specs.declared.server.ListedView.{ListedView}
 use Rattle.mt_wire.specs.ServerNumbers.{role_number, server_refusal_number}
 use Rattle.mt_wire.specs.declared.version.WireVersion.{WireVersion}
 use Rattle.mt_wire.specs.declared.frame.Frame.{Frame}
@@ -62,10 +65,18 @@ abbrev pub flag_spelling : Bool → List ℕ
 flag_spelling false = 0 ∷ []
 flag_spelling true = 1 ∷ []
 
+-- what is waited for: the commits, or a view of this number
+abbrev pub awaited_spelling : Awaited → List ℕ
+awaited_spelling awaits.Commits = 0 ∷ []
+awaited_spelling (awaits.View view) = 1 ∷ to_be_bytes w64 view.0
+
 abbrev pub server_spelling : ServerQuery → List ℕ
 server_spelling (asks.Hello newest secret name) = 16 ∷ newest ∷ (key_spelling secret ++ key_spelling name)
 server_spelling (asks.Ping number) = 17 ∷ to_be_bytes w64 number
 server_spelling asks.Info = 18 ∷ []
+server_spelling asks.Views = 19 ∷ []
+server_spelling (asks.Wait of number milliseconds) =
+    20 ∷ (awaited_spelling of ++ to_be_bytes w64 number ++ to_be_bytes w32 milliseconds)
 server_spelling (asks.Stop is_at_once) = 21 ∷ flag_spelling is_at_once
 
 abbrev pub query_spelling : Query → List ℕ
@@ -117,6 +128,11 @@ span_spelling start stop = to_be_bytes w64 start ++ to_be_bytes w64 stop
 abbrev pub count_spelling : Count → List ℕ
 count_spelling count = key_spelling count.name ++ to_be_bytes w64 count.number
 
+-- a view of a list: its number, the number of commits at which it is, how many rows it holds, and its specification
+abbrev pub listed_spelling : ListedView → List ℕ
+listed_spelling view =
+    to_be_bytes w64 view.number.0 ++ to_be_bytes w64 view.at ++ to_be_bytes w64 view.rows ++ spec_spelling view.spec
+
 abbrev pub served_spelling : ServerResponse → List ℕ
 served_spelling (OfServer refusal) = 0 ∷ server_refusal_number refusal ∷ to_be_bytes w64 0
 served_spelling (Hello version role columns run commits logged) =
@@ -124,6 +140,9 @@ served_spelling (Hello version role columns run commits logged) =
     ∷ (sum_spelling run ++ to_be_bytes w64 commits ++ to_be_bytes w64 logged)
 served_spelling (Ping number commits) = 17 ∷ (to_be_bytes w64 number ++ to_be_bytes w64 commits)
 served_spelling (Info counts) = 18 ∷ (to_be_bytes w16 (length counts) ++ flat_map count_spelling counts)
+served_spelling (Views commits views) = 19 ∷ (to_be_bytes w64 commits ++ counted listed_spelling views)
+served_spelling (Waited is_reached commits view) =
+    20 ∷ (flag_spelling is_reached ++ to_be_bytes w64 commits ++ to_be_bytes w64 view)
 served_spelling (Stopped commits) = 21 ∷ to_be_bytes w64 commits
 
 abbrev pub response_spelling : Response → List ℕ

@@ -65,7 +65,7 @@ fn write_end(out: &mut Vec<u8>, end: &Option<Bytes>) -> Result<(), AllocError>
     Ok(())
 }
 
-fn write_spec(out: &mut Vec<u8>, spec: &ViewSpec) -> Result<(), AllocError>
+pub fn write_spec(out: &mut Vec<u8>, spec: &ViewSpec) -> Result<(), AllocError>
     requires { SpecLengths spec.now }
     ensures { OnOk result (out.new.items ≡ out.old.items ++ spec_spelling spec.now) }
 {
@@ -155,7 +155,7 @@ fn end_fits(end: &Option<Bytes>) -> bool
     }
 }
 
-fn spec_fits(spec: &ViewSpec) -> bool
+pub fn spec_fits(spec: &ViewSpec) -> bool
     ensures { IsTrue result ↔ SpecLengths spec.now }
 {
     match spec {

@@ -34,6 +34,13 @@ pub fn number16(input: &mut Bytes) -> Result<u16, ReadError>
 }
 
 #[tactic(auto, unfolding(crate::specs::Reading::number_at))]
+pub fn number32(input: &mut Bytes) -> Result<u32, ReadError>
+    ensures { Gives (λ x. (x, input.new)) result (number_at w32 input.old) }
+{
+    Ok(input.try_get_u32()?)
+}
+
+#[tactic(auto, unfolding(crate::specs::Reading::number_at))]
 pub fn number64(input: &mut Bytes) -> Result<u64, ReadError>
     ensures { Gives (λ x. (x, input.new)) result (number_at w64 input.old) }
 {

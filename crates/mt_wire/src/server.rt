@@ -4,7 +4,12 @@ ghost use Rattle.std.specs.Prelude.{◌≡◌};
 ghost use Rattle.mt_wire.specs.ServerNumbers.{role_number, server_refusal_number};
 
 use bytes::Bytes;
+use mt_types::copying::TryCopy;
 use mt_types::items::Items;
+use mt_types::numbers::ViewNo;
+use mt_types::refusal::NoMemory;
+use mt_types::view::ViewSpec;
+use std::alloc::Global;
 
 /// A query of the server, and not of its index.
 #[derive(Debug, PartialEq, Eq, Drop)]
@@ -20,6 +25,14 @@ pub enum ServerQuery {
     Ping(u64),
     /// Asks what the server counts.
     Info,
+    /// Asks for all views.
+    Views,
+    /// Is answered when what it waits for has this number, or after this time.
+    Wait {
+        of: Awaited,
+        number: u64,
+        milliseconds: u32,
+    },
     /// Ends the server.
     Stop {
         /// Whether frames that came aren't answered first.
@@ -27,10 +40,19 @@ pub enum ServerQuery {
     },
 }
 
+/// What a client waits for.
+#[derive(Clone, Copy, Debug, PartialEq, Eq)]
+pub enum Awaited {
+    /// The number of commits.
+    Commits,
+    /// The number of commits at which a view is.
+    View(ViewNo),
+}
+
 /// What a client may do.
 #[derive(Clone, Copy, Debug, PartialEq, Eq)]
 pub enum Role {
-    /// Gets, ranges and pages of views.
+    /// Gets, ranges, pages of views, and what the server counts, lists and waits for.
     Read,
     /// Also changes of rows and of views.
     Write,
@@ -56,6 +78,29 @@ impl Role {
 pub struct Count {
     pub name: Bytes,
     pub number: u64,
+}
+
+/// A view, as a server lists it.
+#[derive(Debug, PartialEq, Eq, Drop)]
+pub struct ListedView {
+    pub number: ViewNo,
+    /// The number of commits at which it is.
+    pub at: u64,
+    /// How many rows it holds.
+    pub rows: u64,
+    pub spec: ViewSpec,
+}
+
+impl TryCopy for ListedView {
+    /// Shares the bytes of the specification.
+    fn copy(&self, alloc: Global) -> Result<ListedView, NoMemory> {
+        Ok(ListedView {
+            number: self.number,
+            at: self.at,
+            rows: self.rows,
+            spec: self.spec.copy(alloc)?,
+        })
+    }
 }
 
 /// Why a server refuses a query.
@@ -104,6 +149,18 @@ pub enum ServerResponse {
     },
     /// What the server counts.
     Info(Items<Count>),
+    /// All views, in the order of their numbers.
+    Views {
+        commits: u64,
+        views: Items<ListedView>,
+    },
+    /// The end of a wait.
+    Waited {
+        is_reached: bool,
+        commits: u64,
+        /// The number of commits at which the view is, or 0 if the wait was for commits.
+        view: u64,
+    },
     /// The server ends.
     Stopped {
         commits: u64,

@@ -2,12 +2,13 @@
 
 ghost use Rattle.std.specs.Prelude.{◌≡◌};
 ghost use Rattle.mt_wire.specs.Reading.{Gives, kind_at};
-ghost use Rattle.mt_wire.specs.ServerReading.{flag_rest, hello_at, ping_at, stop_at, server_rest};
+ghost use Rattle.mt_wire.specs.ServerReading.{flag_rest, awaited_rest, hello_at, ping_at, wait_at, stop_at, server_rest};
 
 use crate::fault::ReadError;
-use crate::reading::{byte, key, number64};
-use crate::server::ServerQuery;
+use crate::reading::{byte, key, number32, number64};
+use crate::server::{Awaited, ServerQuery};
 use bytes::Bytes;
+use mt_types::numbers::ViewNo;
 
 #[tactic(auto, unfolding(crate::specs::Reading::kind_at, crate::specs::ServerReading::flag_rest))]
 fn flag(input: &mut Bytes) -> Result<bool, ReadError>
@@ -41,6 +42,39 @@ fn ping(input: &mut Bytes) -> Result<ServerQuery, ReadError>
     Ok(ServerQuery::Ping(number64(input)?))
 }
 
+#[tactic(auto, unfolding(crate::specs::ServerReading::awaited_rest))]
+fn awaited_of_kind(input: &mut Bytes, kind: u8) -> Result<Awaited, ReadError>
+    ensures { Gives (λ x. (x, input.new)) result (awaited_rest kind input.old) }
+{
+    match kind {
+        0 => Ok(Awaited::Commits),
+        1 => Ok(Awaited::View(ViewNo(number64(input)?))),
+        _ => Err(ReadError::Misspelled),
+    }
+}
+
+#[tactic(auto, unfolding(crate::specs::Reading::kind_at))]
+fn awaited(input: &mut Bytes) -> Result<Awaited, ReadError>
+    ensures { Gives (λ x. (x, input.new)) result (kind_at awaited_rest input.old) }
+{
+    let kind = byte(input)?;
+    awaited_of_kind(input, kind)
+}
+
+#[tactic(auto, unfolding(crate::specs::ServerReading::wait_at))]
+fn wait(input: &mut Bytes) -> Result<ServerQuery, ReadError>
+    ensures { Gives (λ x. (x, input.new)) result (wait_at input.old) }
+{
+    let of = awaited(input)?;
+    let number = number64(input)?;
+    let milliseconds = number32(input)?;
+    Ok(ServerQuery::Wait {
+        of,
+        number,
+        milliseconds,
+    })
+}
+
 #[tactic(auto, unfolding(crate::specs::ServerReading::stop_at))]
 fn stop(input: &mut Bytes) -> Result<ServerQuery, ReadError>
     ensures { Gives (λ x. (x, input.new)) result (stop_at input.old) }
@@ -58,6 +92,8 @@ pub fn server_query(input: &mut Bytes, kind: u8) -> Result<ServerQuery, ReadErro
         16 => hello(input),
         17 => ping(input),
         18 => Ok(ServerQuery::Info),
+        19 => Ok(ServerQuery::Views),
+        20 => wait(input),
         21 => stop(input),
         _ => Err(ReadError::Misspelled),
     }

@@ -1,8 +1,27 @@
 //! Queries and answers of the server, written at the end of bytes.
 
-use crate::server::{Count, ServerQuery, ServerResponse};
-use crate::writing::{Writable, all_fit, head, items, key, key_fits, number16, number64};
+ghost use Rattle.std.specs.Prelude.{◌≡◌, ◌++◌, OnOk};
+ghost use Rattle.mt_wire.specs.Spelling.{awaited_spelling};
+
+use crate::query_writing::{spec_fits, write_spec};
+use crate::server::{Awaited, Count, ListedView, ServerQuery, ServerResponse};
+use crate::writing::{
+    Writable, all_fit, counted, counted_fits, head, items, key, key_fits, number16, number32,
+    number64,
+};
 use std::alloc::AllocError;
+
+fn write_awaited(out: &mut Vec<u8>, of: Awaited) -> Result<(), AllocError>
+    ensures { OnOk result (out.new.items ≡ out.old.items ++ awaited_spelling of) }
+{
+    match of {
+        Awaited::Commits => Ok(out.push(0)?),
+        Awaited::View(view) => {
+            out.push(1)?;
+            number64(out, view.0)
+        }
+    }
+}
 
 impl Writable for ServerQuery {
     ghost use Rattle.mt_wire.specs.Spelling.{server_spelling};
@@ -28,6 +47,17 @@ impl Writable for ServerQuery {
                 number64(out, *number)
             }
             ServerQuery::Info => Ok(out.push(18)?),
+            ServerQuery::Views => Ok(out.push(19)?),
+            ServerQuery::Wait {
+                of,
+                number,
+                milliseconds,
+            } => {
+                out.push(20)?;
+                write_awaited(out, *of)?;
+                number64(out, *number)?;
+                number32(out, *milliseconds)
+            }
             ServerQuery::Stop { is_at_once } => out.extend_from_slice(&[21, u8::from(*is_at_once)]),
         }
     }
@@ -35,7 +65,11 @@ impl Writable for ServerQuery {
     fn fits(&self) -> bool {
         match self {
             ServerQuery::Hello { secret, name, .. } => key_fits(secret) && key_fits(name),
-            ServerQuery::Ping(_) | ServerQuery::Info | ServerQuery::Stop { .. } => true,
+            ServerQuery::Ping(_)
+            | ServerQuery::Info
+            | ServerQuery::Views
+            | ServerQuery::Wait { .. }
+            | ServerQuery::Stop { .. } => true,
         }
     }
 }
@@ -55,6 +89,26 @@ impl Writable for Count {
 
     fn fits(&self) -> bool {
         key_fits(&self.name)
+    }
+}
+
+impl Writable for ListedView {
+    ghost use Rattle.mt_wire.specs.Spelling.{listed_spelling};
+    ghost use Rattle.mt_wire.specs.Fits.{SpecLengths};
+
+    ghost spelling = { listed_spelling };
+
+    ghost lengths = { λ view. SpecLengths view.spec };
+
+    fn write(&self, out: &mut Vec<u8>) -> Result<(), AllocError> {
+        number64(out, self.number.0)?;
+        number64(out, self.at)?;
+        number64(out, self.rows)?;
+        write_spec(out, &self.spec)
+    }
+
+    fn fits(&self) -> bool {
+        spec_fits(&self.spec)
     }
 }
 
@@ -91,6 +145,20 @@ impl Writable for ServerResponse {
                 number16(out, counts.len() as u16)?;
                 items(out, counts.as_slice())
             }
+            ServerResponse::Views { commits, views } => {
+                out.push(19)?;
+                number64(out, *commits)?;
+                counted(out, views.as_slice())
+            }
+            ServerResponse::Waited {
+                is_reached,
+                commits,
+                view,
+            } => {
+                out.extend_from_slice(&[20, u8::from(*is_reached)])?;
+                number64(out, *commits)?;
+                number64(out, *view)
+            }
             ServerResponse::Stopped { commits } => {
                 out.push(21)?;
                 number64(out, *commits)
@@ -101,9 +169,11 @@ impl Writable for ServerResponse {
     fn fits(&self) -> bool {
         match self {
             ServerResponse::Info(counts) => counts.len() < 0x1_0000 && all_fit(counts.as_slice()),
+            ServerResponse::Views { views, .. } => counted_fits(views.as_slice()),
             ServerResponse::Refused(_)
             | ServerResponse::Hello { .. }
             | ServerResponse::Ping { .. }
+            | ServerResponse::Waited { .. }
             | ServerResponse::Stopped { .. } => true,
         }
     }

@@ -2,7 +2,7 @@
 
 ghost use Rattle.std.specs.Prelude.{◌≡◌, ◌∷◌, ◌<◌, ◌^◌, ◌++◌, ◌↔◌, ℕ, List, IsTrue, OnOk, length};
 ghost use Rattle.std.specs.List.{AllByRecursion, flat_map};
-ghost use Rattle.std.specs.Int.{w16, w64, to_be_bytes};
+ghost use Rattle.std.specs.Int.{w16, w32, w64, to_be_bytes};
 ghost use Rattle.mt_wire.specs.Spelling.{key_spelling, short_spelling, counted};
 ghost use Rattle.mt_wire.specs.Fits.{KeyFits, ShortFits, CountedFits};
 
@@ -26,6 +26,12 @@ pub trait Writable {
 
 pub fn number16(out: &mut Vec<u8>, number: u16) -> Result<(), AllocError>
     ensures { OnOk result (out.new.items ≡ out.old.items ++ to_be_bytes w16 number) }
+{
+    out.extend_from_slice(&number.to_be_bytes())
+}
+
+pub fn number32(out: &mut Vec<u8>, number: u32) -> Result<(), AllocError>
+    ensures { OnOk result (out.new.items ≡ out.old.items ++ to_be_bytes w32 number) }
 {
     out.extend_from_slice(&number.to_be_bytes())
 }
