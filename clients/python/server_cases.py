@@ -197,12 +197,6 @@ def info(start: Start) -> None:
 
 # ---- the list of views
 
-def lists_views(start: Start) -> bool:
-    """Whether a server lists its views and lets clients wait: `info` counts them then."""
-    with start(OPEN) as port, client(port) as index:
-        return "views" in index.info()
-
-
 def lists_by_role(start: Start) -> None:
     """Every client that was admitted may list and wait, in a frame of one query."""
     with start(TOKENS) as port, client(port, token=READER) as index:
@@ -323,6 +317,5 @@ def stops(start: Start) -> None:
 
 CASES: List[Case] = [
     hello_without_tokens, hello_with_tokens, nothing_before_hello, what_a_reader_may, what_a_writer_may, hello_again,
-    versions_after_hello, alone_in_its_frame, pings, info, stops]
-# of a server that lists its views
-LIST_CASES: List[Case] = [lists_by_role, views, wait_for_commits, wait_for_a_view, waits_of_many]
+    versions_after_hello, alone_in_its_frame, pings, info, lists_by_role, views, wait_for_commits, wait_for_a_view,
+    waits_of_many, stops]

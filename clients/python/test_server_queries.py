@@ -154,7 +154,7 @@ class CaseTest(unittest.TestCase):
             yield server.port
 
     def test_each_case(self) -> None:
-        for case in (*server_cases.CASES, *server_cases.LIST_CASES):
+        for case in server_cases.CASES:
             with self.subTest(case.__name__):
                 case(self.start)
 

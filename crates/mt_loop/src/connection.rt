@@ -2,7 +2,8 @@
 
 use crate::fault::ConnectionFault;
 use crate::limits::{Limits, is_over};
-use crate::weight::{TURN, asks_server, only_reads, weight_of};
+use crate::parking::Awaited;
+use crate::weight::{TURN, only_reads, server_query, weight_of};
 use mio::net::TcpStream;
 use mt_serve::answerer::Answerer;
 use mt_serve::fault::SessionFault;
@@ -10,9 +11,11 @@ use mt_shared::driving::Shared;
 use mt_shared::pass::Pass;
 use mt_talk::serving::Server;
 use mt_talk::talk::Talk;
-use mt_wire::server::Role;
+use mt_talk::facts::Facts;
+use mt_wire::server::{Awaited as Asked, Role, ServerQuery};
 use std::alloc::Global;
 use std::io::{ErrorKind, Read, Write};
+use std::mem;
 
 // From how many bytes on that are to go no more frames are answered.
 const MOST_OUTPUT: usize = 1_048_576;
@@ -35,10 +38,16 @@ pub struct Connection {
     talk: Talk,
     /// What the frame at the front asks for, as `find` has found.
     pub front: Front,
-    /// Whether that is a query of the server.
-    pub asks_server: bool,
     /// Whether it is in the list of a round.
     pub is_listed: bool,
+    /// Under what it is among the connections of the worker that wait, if it is.
+    pub parked: Option<Awaited>,
+    // What the frame at the front waits for, since it was looked at.
+    awaited: Option<Awaited>,
+    // Whether that has come, or can't come any more.
+    is_woken: bool,
+    // How many bytes were read and written since they were counted.
+    moved: (usize, usize),
     // What its client may do, if it was admitted.
     role: Option<Role>,
     // What that frame weighs, what may still be asked for in this round, and whether more frames may be there.
@@ -66,8 +75,11 @@ impl Connection {
             stream,
             talk: Talk::new(alloc),
             front: Front::Nothing,
-            asks_server: false,
             is_listed: false,
+            parked: None,
+            awaited: None,
+            is_woken: false,
+            moved: (0, 0),
             role,
             weight: 0,
             budget: 0,
@@ -83,10 +95,75 @@ impl Connection {
         }
     }
 
-    /// Notes whether bytes are there, and whether the peer has ended its stream after them.
+    /// Notes whether bytes are there, and whether the peer has ended its stream after them. Then it doesn't wait any longer.
     pub fn wake(&mut self, is_readable: bool, is_hung_up: bool) {
         self.is_unread = self.is_unread || is_readable || is_hung_up;
         self.is_hung_up = self.is_hung_up || is_hung_up;
+        self.is_woken = self.is_woken || is_hung_up;
+    }
+
+    /// Notes that what it waits for has come, or its time.
+    pub fn end_wait(&mut self) {
+        self.is_woken = true;
+    }
+
+    // Whether the frame at the front waits.
+    fn is_waiting(&self) -> bool {
+        self.awaited.is_some() && !self.is_woken
+    }
+
+    /// Returns what the frame at the front waits for, if it waits.
+    pub fn awaited(&self) -> Option<Awaited> {
+        if self.is_waiting() { self.awaited } else { None }
+    }
+
+    /// Returns the query of the server that is alone in the frame at the front.
+    pub fn server_query(&self) -> Option<&ServerQuery> {
+        match self.talk.front() {
+            Some(frame) => server_query(frame),
+            None => None,
+        }
+    }
+
+    /// Returns whether the frame at the front is a wait whose end hasn't come. Then it is answered later.
+    pub fn waits(&mut self, facts: &Facts, now: u64) -> bool {
+        let Some(ServerQuery::Wait {
+            of,
+            number,
+            milliseconds,
+        }) = self.server_query()
+        else {
+            return false;
+        };
+        let (view, at) = match of {
+            Asked::Commits => (0, Some(facts.commits)),
+            Asked::View(view) => (view.0, facts.watched),
+        };
+        let number = *number;
+        let is_reached = match at {
+            Some(at) => number <= at,
+            None => true,
+        };
+        let until = match self.awaited {
+            Some(awaited) => awaited.until,
+            None => now.saturating_add(u64::from(*milliseconds)),
+        };
+        if is_reached || until <= now || self.is_hung_up || self.role.is_none() {
+            return false;
+        }
+        self.awaited = Some(Awaited {
+            view,
+            number,
+            until,
+        });
+        self.is_woken = false;
+        self.front = Front::Nothing;
+        true
+    }
+
+    /// Returns how many bytes were read and written since the last call.
+    pub fn take_moved(&mut self) -> (usize, usize) {
+        mem::replace(&mut self.moved, (0, 0))
     }
 
     // The session ends with this fault, unless it has met another one before.
@@ -118,6 +195,7 @@ impl Connection {
             }
             Ok(count) => {
                 self.came = now;
+                self.moved.0 = self.moved.0.saturating_add(count);
                 let is_all = count < piece.len();
                 self.take(&piece[..count], is_all);
             }
@@ -137,6 +215,7 @@ impl Connection {
         self.find();
         if self.front == Front::Nothing
             && self.is_unread
+            && !self.is_waiting()
             && self.fault.is_none()
             && !self.is_full()
         {
@@ -147,8 +226,8 @@ impl Connection {
     /// Finds the frame at the front, if one is to be answered in this round.
     pub fn find(&mut self) {
         self.front = Front::Nothing;
-        self.has_more = self.budget == 0 || self.is_full();
-        if self.has_more || self.fault.is_some() {
+        self.has_more = !self.is_waiting() && (self.budget == 0 || self.is_full());
+        if self.has_more || self.is_waiting() || self.fault.is_some() {
             return;
         }
         match self.talk.find() {
@@ -166,7 +245,6 @@ impl Connection {
     fn look(&mut self) {
         if let Some(frame) = self.talk.front() {
             self.weight = weight_of(frame);
-            self.asks_server = asks_server(frame);
             self.front = if only_reads(frame) {
                 Front::Reads
             } else {
@@ -184,6 +262,8 @@ impl Connection {
         pass: &mut Pass,
     ) {
         self.front = Front::Nothing;
+        self.awaited = None;
+        self.is_woken = false;
         self.began = None;
         self.budget = self.budget.saturating_sub(self.weight);
         server.keeper.role = self.role;
@@ -223,6 +303,7 @@ impl Connection {
                 let count = sent.min(self.talk.output().len());
                 if count > 0 {
                     self.went = now;
+                    self.moved.1 = self.moved.1.saturating_add(count);
                 }
                 if self.talk.sent(count).is_err() {
                     self.fail(ConnectionFault::from(SessionFault::NoMemory));
@@ -243,7 +324,7 @@ impl Connection {
         } else {
             self.flush(now);
         }
-        if self.talk.is_between_frames() {
+        if self.talk.is_between_frames() || self.awaited.is_some() {
             self.began = None;
         } else if self.began.is_none() {
             self.began = Some(now);
@@ -252,7 +333,10 @@ impl Connection {
 
     /// Returns whether more is to be done at once: frames are there, or bytes that weren't read.
     pub fn is_ready(&self) -> bool {
-        self.fault.is_none() && !self.is_full() && (self.is_unread || self.has_more)
+        self.fault.is_none()
+            && !self.is_full()
+            && !self.is_waiting()
+            && (self.is_unread || self.has_more)
     }
 
     /// Returns whether its session has ended and all of its answers have gone.
@@ -286,6 +370,9 @@ impl Connection {
             return true;
         }
         self.talk.free_output();
+        if self.awaited.is_some() {
+            return false;
+        }
         match self.began {
             Some(began) if is_over(limits.frame, began, now) => {
                 self.fail(ConnectionFault::from(SessionFault::Cut));

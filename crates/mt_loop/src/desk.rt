@@ -17,6 +17,7 @@ pub struct Desk {
     inbox: Mutex<Vec<TcpStream>>,
     waker: Waker,
     load: AtomicUsize,
+    waiting: AtomicUsize,
 }
 
 impl Desk {
@@ -26,6 +27,7 @@ impl Desk {
             inbox: Mutex::new(Vec::new(alloc)),
             waker: Waker::new(poll.registry(), WAKER)?,
             load: AtomicUsize::new(0),
+            waiting: AtomicUsize::new(0),
         })
     }
 
@@ -57,6 +59,21 @@ impl Desk {
     pub fn take<R: Wait>(&self, rt: &R, alloc: Global) -> Vec<TcpStream> {
         let mut inbox = self.inbox.lock(rt);
         mem::replace(&mut *inbox, Vec::new(alloc))
+    }
+
+    /// Returns whether a connection of the worker waits for commits.
+    pub fn is_waiting(&self) -> bool {
+        self.waiting.load(Ordering::SeqCst) > 0
+    }
+
+    /// A connection waits for commits.
+    pub fn begin_wait(&self) {
+        self.waiting.fetch_add(1, Ordering::SeqCst);
+    }
+
+    /// A connection doesn't wait any longer.
+    pub fn end_wait(&self) {
+        self.waiting.fetch_sub(1, Ordering::SeqCst);
     }
 
     /// A connection has ended.

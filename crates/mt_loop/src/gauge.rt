@@ -1,10 +1,17 @@
 //! What a server counts, and what it reads of its index for an operator.
 
 use crate::desk::Desk;
+use crate::parking::Parking;
 use mt_shared::door::Door;
 use mt_shared::map::SharedMap;
+use mt_shared::moment::Moment;
 use mt_talk::facts::Facts;
+use mt_talk::listing::Listing;
+use mt_types::copying::TryCopy;
+use mt_types::limits::MAX_VIEWS;
+use mt_types::numbers::ViewNo;
 use mt_types::refusal::Refusal;
+use mt_wire::server::{Awaited, ListedView, ServerQuery};
 use std::alloc::Global;
 use std::sync::Wait;
 use std::sync::atomic::{AtomicUsize, Ordering};
@@ -17,8 +24,11 @@ pub struct Tally {
     pub run: u128,
     accepted: AtomicUsize,
     turned_away: AtomicUsize,
+    frames: AtomicUsize,
     queries: AtomicUsize,
     faults: AtomicUsize,
+    input_bytes: AtomicUsize,
+    output_bytes: AtomicUsize,
 }
 
 impl Tally {
@@ -28,8 +38,11 @@ impl Tally {
             run,
             accepted: AtomicUsize::new(0),
             turned_away: AtomicUsize::new(0),
+            frames: AtomicUsize::new(0),
             queries: AtomicUsize::new(0),
             faults: AtomicUsize::new(0),
+            input_bytes: AtomicUsize::new(0),
+            output_bytes: AtomicUsize::new(0),
         }
     }
 
@@ -43,9 +56,16 @@ impl Tally {
         self.turned_away.fetch_add(1, Ordering::Relaxed);
     }
 
-    /// Counts queries that were answered.
+    /// Counts a frame of these queries that was answered.
     pub fn answer(&self, queries: u64) {
+        self.frames.fetch_add(1, Ordering::Relaxed);
         self.queries.fetch_add(queries as usize, Ordering::Relaxed);
+    }
+
+    /// Counts bytes that were read and written.
+    pub fn move_bytes(&self, read: usize, written: usize) {
+        self.input_bytes.fetch_add(read, Ordering::Relaxed);
+        self.output_bytes.fetch_add(written, Ordering::Relaxed);
     }
 
     /// Counts a session that was broken off.
@@ -73,13 +93,47 @@ pub fn open(desks: &[Desk]) -> u64 {
     open
 }
 
+// The views of a moment.
+fn listing_of(alloc: Global, moment: &Moment<'_>) -> Result<Listing, Refusal> {
+    let mut listing = Listing::new(alloc);
+    for (number, state) in moment.views() {
+        listing.push(ListedView {
+            number: ViewNo(*number),
+            at: state.at(),
+            rows: state.count(),
+            spec: state.spec().copy(alloc)?,
+        })?;
+    }
+    Ok(listing)
+}
+
 impl<'a, R: Wait + Clock> Gauge<'a, R> {
-    // What the index is at one moment. While a change waits for another one, only `seen` is known of its commits.
-    fn read_index(&self, alloc: Global, facts: &mut Facts) {
+    /// Returns the time since the start, in milliseconds.
+    pub fn now(&self) -> u64 {
+        match self.start.elapsed(self.rt) {
+            Ok(elapsed) => {
+                let millis = u64::from(elapsed.subsec_millis());
+                elapsed.as_secs().saturating_mul(1000).saturating_add(millis)
+            }
+            Err(_) => 0,
+        }
+    }
+
+    // What the index is at one moment. Its nodes and its log aren't counted while a change waits for another one.
+    fn read_index(&self, alloc: Global, query: Option<&ServerQuery>, facts: &mut Facts) {
         let door = Door::new(self.index, self.rt, 1);
         let moment = door.moment();
+        facts.commits = moment.commits();
+        facts.standing = moment.views().count() as u64;
+        match query {
+            Some(ServerQuery::Views) => facts.views = listing_of(alloc, &moment).ok(),
+            Some(ServerQuery::Wait {
+                of: Awaited::View(view),
+                ..
+            }) => facts.watched = moment.view(*view).map(|state| state.at()),
+            _ => {}
+        }
         if let Some(machine) = moment.machine() {
-            facts.commits = facts.commits.max(machine.commits());
             facts.nodes = machine.nodes() as u64;
             facts.logged = match machine.feed(alloc, 0, 1) {
                 Err(Refusal::Behind(number)) => number,
@@ -88,25 +142,62 @@ impl<'a, R: Wait + Clock> Gauge<'a, R> {
         }
     }
 
-    /// Returns what the server is now, for a worker whose pass has seen this number of commits. The worker holds no lock.
-    pub fn facts(&self, alloc: Global, seen: u64) -> Facts {
+    /// Returns how many commits there are, under the number 0, and at which commit each view is, under its number, of those
+    /// that connections wait for. A view that isn't there has the greatest number.
+    pub fn reached(&self, alloc: Global, parking: &Parking) -> Vec<(u64, u64)> {
+        let door = Door::new(self.index, self.rt, 1);
+        let moment = door.moment();
+        let mut reached = Vec::new(alloc);
+        let mut next = parking.next_view(0);
+        for _ in 0..=MAX_VIEWS {
+            let Some(view) = next else {
+                break;
+            };
+            let at = match (view, moment.view(ViewNo(view))) {
+                (0, _) => moment.commits(),
+                (_, Some(state)) => state.at(),
+                (_, None) => u64::MAX,
+            };
+            let _ = reached.push((view, at));
+            next = match view.checked_add(1) {
+                Some(from) => parking.next_view(from),
+                None => None,
+            };
+        }
+        reached
+    }
+
+    /// Wakes the workers that have connections which wait for commits.
+    pub fn wake_waiting(&self) {
+        for desk in self.desks {
+            if desk.is_waiting() {
+                let _ = desk.wake();
+            }
+        }
+    }
+
+    /// Returns what the server is now, as far as this query asks for it. The worker holds no lock.
+    pub fn facts(&self, alloc: Global, query: Option<&ServerQuery>) -> Facts {
         let mut facts = Facts {
             run: self.tally.run,
             columns: self.index.columns(),
-            commits: seen,
+            commits: 0,
             logged: 0,
             nodes: 0,
+            standing: 0,
             connections: open(self.desks),
             accepted: self.tally.accepted.load(Ordering::Relaxed) as u64,
             turned_away: self.tally.turned_away.load(Ordering::Relaxed) as u64,
+            frames: self.tally.frames.load(Ordering::Relaxed) as u64,
             queries: self.tally.queries.load(Ordering::Relaxed) as u64,
             faults: self.tally.faults.load(Ordering::Relaxed) as u64,
-            milliseconds: 0,
+            input_bytes: self.tally.input_bytes.load(Ordering::Relaxed) as u64,
+            output_bytes: self.tally.output_bytes.load(Ordering::Relaxed) as u64,
+            milliseconds: self.now(),
+            views: None,
+            watched: None,
         };
-        if let Ok(elapsed) = self.start.elapsed(self.rt) {
-            facts.milliseconds = elapsed.as_secs().saturating_mul(1000);
-        }
-        self.read_index(alloc, &mut facts);
+        self.read_index(alloc, query, &mut facts);
         facts
     }
 }

@@ -14,6 +14,7 @@ use mt_wire::server::Role;
 use slab::Slab;
 use std::alloc::Global;
 use std::sync::Wait;
+use std::mem;
 use std::time::Clock;
 
 // How many queries are answered in one holding of the lock, if a frame of them doesn't have more.
@@ -33,6 +34,10 @@ pub struct Turns {
     queries: u64,
     /// Whether retired nodes are to be freed for another reason.
     pub is_due: bool,
+    /// Whether no frame is to wait any longer.
+    pub is_stopping: bool,
+    // Whether frames that may change rows or views were answered since those that wait were last woken.
+    has_changed: bool,
 }
 
 impl Turns {
@@ -45,7 +50,33 @@ impl Turns {
             alloc,
             queries: 0,
             is_due: false,
+            is_stopping: false,
+            has_changed: false,
         }
+    }
+
+    /// Returns whether frames that may change rows or views were answered since the last call.
+    pub fn take_change(&mut self) -> bool {
+        mem::replace(&mut self.has_changed, false)
+    }
+
+    // Before a query of the server is answered: reads what the server is, without the lock. Returns whether the frame is
+    // to wait.
+    fn prepare<R: Wait + Clock, S: Shared>(
+        &mut self,
+        gauge: &Gauge<'_, R>,
+        shared: &mut S,
+        connection: &mut Connection,
+    ) -> bool {
+        let query = connection.server_query();
+        if query.is_none() {
+            return false;
+        }
+        shared.hold(Hold::Nothing);
+        let facts = gauge.facts(self.alloc, query);
+        let waits = !self.is_stopping && connection.waits(&facts, gauge.now());
+        self.server.keeper.facts = facts;
+        waits
     }
 
     /// Returns what a client may do that has said no hello.
@@ -87,10 +118,10 @@ impl Turns {
             if connection.front != front {
                 continue;
             }
-            if connection.asks_server {
-                shared.hold(Hold::Nothing);
-                self.server.keeper.facts = gauge.facts(self.alloc, self.pass.seen());
+            if self.prepare(gauge, shared, connection) {
+                continue;
             }
+            self.has_changed = self.has_changed || front == Front::Others;
             self.server.inner.count = 0;
             connection.answer(&mut self.server, shared, &mut self.pass);
             let count = self.server.inner.count;

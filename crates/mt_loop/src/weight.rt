@@ -1,6 +1,7 @@
 //! What a frame asks for: only gets and ranges or more, and how much.
 
-ghost use Rattle.std.specs.Prelude.{◌≡◌, ◌≤◌, not, is_some};
+ghost use Rattle.std.specs.Option.{option_copied};
+ghost use Rattle.std.specs.Prelude.{◌≡◌, ◌≤◌, not};
 ghost use Rattle.std.specs.List.{list_any};
 ghost use Rattle.mt_talk.specs.Serving.{alone};
 ghost use Rattle.mt_loop.specs.Weights.{is_other};
@@ -8,6 +9,7 @@ ghost use Rattle.mt_loop.specs.Weights.{is_other};
 use mt_types::event::Request;
 use mt_wire::frame::Frame;
 use mt_wire::query::Query;
+use mt_wire::server::ServerQuery;
 
 /// The rows and queries after which a connection takes no further frame in a round.
 pub const TURN: usize = 1024;
@@ -43,11 +45,14 @@ fn asks_more(query: &Query) -> bool
     )
 }
 
-/// Returns whether a frame has a query of the server, and nothing else.
-pub fn asks_server(frame: &Frame<Query>) -> bool
-    ensures { result ≡ is_some (alone frame.now.messages) }
+/// Returns the query of the server that is alone in a frame.
+pub fn server_query(frame: &Frame<Query>) -> Option<&ServerQuery>
+    ensures { option_copied result ≡ alone frame.now.messages }
 {
-    matches!(frame.messages.as_slice(), [Query::Server(_)])
+    match frame.messages.as_slice() {
+        [Query::Server(query)] => Some(query),
+        _ => None,
+    }
 }
 
 /// Returns whether a frame has nothing but gets and ranges.

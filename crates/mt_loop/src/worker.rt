@@ -4,6 +4,7 @@ use crate::connection::Connection;
 use crate::desk::{Desk, WAKER};
 use crate::gauge::Gauge;
 use crate::limits::Limits;
+use crate::parking::Parking;
 use crate::stop::Stop;
 use crate::turns::Turns;
 use mio::net::TcpStream;
@@ -40,14 +41,15 @@ const LAST_SECONDS: u64 = 10;
 pub struct Worker {
     poll: Poll,
     events: Events,
-    connections: Slab<Connection>,
+    pub(crate) connections: Slab<Connection>,
     piece: Vec<u8>,
     // Connections of this round, and those of the next one that aren't waited for.
     keys: Vec<usize>,
-    again: Vec<usize>,
+    pub(crate) again: Vec<usize>,
     turns: Turns,
+    pub(crate) parking: Parking,
     limits: Limits,
-    alloc: Global,
+    pub(crate) alloc: Global,
     // Seconds since the start, and at the last look for connections that are late.
     now: u64,
     looked: u64,
@@ -70,6 +72,7 @@ impl Worker {
             keys: Vec::new(alloc),
             again: Vec::new(alloc),
             turns: Turns::new(alloc, pass, tokens),
+            parking: Parking::new(alloc),
             limits,
             alloc,
             now: 0,
@@ -122,6 +125,7 @@ impl Worker {
     // Ends a connection, and says why if its session was broken off.
     fn end<R: Eprint>(&mut self, gauge: &Gauge<'_, R>, key: usize, desk: &Desk) {
         self.turns.is_due = true;
+        self.unpark(key, desk);
         if let Some(connection) = self.connections.try_remove(key) {
             if let Some(fault) = connection.fault() {
                 gauge.tally.break_off();
@@ -131,15 +135,24 @@ impl Worker {
         }
     }
 
-    // Waits until a connection is ready or the desk has new ones, for at most a second if there are any.
-    fn wait<R: Clock>(&mut self, gauge: &Gauge<'_, R>, longest: u64) -> io::Result<()> {
-        let timeout = if !self.again.is_empty() {
-            Some(Duration::ZERO)
-        } else if self.connections.is_empty() {
-            None
-        } else {
-            Some(Duration::from_millis(longest))
+    // For how long to wait: at most a second if there are connections, and no longer than the first of those that wait.
+    fn timeout<R: Wait + Clock>(&self, gauge: &Gauge<'_, R>, longest: u64) -> Option<Duration> {
+        if !self.again.is_empty() {
+            return Some(Duration::ZERO);
+        }
+        if self.connections.is_empty() {
+            return None;
+        }
+        let longest = match self.parking.first_end() {
+            Some(until) => longest.min(until.saturating_sub(gauge.now())),
+            None => longest,
         };
+        Some(Duration::from_millis(longest))
+    }
+
+    // Waits until a connection is ready, the time of one has come, or the worker is woken.
+    fn wait<R: Wait + Clock>(&mut self, gauge: &Gauge<'_, R>, longest: u64) -> io::Result<()> {
+        let timeout = self.timeout(gauge, longest);
         match self.poll.poll(&mut self.events, timeout) {
             Ok(()) => {}
             Err(error) if error.kind() == ErrorKind::Interrupted => {}
@@ -187,12 +200,17 @@ impl Worker {
                 continue;
             };
             connection.end(self.now);
+            let (read, written) = connection.take_moved();
+            gauge.tally.move_bytes(read, written);
             if connection.is_over() {
                 self.end(gauge, *key, desk);
-            } else if connection.is_ready() {
+                continue;
+            }
+            if connection.is_ready() {
                 connection.is_listed = true;
                 let _ = self.again.push(*key);
             }
+            self.park(*key, desk);
         }
     }
 
@@ -245,6 +263,7 @@ impl Worker {
     ) -> io::Result<()> {
         self.wait(gauge, longest)?;
         self.look(gauge, desk);
+        self.release_all(gauge, desk);
         if self.gather() {
             self.welcome_all(gauge.rt, desk);
         }
@@ -252,6 +271,9 @@ impl Worker {
         self.begin_all(&keys);
         self.turns
             .answer_all(gauge, shared, &mut self.connections, &keys);
+        if self.turns.take_change() {
+            gauge.wake_waiting();
+        }
         self.obey(gauge, stop);
         self.end_all(gauge, &keys, desk);
         self.keys = keys;
@@ -277,11 +299,13 @@ impl Worker {
         shared: &mut S,
         stop: &Stop,
     ) -> io::Result<()> {
+        self.turns.is_stopping = true;
         let keys = self.all_keys();
         for key in &keys {
             if let Some(connection) = self.connections.get_mut(*key) {
                 connection.is_listed = true;
                 connection.wake(true, false);
+                connection.end_wait();
             }
         }
         self.again = keys;

@@ -1,6 +1,7 @@
 //! How the views of a map are read, advanced and dropped, and how its memory is freed: each by one event.
 
-ghost use Rattle.std.specs.Prelude.{◌≡◌, ◌≤◌, IfOk, IfErr, IfSome, None, []};
+ghost use Rattle.std.specs.Prelude.{ℕ, ◌≡◌, ◌≤◌, IfOk, IfErr, IfSome, None, []};
+ghost use Rattle.std.specs.Map.Iter.{ShowsInOrder, deref_pair};
 ghost use Rattle.std.specs.Option.{option_copied};
 ghost use Rattle.mt_types.specs.Limits.{page_fault};
 ghost use Rattle.mt_types.specs.declared.event.Event.TheVariants.{Apply, Collect, ViewDrop};
@@ -9,7 +10,8 @@ ghost use Rattle.mt_promise.specs.History.{History, moment};
 ghost use Rattle.mt_index.specs.Alone.{IsIdle};
 ghost use Rattle.mt_index.specs.Events.{Makes};
 ghost use Rattle.mt_index.specs.Stands.{ReadsView, Stands};
-ghost use Rattle.mt_index.specs.Viewing.{CopiesView, page_outcome};
+ghost use Rattle.mt_index.specs.Viewing.{CopiesView, ListsViews, page_outcome};
+ghost use Rattle.mt_view.specs.State.{StateView};
 ghost use Rattle.mt_view.specs.Views.{state_at};
 ghost use Rattle.mt_map.specs.Views.{IsOutside, IsStopped, KeepsUp, ShowsView, applied_outcome, outcome_of};
 ghost use Rattle.mt_map.specs.Tidies.{MapMakes};
@@ -25,6 +27,7 @@ use mt_types::view::Page;
 use mt_view::laws::states_show_pages;
 use mt_view::state::ViewState;
 use std::alloc::Global;
+use std::collections::btree_map::Iter;
 
 // Makes an event that is no part of a call.
 fn meet(alloc: Global, machine: &mut Machine, event: &Event) -> Outcome
@@ -104,6 +107,20 @@ impl Map {
             → CopiesView self.now.machine.columns (moment h) view.0 state) }
     {
         self.machine.view(view)
+    }
+
+    /// Iterates over the views, each with its number, in the order of the numbers. Copies nothing.
+    ///
+    ///     for (number, state) in map.views() {
+    ///         println!(rt; "view {number}: {} rows at commit {}", state.count(), state.at())?;
+    ///     }
+    pub fn views(&self) -> Iter<'_, u64, ViewState>
+        ensures listed { result ≡ self.now.machine.views.views }
+        ensures exact { (h : History) → Stands self.now.machine h
+            → ListsViews self.now.machine.columns (moment h) result }
+        ensures runs { ShowsInOrder (deref_pair {K = ℕ} {X = StateView}) }
+    {
+        self.machine.views()
     }
 
     /// Reads a page of a view: its count, its sums, and its first rows whose keys are at or after `start`, at most

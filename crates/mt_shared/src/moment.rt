@@ -1,13 +1,22 @@
 //! A moment of an index: what one thread sees of it while it holds the lock for reading.
 
-ghost use Rattle.std.specs.Prelude.{◌≡◌, ◌↔◌, IsSome, IfSome};
-ghost use Rattle.mt_promise.specs.History.{History};
+ghost use Rattle.std.specs.Prelude.{ℕ, ◌≡◌, ◌↔◌, IsSome, IfSome};
+ghost use Rattle.std.specs.Option.{option_copied};
+ghost use Rattle.std.specs.Map.Iter.{ShowsInOrder, deref_pair};
+ghost use Rattle.mt_promise.specs.History.{History, moment};
+ghost use Rattle.mt_commit.specs.Log.{newest};
+ghost use Rattle.mt_view.specs.State.{StateView};
+ghost use Rattle.mt_view.specs.Views.{state_at};
+ghost use Rattle.mt_index.specs.Viewing.{CopiesView, ListsViews};
 ghost use Rattle.mt_index.specs.Alone.{IsQuiet};
 ghost use Rattle.mt_index.specs.Stands.{Stands};
 ghost use Rattle.mt_shared.specs.Moments.{machine_of};
 
 use crate::inner::Inner;
 use mt_index::machine::Machine;
+use mt_types::numbers::ViewNo;
+use mt_view::state::ViewState;
+use std::collections::btree_map::Iter;
 use std::sync::RwLockReadGuard;
 
 /// An index at one moment: all that is read of it is of the same number of commits. While it lives, its thread holds the
@@ -30,6 +39,33 @@ impl<'a> Moment<'a> {
     {
         self.kept.quiet_machine()
     }
+
+    /// Returns how many commits there are.
+    pub fn commits(&self) -> u64
+        ensures number { result ≡ newest (machine_of self.now).log }
+    {
+        self.kept.commits()
+    }
+
+    /// Iterates over the views, each with its number, in the order of the numbers. Copies nothing.
+    pub fn views(&self) -> Iter<'_, u64, ViewState>
+        ensures listed { result ≡ (machine_of self.now).views.views }
+        ensures exact { (h : History) → Stands (machine_of self.now) h
+            → ListsViews (machine_of self.now).columns (moment h) result }
+        ensures runs { ShowsInOrder (deref_pair {K = ℕ} {X = StateView}) }
+    {
+        self.kept.views()
+    }
+
+    /// Returns the state of a view, of which nothing is copied. Returns `None` if no view has this number. O(log n) in the
+    /// views.
+    pub fn view(&self, view: ViewNo) -> Option<&ViewState>
+        ensures view { option_copied result ≡ state_at view.0 (machine_of self.now).views.views }
+        ensures exact { IfSome (option_copied result) (λ state. (h : History) → Stands (machine_of self.now) h
+            → CopiesView (machine_of self.now).columns (moment h) view.0 state) }
+    {
+        self.kept.view(view)
+    }
 }
 
 impl Inner {
@@ -45,5 +81,27 @@ impl Inner {
         } else {
             None
         }
+    }
+
+    fn commits(&self) -> u64
+        ensures number { result ≡ newest self.now.machine.log }
+    {
+        self.machine.commits()
+    }
+
+    fn views(&self) -> Iter<'_, u64, ViewState>
+        ensures listed { result ≡ self.now.machine.views.views }
+        ensures exact { (h : History) → Stands self.now.machine h → ListsViews self.now.machine.columns (moment h) result }
+        ensures runs { ShowsInOrder (deref_pair {K = ℕ} {X = StateView}) }
+    {
+        self.machine.views()
+    }
+
+    fn view(&self, view: ViewNo) -> Option<&ViewState>
+        ensures view { option_copied result ≡ state_at view.0 self.now.machine.views.views }
+        ensures exact { IfSome (option_copied result) (λ state. (h : History) → Stands self.now.machine h
+            → CopiesView self.now.machine.columns (moment h) view.0 state) }
+    {
+        self.machine.view(view)
     }
 }

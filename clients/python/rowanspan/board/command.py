@@ -27,9 +27,9 @@ Shows the standing views of a server in a browser, as they change: count, sums, 
 127.0.0.1, and writes its address on standard output. The page can build views and drop them.
 """
 NOTES = """\
-The board shows all views of the server, if the server lists them (its `info` counts its views). `mtserve` doesn't yet: then
-the board shows those that it built, by --build or by the form on the page, and those that --view or the form names,
-whose specification it doesn't know. At its end it drops the views that it built, and no others.
+The board shows all views of the server, if the server lists them (its `info` counts its views). Else it shows those that
+it built, by --build or by the form on the page, and those that --view or the form names, whose specification it doesn't
+know. At its end it drops the views that it built, and no others.
 
 SPEC is that of a line of rowan: `range LO HI TEST` or `prefix KEY TEST`, in hex, or with --text as text (rowan --help).
 The board has two connections to the server, however many browsers look.

@@ -1,0 +1,86 @@
+//! The connections of a worker that wait: for a number of commits, of the index or of a view, or until a time.
+
+use std::alloc::{AllocError, Global};
+use std::collections::{BTreeMap, BTreeSet};
+
+/// What a connection waits for, and until when.
+#[derive(Clone, Copy, Debug, PartialEq, Eq)]
+pub struct Awaited {
+    /// The number of the view whose commits are waited for, or 0 for those of the index.
+    pub view: u64,
+    /// The number of commits.
+    pub number: u64,
+    /// The millisecond of the server at which the wait ends.
+    pub until: u64,
+}
+
+/// The keys of the connections that wait, in the order of what they wait for, and in the order of their times.
+#[derive(Drop)]
+pub struct Parking {
+    numbers: BTreeMap<(u64, u64, usize), u64>,
+    times: BTreeSet<(u64, usize)>,
+}
+
+impl Parking {
+    /// Returns that no connection waits.
+    pub fn new(alloc: Global) -> Parking {
+        Parking {
+            numbers: BTreeMap::new(alloc),
+            times: BTreeSet::new(alloc),
+        }
+    }
+
+    /// Returns whether no connection waits.
+    pub fn is_empty(&self) -> bool {
+        self.numbers.is_empty()
+    }
+
+    /// Adds a connection. O(log n) in those that wait. On an error nothing changes.
+    pub fn put(&mut self, key: usize, what: Awaited) -> Result<(), AllocError> {
+        let place = (what.view, what.number, key);
+        self.numbers.insert(place, what.until)?;
+        if let Err(refused) = self.times.insert((what.until, key)) {
+            self.numbers.remove(&place);
+            return Err(refused);
+        }
+        Ok(())
+    }
+
+    /// Takes a connection out. O(log n) in those that wait.
+    pub fn leave(&mut self, key: usize, what: Awaited) {
+        self.numbers.remove(&(what.view, what.number, key));
+        self.times.remove(&(what.until, key));
+    }
+
+    /// Returns the first time at which a wait ends.
+    pub fn first_end(&self) -> Option<u64> {
+        match self.times.first() {
+            Some((until, _)) => Some(*until),
+            None => None,
+        }
+    }
+
+    /// Returns a connection whose time has come.
+    pub fn late(&self, now: u64) -> Option<usize> {
+        match self.times.first() {
+            Some((until, key)) if *until <= now => Some(*key),
+            _ => None,
+        }
+    }
+
+    /// Returns the first number, from `view` on, of a view that is waited for. The index has the number 0.
+    pub fn next_view(&self, view: u64) -> Option<u64> {
+        match self.numbers.range((view, 0, 0)..).next() {
+            Some(((next, _, _), _)) => Some(*next),
+            None => None,
+        }
+    }
+
+    /// Returns a connection that waits for at most `at` commits of this view.
+    pub fn reached(&self, view: u64, at: u64) -> Option<usize> {
+        match self.numbers.range((view, 0, 0)..=(view, at, usize::MAX)).next() {
+            Some(((_, _, key), _)) => Some(*key),
+            None => None,
+        }
+    }
+}
