@@ -78,9 +78,9 @@ impl Parking {
 
     /// Returns a connection that waits for at most `at` commits of this view.
     pub fn reached(&self, view: u64, at: u64) -> Option<usize> {
-        match self.numbers.range((view, 0, 0)..=(view, at, usize::MAX)).next() {
-            Some(((_, _, key), _)) => Some(*key),
-            None => None,
+        match self.numbers.range((view, 0, 0)..).next() {
+            Some(((next, number, key), _)) if *next == view && *number <= at => Some(*key),
+            _ => None,
         }
     }
 }
