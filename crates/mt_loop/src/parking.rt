@@ -41,7 +41,7 @@ impl Parking {
         self.numbers.insert(place, what.until)?;
         if let Err(refused) = self.times.insert((what.until, key)) {
             self.numbers.remove(&place);
-            return Err(refused);
+            return Err(refused.into());
         }
         Ok(())
     }
