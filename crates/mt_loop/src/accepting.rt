@@ -1,9 +1,10 @@
 //! The thread that accepts: it hands each connection to the worker that has the fewest.
 
+use crate::address::{Address, Listener};
 use crate::desk::Desk;
 use crate::gauge::{Tally, open};
 use crate::stop::Stop;
-use mio::net::{TcpListener, TcpStream};
+use crate::stream::Stream;
 use mio::unix::SourceFd;
 use mio::{Events, Interest, Poll, Token};
 use mt_serve::fault::SessionFault;
@@ -13,8 +14,8 @@ use std::sync::Wait;
 use std::time::{Clock, Duration};
 use std::{io, thread};
 
-// The tokens of the listener and of standard input.
-const LISTENER: Token = Token(0);
+// The tokens of the listeners and of standard input.
+const LISTENERS: Token = Token(0);
 
 const INPUT: Token = Token(1);
 
@@ -26,31 +27,32 @@ const PAUSE: u64 = 10;
 pub struct Acceptor {
     poll: Poll,
     events: Events,
-    listener: TcpListener,
+    listeners: Vec<Listener>,
     // The most connections that are open at once.
     most: u64,
     // How many more sessions there are to be, if they are counted.
     left: Option<u64>,
-    // Whether the last accept failed, so that the next one is to be tried without an event.
+    // Whether an accept of the last round failed, so that the next one is made without an event.
     has_failed: bool,
 }
 
 impl Acceptor {
-    /// Returns what accepts connections of `listener`: at most `most` at once, and `sessions` in all if that is a number.
+    /// Returns what accepts connections of these listeners: at most `most` at once, and `sessions` in all if that is a number.
     pub fn new(
         alloc: Global,
         poll: Poll,
-        listener: TcpListener,
+        listeners: Vec<Listener>,
         most: u64,
         sessions: Option<u64>,
     ) -> io::Result<Acceptor> {
-        let mut listener = listener;
-        poll.registry()
-            .register(&mut listener, LISTENER, Interest::READABLE)?;
+        let mut listeners = listeners;
+        for listener in &mut listeners {
+            listener.register(poll.registry(), LISTENERS)?;
+        }
         Ok(Acceptor {
             poll,
             events: Events::with_capacity(alloc, 16)?,
-            listener,
+            listeners,
             most,
             left: sessions,
             has_failed: false,
@@ -62,6 +64,14 @@ impl Acceptor {
         self.poll
             .registry()
             .register(&mut SourceFd(&0), INPUT, Interest::READABLE)
+    }
+
+    /// Prints where each listener listens, in the order of these addresses.
+    pub fn say<R: Eprint>(&self, rt: &R, addresses: &[Address<'_>]) -> io::Result<()> {
+        for (listener, address) in self.listeners.iter().zip(addresses) {
+            listener.say(rt, *address)?;
+        }
+        Ok(())
     }
 
     // Whether standard input has ended.
@@ -85,7 +95,7 @@ impl Acceptor {
     fn hand_over<R: Wait + Eprint>(
         &mut self,
         rt: &R,
-        stream: TcpStream,
+        stream: Stream,
         desks: &[Desk],
         tally: &Tally,
     ) {
@@ -95,8 +105,6 @@ impl Acceptor {
         }
         tally.accept();
         self.count();
-        // (a reply goes out in one write, and is not to wait for more)
-        let _ = stream.set_nodelay(true);
         if let Some(desk) = least(desks) {
             if desk.put(rt, stream).is_err() {
                 let fault = SessionFault::NoMemory;
@@ -110,34 +118,46 @@ impl Acceptor {
         if !self.has_failed {
             let _ = eprintln!(rt; "accept failed: {error}");
         }
-        self.has_failed = true;
         thread::sleep(rt, Duration::from_millis(PAUSE));
     }
 
-    // Accepts what waits.
-    fn accept_all<R: Wait + Clock + Eprint>(&mut self, rt: &R, desks: &[Desk], tally: &Tally) {
+    // Accepts what waits at a listener. Returns whether an accept failed, so that it is to be tried again without an event.
+    fn accept_from<R: Wait + Clock + Eprint>(
+        &mut self,
+        rt: &R,
+        number: usize,
+        desks: &[Desk],
+        tally: &Tally,
+    ) -> bool {
         for _ in rt.forever() {
+            let Some(listener) = self.listeners.get(number) else {
+                break;
+            };
             if self.left == Some(0) {
                 break;
             }
-            match self.listener.accept() {
-                Ok((stream, _)) => {
-                    self.has_failed = false;
-                    self.hand_over(rt, stream, desks, tally);
-                }
-                Err(error) if error.kind() == ErrorKind::WouldBlock => {
-                    self.has_failed = false;
-                    break;
-                }
+            match listener.accept() {
+                Ok(stream) => self.hand_over(rt, stream, desks, tally),
+                Err(error) if error.kind() == ErrorKind::WouldBlock => break,
                 Err(error) if error.kind() == ErrorKind::Interrupted => {}
                 // (it was reset before it was accepted: its session has ended)
                 Err(error) if error.kind() == ErrorKind::ConnectionAborted => self.count(),
                 Err(error) => {
                     self.pause(rt, &error);
-                    break;
+                    return true;
                 }
             }
         }
+        false
+    }
+
+    // Accepts what waits.
+    fn accept_all<R: Wait + Clock + Eprint>(&mut self, rt: &R, desks: &[Desk], tally: &Tally) {
+        let mut has_failed = false;
+        for number in 0..self.listeners.len() {
+            has_failed = self.accept_from(rt, number, desks, tally) || has_failed;
+        }
+        self.has_failed = has_failed;
     }
 
     /// Accepts connections until as many sessions as are to be have begun, or standard input ends, or all are to stop.

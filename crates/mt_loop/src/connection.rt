@@ -2,9 +2,9 @@
 
 use crate::fault::ConnectionFault;
 use crate::limits::{Limits, is_over};
-use crate::parking::Awaited;
+use crate::parking::Parked;
+use crate::stream::Stream;
 use crate::weight::{TURN, only_reads, server_query, weight_of};
-use mio::net::TcpStream;
 use mt_serve::answerer::Answerer;
 use mt_serve::fault::SessionFault;
 use mt_shared::driving::Shared;
@@ -12,7 +12,7 @@ use mt_shared::pass::Pass;
 use mt_talk::serving::Server;
 use mt_talk::talk::Talk;
 use mt_talk::facts::Facts;
-use mt_wire::server::{Awaited as Asked, Role, ServerQuery};
+use mt_wire::server::{Awaited, Role, ServerQuery};
 use std::alloc::Global;
 use std::io::{ErrorKind, Read, Write};
 use std::mem;
@@ -34,16 +34,16 @@ pub enum Front {
 /// A connection.
 #[derive(Drop)]
 pub struct Connection {
-    pub stream: TcpStream,
+    pub stream: Stream,
     talk: Talk,
     /// What the frame at the front asks for, as `find` has found.
     pub front: Front,
     /// Whether it is in the list of a round.
     pub is_listed: bool,
     /// Under what it is among the connections of the worker that wait, if it is.
-    pub parked: Option<Awaited>,
+    pub parked: Option<Parked>,
     // What the frame at the front waits for, since it was looked at.
-    awaited: Option<Awaited>,
+    awaited: Option<Parked>,
     // Whether that has come, or can't come any more.
     is_woken: bool,
     // How many bytes were read and written since they were counted.
@@ -70,7 +70,7 @@ pub struct Connection {
 
 impl Connection {
     /// Returns a connection that was accepted at this time, whose client may do what `role` says.
-    pub fn new(alloc: Global, stream: TcpStream, now: u64, role: Option<Role>) -> Connection {
+    pub fn new(alloc: Global, stream: Stream, now: u64, role: Option<Role>) -> Connection {
         Connection {
             stream,
             talk: Talk::new(alloc),
@@ -113,7 +113,7 @@ impl Connection {
     }
 
     /// Returns what the frame at the front waits for, if it waits.
-    pub fn awaited(&self) -> Option<Awaited> {
+    pub fn awaited(&self) -> Option<Parked> {
         if self.is_waiting() { self.awaited } else { None }
     }
 
@@ -136,8 +136,8 @@ impl Connection {
             return false;
         };
         let (view, at) = match of {
-            Asked::Commits => (0, Some(facts.commits)),
-            Asked::View(view) => (view.0, facts.watched),
+            Awaited::Commits => (0, Some(facts.commits)),
+            Awaited::View(view) => (view.0, facts.watched),
         };
         let number = *number;
         let is_reached = match at {
@@ -151,7 +151,7 @@ impl Connection {
         if is_reached || until <= now || self.is_hung_up || self.role.is_none() {
             return false;
         }
-        self.awaited = Some(Awaited {
+        self.awaited = Some(Parked {
             view,
             number,
             until,

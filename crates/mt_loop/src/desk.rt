@@ -1,6 +1,6 @@
 //! Where the thread that accepts leaves connections for a worker.
 
-use mio::net::TcpStream;
+use crate::stream::Stream;
 use mio::{Poll, Token, Waker};
 use std::alloc::Global;
 use std::io::ErrorKind;
@@ -14,7 +14,7 @@ pub const WAKER: Token = Token(usize::MAX);
 /// New connections for a worker, and how many it has.
 #[derive(Drop)]
 pub struct Desk {
-    inbox: Mutex<Vec<TcpStream>>,
+    inbox: Mutex<Vec<Stream>>,
     waker: Waker,
     load: AtomicUsize,
     waiting: AtomicUsize,
@@ -41,7 +41,7 @@ impl Desk {
     /// # Errors
     ///
     /// If out of memory: then the connection is closed.
-    pub fn put<R: Wait>(&self, rt: &R, stream: TcpStream) -> io::Result<()> {
+    pub fn put<R: Wait>(&self, rt: &R, stream: Stream) -> io::Result<()> {
         self.load.fetch_add(1, Ordering::Relaxed);
         if self.inbox.lock(rt).push(stream).is_err() {
             self.leave();
@@ -56,7 +56,7 @@ impl Desk {
     }
 
     /// Takes all that was left.
-    pub fn take<R: Wait>(&self, rt: &R, alloc: Global) -> Vec<TcpStream> {
+    pub fn take<R: Wait>(&self, rt: &R, alloc: Global) -> Vec<Stream> {
         let mut inbox = self.inbox.lock(rt);
         mem::replace(&mut *inbox, Vec::new(alloc))
     }

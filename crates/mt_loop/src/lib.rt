@@ -2,6 +2,7 @@
 #![tactic(auto)]
 
 pub mod accepting;
+pub mod address;
 pub mod connection;
 pub mod desk;
 mod fault;
@@ -10,6 +11,7 @@ pub mod limits;
 mod parking;
 pub mod serving;
 pub mod stop;
+mod stream;
 mod turns;
 mod waiting;
 mod weight;

@@ -5,7 +5,7 @@ use std::collections::{BTreeMap, BTreeSet};
 
 /// What a connection waits for, and until when.
 #[derive(Clone, Copy, Debug, PartialEq, Eq)]
-pub struct Awaited {
+pub struct Parked {
     /// The number of the view whose commits are waited for, or 0 for those of the index.
     pub view: u64,
     /// The number of commits.
@@ -36,7 +36,7 @@ impl Parking {
     }
 
     /// Adds a connection. O(log n) in those that wait. On an error nothing changes.
-    pub fn put(&mut self, key: usize, what: Awaited) -> Result<(), AllocError> {
+    pub fn put(&mut self, key: usize, what: Parked) -> Result<(), AllocError> {
         let place = (what.view, what.number, key);
         self.numbers.insert(place, what.until)?;
         if let Err(refused) = self.times.insert((what.until, key)) {
@@ -47,7 +47,7 @@ impl Parking {
     }
 
     /// Takes a connection out. O(log n) in those that wait.
-    pub fn leave(&mut self, key: usize, what: Awaited) {
+    pub fn leave(&mut self, key: usize, what: Parked) {
         self.numbers.remove(&(what.view, what.number, key));
         self.times.remove(&(what.until, key));
     }

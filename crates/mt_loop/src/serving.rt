@@ -1,20 +1,21 @@
 //! The threads of a server: one that accepts, and the workers.
 
 use crate::accepting::Acceptor;
+use crate::address::{Address, Listener, remove_sockets};
 use crate::desk::Desk;
 use crate::gauge::{Gauge, Tally};
 use crate::limits::Limits;
 use crate::stop::Stop;
 use crate::worker::{Worker, work};
 use mio::Poll;
-use mio::net::TcpListener;
 use mt_shared::holding::HoldingDoor;
 use mt_shared::map::SharedMap;
 use mt_shared::pass::Pass;
 use mt_talk::tokens::Token;
 use std::alloc::Global;
-use std::net::{Net, SocketAddr};
+use std::net::Net;
 use std::random::RandomSource;
+use std::rt::Files;
 use std::sync::Wait;
 use std::thread::Threads;
 use std::time::{Clock, Instant};
@@ -57,10 +58,10 @@ fn serve_desk<R: Wait + Clock + Eprint>(
 fn accept<R: Wait + Clock + Eprint>(
     gauge: &Gauge<'_, R>,
     acceptor: &mut Acceptor,
-    port: u16,
+    addresses: &[Address<'_>],
     stop: &Stop,
 ) -> io::Result<()> {
-    eprintln!(gauge.rt; "listening {port}")?;
+    acceptor.say(gauge.rt, addresses)?;
     acceptor.run(gauge.rt, gauge.desks, stop, gauge.tally)
 }
 
@@ -88,7 +89,7 @@ fn run<R: Threads + Wait + Clock + Sync + Eprint>(
     alloc: Global,
     gauge: &Gauge<'_, R>,
     acceptor: &mut Acceptor,
-    port: u16,
+    addresses: &[Address<'_>],
     workers: Vec<Worker>,
     stop: &Stop,
 ) -> io::Result<Vec<Pass>> {
@@ -107,7 +108,7 @@ fn run<R: Threads + Wait + Clock + Sync + Eprint>(
             }
         }
         if begun.is_ok() {
-            begun = accept(gauge, acceptor, port, stop);
+            begun = accept(gauge, acceptor, addresses, stop);
         }
         if begun.is_err() {
             stop.stop(gauge.desks);
@@ -130,8 +131,22 @@ fn run_name<R: RandomSource>(rt: &R) -> io::Result<u128> {
     Ok(u128::from_be_bytes(bytes))
 }
 
-/// Serves an index at an address to clients with these secrets (to all if there are none), by a worker for each pass, and prints `listening PORT` when it has begun. Returns the
-/// passes when all sessions have ended.
+// Listens at these addresses.
+fn listen_all<R: Net + Files>(
+    rt: &R,
+    alloc: Global,
+    addresses: &[Address<'_>],
+) -> io::Result<Vec<Listener>> {
+    let mut listeners = Vec::new(alloc);
+    for address in addresses {
+        listeners.push(Listener::bind(rt, *address)?)?;
+    }
+    Ok(listeners)
+}
+
+/// Serves an index at these addresses to clients with these secrets (to all if there are none), by a worker for each pass.
+/// When it has begun it prints a line for each address: `listening PORT` or `listening unix:PATH`. Returns the passes when
+/// all sessions have ended.
 ///
 /// # Errors
 ///
@@ -141,19 +156,18 @@ pub fn serve<R>(
     alloc: Global,
     index: &SharedMap,
     passes: Vec<Pass>,
-    address: SocketAddr,
+    addresses: &[Address<'_>],
     plan: Plan,
     tokens: &[Token],
 ) -> io::Result<Vec<Pass>>
 where
-    R: Net + Threads + Wait + Clock + RandomSource + Sync + Eprint,
+    R: Net + Files + Threads + Wait + Clock + RandomSource + Sync + Eprint,
 {
-    let listener = TcpListener::bind(rt, address)?;
-    let port = listener.local_addr()?.port();
+    let listeners = listen_all(rt, alloc, addresses)?;
     let poll = Poll::new(rt)?;
     let stop = Stop::new(&poll)?;
     let most = plan.limits.connections;
-    let mut acceptor = Acceptor::new(alloc, poll, listener, most, plan.sessions)?;
+    let mut acceptor = Acceptor::new(alloc, poll, listeners, most, plan.sessions)?;
     if plan.watches_input {
         acceptor.watch_input()?;
     }
@@ -166,5 +180,7 @@ where
         tally: &tally,
         start: Instant::now(rt)?,
     };
-    run(alloc, &gauge, &mut acceptor, port, workers, &stop)
+    let ended = run(alloc, &gauge, &mut acceptor, addresses, workers, &stop);
+    remove_sockets(rt, addresses);
+    ended
 }

@@ -6,9 +6,9 @@ use crate::gauge::Gauge;
 use crate::limits::Limits;
 use crate::parking::Parking;
 use crate::stop::Stop;
+use crate::stream::Stream;
 use crate::turns::Turns;
-use mio::net::TcpStream;
-use mio::{Events, Interest, Poll, Token};
+use mio::{Events, Poll, Token};
 use mt_serve::fault::SessionFault;
 use mt_shared::driving::Shared;
 use mt_shared::pass::Pass;
@@ -89,7 +89,7 @@ impl Worker {
     }
 
     // Takes a new connection, and waits for it.
-    fn welcome(&mut self, stream: TcpStream) -> io::Result<()> {
+    fn welcome(&mut self, stream: Stream) -> io::Result<()> {
         if self.make_room().is_err() {
             return Err(ErrorKind::OutOfMemory.into());
         }
@@ -100,11 +100,7 @@ impl Worker {
         let Some(connection) = self.connections.get_mut(key) else {
             return Ok(());
         };
-        let both = Interest::READABLE | Interest::WRITABLE;
-        let registered = self
-            .poll
-            .registry()
-            .register(&mut connection.stream, Token(key), both);
+        let registered = connection.stream.register(self.poll.registry(), Token(key));
         if registered.is_err() {
             let _ended = self.connections.try_remove(key);
         }

@@ -14,7 +14,7 @@ const ABOUT: &str = "Serves an empty index over TCP";
 
 const MORE: &str = "\
 Each connection is a session: frames of queries come in, and each is answered by a frame (docs/WIRE.md). Each worker is
-a thread that serves many connections. Standard error says where it listens, as `listening PORT`, and why a session was
+a thread that serves many connections. Standard error says where it listens, as `listening PORT` or `listening unix:PATH`, and why a session was
 broken off, as `session fault N: REASON`. When all sessions have ended, standard output says `events E commits C`.
 
 The status is 0; 2 for a bad command line; 3 if listening, a thread, a wait or the first line failed, if memory was
@@ -37,7 +37,7 @@ pub struct Settings<'a> {
     pub forever: bool,
     /// The most connections that are open at once.
     pub connections: u64,
-    /// The address to listen at, if it isn't a port of 127.0.0.1.
+    /// The addresses to listen at, if they aren't a port of 127.0.0.1.
     pub listen: Option<&'a str>,
     /// The file of secrets, if there are to be some.
     pub token_file: Option<&'a str>,
@@ -81,14 +81,14 @@ fn text_option<'a>(alloc: Global, name: &'a str, value: &'a str, help: &'a str) 
 fn access_options<'a>(command: Command<'a>, alloc: Global) -> Result<Command<'a>, AllocError>
     ensures { IfOk result (λ r. app_of r ≡ with_access_rules (app_of command.entry)) }
 {
-    let listen = "Where to listen, as 127.0.0.1:7070 [default: --port of 127.0.0.1]";
+    let listen = "Where to listen: addresses as 127.0.0.1:7070, and unix:PATH, with commas between [default: --port of 127.0.0.1]";
     let tokens =
         "A file of secrets, in lines of a role (read, write or all) and a secret [default: all may do all]";
     let hello =
         "The most seconds until a client has said hello, if there are secrets, up to 86400; 0 is no limit [default: 10]";
     let open = "Lets all do all, also where --listen is no address of this machine alone";
     command
-        .arg(text_option(alloc, "listen", "ADDRESS", listen))?
+        .arg(text_option(alloc, "listen", "ADDRESSES", listen))?
         .arg(text_option(alloc, "token-file", "FILE", tokens))?
         .arg(number_option(alloc, "hello-timeout", 0, 86400, hello))?
         .arg(flag(alloc, "open", open))

@@ -4,6 +4,7 @@ ghost use Rattle.std.specs.Prelude.{◌≡◌, ◌||◌};
 
 use crate::command_line::{Settings, WITHOUT_END};
 use crate::tokens::{TokenError, read_tokens};
+use mt_loop::address::Address;
 use mt_loop::limits::Limits;
 use mt_loop::serving::{Plan, serve};
 use mt_shared::map::SharedMap;
@@ -32,7 +33,7 @@ pub enum ServeError {
     #[error("{0}")]
     Tokens(#[from] TokenError),
     /// `--listen` says no address.
-    #[error("--listen takes an address and a port, as 127.0.0.1:7070")]
+    #[error("--listen takes addresses with ports, as 127.0.0.1:7070, and unix:PATH, with commas between")]
     Address,
     /// All could do all.
     #[error("an address that others reach wants --token-file, or --open")]
@@ -79,22 +80,36 @@ fn plan_of(settings: Settings<'_>) -> Plan {
     }
 }
 
-// Where to listen.
-fn address_of(settings: Settings<'_>) -> Result<SocketAddr, ServeError> {
-    match settings.listen {
-        Some(text) => text.parse().map_err(|_| ServeError::Address),
-        None => {
-            let port = settings.port.min(65535) as u16;
-            Ok(SocketAddr::from((Ipv4Addr::LOCALHOST, port)))
-        }
+// The addresses of a text, with commas between. `None` if one of them is none.
+fn read_addresses(alloc: Global, texts: &str) -> io::Result<Option<Vec<Address<'_>>>> {
+    let mut addresses = Vec::new(alloc);
+    for text in texts.split(',') {
+        let Some(address) = Address::parse(text) else {
+            return Ok(None);
+        };
+        addresses.push(address)?;
     }
+    Ok(Some(addresses))
+}
+
+// Where to listen.
+fn addresses_of<'a>(
+    alloc: Global,
+    settings: Settings<'a>,
+) -> Result<Vec<Address<'a>>, ServeError> {
+    if let Some(texts) = settings.listen {
+        return read_addresses(alloc, texts)?.ok_or(ServeError::Address);
+    }
+    let port = settings.port.min(65535) as u16;
+    let address = Address::Tcp(SocketAddr::from((Ipv4Addr::LOCALHOST, port)));
+    Ok(vec![in alloc; address].map_err(io::Error::from)?)
 }
 
 // Whether a server may listen: at an address that others reach only if it has secrets, or all are to do all.
-fn may_listen(is_loopback: bool, has_secrets: bool, is_open: bool) -> bool
-    ensures { result ≡ (is_loopback || has_secrets || is_open) }
+fn may_listen(is_local: bool, has_secrets: bool, is_open: bool) -> bool
+    ensures { result ≡ (is_local || has_secrets || is_open) }
 {
-    is_loopback || is_open || has_secrets
+    is_local || is_open || has_secrets
 }
 
 /// Opens an empty index, and serves it as the settings ask. Returns how many events and commits were made.
@@ -112,12 +127,9 @@ where
         Some(path) => read_tokens(rt, alloc, path)?,
         None => Vec::new(alloc),
     };
-    let address = address_of(settings)?;
-    if !may_listen(
-        address.ip().is_loopback(),
-        !tokens.is_empty(),
-        settings.is_open,
-    ) {
+    let addresses = addresses_of(alloc, settings)?;
+    let is_local = addresses.iter().all(|address| address.is_local());
+    if !may_listen(is_local, !tokens.is_empty(), settings.is_open) {
         return Err(ServeError::Open);
     }
     let (index, passes) = SharedMap::start(alloc, settings.options, worker_count(rt, settings))?;
@@ -126,7 +138,7 @@ where
         alloc,
         &index,
         passes,
-        address,
+        &addresses,
         plan_of(settings),
         &tokens,
     )?;

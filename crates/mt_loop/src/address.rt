@@ -1,0 +1,125 @@
+//! The addresses that a server listens at, and what listens there.
+
+use crate::stream::Stream;
+use mio::net::{TcpListener, UnixListener, UnixStream};
+use mio::{Interest, Registry, Token};
+use std::io::ErrorKind;
+use std::net::{Net, SocketAddr};
+use std::rt::Files;
+use std::{fs, io};
+
+/// An address to listen at.
+#[derive(Clone, Copy, Debug)]
+pub enum Address<'a> {
+    /// An address and a port. The port 0 is any free one.
+    Tcp(SocketAddr),
+    /// The path of a Unix socket.
+    Unix(&'a str),
+}
+
+impl<'a> Address<'a> {
+    /// Returns the address of a text: `unix:` and a path, or an address and a port as `127.0.0.1:7070`. Returns `None` if
+    /// it is none.
+    pub fn parse(text: &'a str) -> Option<Address<'a>> {
+        if let Some(path) = text.strip_prefix("unix:") {
+            if path.is_empty() {
+                return None;
+            }
+            return Some(Address::Unix(path));
+        }
+        match text.parse() {
+            Ok(address) => Some(Address::Tcp(address)),
+            Err(_) => None,
+        }
+    }
+
+    /// Returns whether only this machine reaches the address.
+    pub fn is_local(&self) -> bool {
+        match self {
+            Address::Tcp(address) => address.ip().is_loopback(),
+            Address::Unix(_) => true,
+        }
+    }
+}
+
+/// What listens for connections.
+#[derive(Drop)]
+pub enum Listener {
+    Tcp(TcpListener),
+    Unix(UnixListener),
+}
+
+// Listens at a Unix socket. A socket that is there is replaced, if nobody listens at it.
+fn bind_unix<R: Net + Files>(rt: &R, path: &str) -> io::Result<UnixListener> {
+    match UnixListener::bind(rt, path) {
+        Err(error) if error.kind() == ErrorKind::AddrInUse => {
+            match UnixStream::connect(rt, path) {
+                Err(refused) if refused.kind() == ErrorKind::ConnectionRefused => {
+                    fs::remove_file(rt, path)?;
+                    UnixListener::bind(rt, path)
+                }
+                _ => Err(error),
+            }
+        }
+        bound => bound,
+    }
+}
+
+impl Listener {
+    /// Listens at an address. A Unix socket at which nobody listens any more is replaced.
+    ///
+    /// # Errors
+    ///
+    /// If the system refuses it, as when another process listens there.
+    pub fn bind<R: Net + Files>(rt: &R, address: Address<'_>) -> io::Result<Listener> {
+        match address {
+            Address::Tcp(address) => Ok(Listener::Tcp(TcpListener::bind(rt, address)?)),
+            Address::Unix(path) => Ok(Listener::Unix(bind_unix(rt, path)?)),
+        }
+    }
+
+    /// Waits for connections by a poll, whose events have this token.
+    pub fn register(&mut self, registry: &Registry, token: Token) -> io::Result<()> {
+        match self {
+            Listener::Tcp(listener) => registry.register(listener, token, Interest::READABLE),
+            Listener::Unix(listener) => registry.register(listener, token, Interest::READABLE),
+        }
+    }
+
+    /// Returns the next connection, or `WouldBlock` if none waits.
+    pub fn accept(&self) -> io::Result<Stream> {
+        match self {
+            Listener::Tcp(listener) => {
+                let (stream, _) = listener.accept()?;
+                // (a reply goes out in one write, and is not to wait for more)
+                let _ = stream.set_nodelay(true);
+                Ok(Stream::Tcp(stream))
+            }
+            Listener::Unix(listener) => {
+                let (stream, _) = listener.accept()?;
+                Ok(Stream::Unix(stream))
+            }
+        }
+    }
+
+    /// Prints where it listens: `listening PORT`, or `listening unix:PATH` with the path of its address.
+    pub fn say<R: Eprint>(&self, rt: &R, address: Address<'_>) -> io::Result<()> {
+        match (self, address) {
+            (Listener::Tcp(listener), _) => {
+                let port = listener.local_addr()?.port();
+                eprintln!(rt; "listening {port}")
+            }
+            (Listener::Unix(_), Address::Unix(path)) => eprintln!(rt; "listening unix:{path}"),
+            (Listener::Unix(_), Address::Tcp(_)) => Ok(()),
+        }
+    }
+}
+
+/// Removes the sockets of these addresses, at which the server doesn't listen any longer.
+pub fn remove_sockets<R: Files>(rt: &R, addresses: &[Address<'_>]) {
+    for address in addresses {
+        if let Address::Unix(path) = address {
+            let _ = fs::remove_file(rt, *path);
+        }
+    }
+}
