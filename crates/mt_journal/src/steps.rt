@@ -4,6 +4,7 @@ ghost use Rattle.std.specs.Prelude.{◌≡◌, ◌+◌, ◌++◌, ◌∷◌, ◌
 ghost use Rattle.mt_frame.specs.declared.entry.Entry.{Entry};
 ghost use Rattle.mt_frame.specs.declared.entry.LogHeader.{LogHeader};
 ghost use Rattle.mt_frame.specs.Spelling.{frame_of};
+ghost use Rattle.sqlite_disk.specs.Disk.{CountsFault};
 ghost use Rattle.mt_journal.specs.Log.{MaySay, last_number};
 ghost use Rattle.mt_journal.specs.Keeping.{Keeps, AllSurvive};
 
@@ -37,6 +38,7 @@ pub fn write_frame<D: Disk>(
     ensures durable { at.new.durable ≡ at.old.durable }
     ensures newest { OnOk result (at.new.newest ≡ at.old.newest + count) }
     ensures usable { IsTrue (D.Disk.is_usable disk.new) }
+    ensures faults { CountsFault result (D.Disk.faults disk.old) (D.Disk.faults disk.new) }
 {
     disk.write_at(at.end, frame)?;
     at.end += frame.len();
@@ -56,6 +58,7 @@ pub fn sync_log<D: Disk>(disk: &mut D, at: &mut Position) -> io::Result<()>
     ensures durable { OnOk result (at.new.durable ≡ at.old.newest) }
     ensures newest { at.new.newest ≡ at.old.newest }
     ensures usable { OnOk result (IsTrue (D.Disk.is_usable disk.new)) }
+    ensures faults { CountsFault result (D.Disk.faults disk.old) (D.Disk.faults disk.new) }
 {
     disk.sync()?;
     at.durable = at.newest;
