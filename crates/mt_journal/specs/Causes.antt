@@ -1,6 +1,6 @@
 -- Which error of a journal comes when. A disk counts its calls that failed: `old` and `new` are that count, before a call
 -- of the journal and after it.
-use Rattle.std.specs.Prelude.{◌≡◌, ◌⊎◌, ℕ, ◌+◌, ◌^◌, ◌≤◌, max, Bool, not, ◌&&◌, IsTrue, IsFalse, List, length, Result, Ok, Err}
+use Rattle.std.specs.Prelude.{◌≡◌, ◌⊎◌, ℕ, ◌+◌, ◌^◌, ◌<◌, ◌≤◌, max, Bool, not, ◌&&◌, IsTrue, IsFalse, MatchBool, List, length, Result, Ok, Err}
 use Rattle.sqlite_disk.specs.Disk.{MoreFaults}
 use Rattle.sqlite_disk.specs.Refusal.{is_no_room}
 use Rattle.mt_frame.specs.declared.entry.Entry.{Entry}
@@ -66,11 +66,26 @@ abbrev pub OpenHasCause : {T : Type 0} → Result T JournalError → Bool → (J
 OpenHasCause (Ok x) usable wrong old new = IsTrue usable × (new ≡ old)
 OpenHasCause (Err error) usable wrong old new = OpenFails error usable wrong old new
 
+-- the disk counts a refused call exactly if the error says that the disk had no room
+abbrev pub TellsFull : {T : Type 0} → Result T JournalError → ℕ → ℕ → Type 0
+TellsFull (Err DiskFull) old new = MoreFaults old new
+TellsFull (Err (Disk error)) old new = MatchBool (is_no_room error) (MoreFaults old new) (new ≡ old)
+TellsFull _ old new = new ≡ old
+
 -- whether the journal may ask its disk changes only if the disk failed. If it still may, zeros were not written, and the
 -- disk was not full
 abbrev pub GoesOn : {T : Type 0} → Result T JournalError → Bool → Bool → Type 0
 GoesOn (Err (Disk error)) old new = IsTrue new → IsFalse (is_no_room error)
 GoesOn _ old new = new ≡ old
+
+-- the journal is given up in a call only if a sync failed, which stops the disk, or the write of a frame: `tried` is that
+-- it was tried
+abbrev pub GivesUp : Bool → Bool → Bool → Type 0 → Type 0
+GivesUp old new is_usable tried = IsFalse old → IsTrue new → IsTrue is_usable → tried
+
+-- the frame of the entry at this position, and one zero, have room at the position now
+abbrev pub HasRoom : Position → Position → Entry → Type 0
+HasRoom at now entry = now.end + length (frame_of at.generation at.end entry) < now.room
 
 -- the fact holds if the call returned an error, and not one of the disk
 abbrev pub OnRefusal : {T : Type 0} → Result T JournalError → Type 0 → Type 0

@@ -1,12 +1,12 @@
 //! Zeros written ahead of the end of a log.
 
-ghost use Rattle.std.specs.Prelude.{◌≡◌, ◌⊎◌, ◌+◌, ◌<◌, ◌^◌, ℕ, List, length, replicate, OnOk, IsTrue};
+ghost use Rattle.std.specs.Prelude.{◌≡◌, ◌⊎◌, ◌+◌, ◌<◌, ◌^◌, ℕ, List, length, replicate, OnOk, IsTrue, IsFalse};
 ghost use Rattle.mt_frame.specs.declared.entry.Entry.{Entry};
 ghost use Rattle.mt_frame.specs.declared.entry.LogHeader.{LogHeader};
 ghost use Rattle.mt_journal.specs.Keeping.{Keeps, AllSurvive, HasZeros};
 ghost use Rattle.sqlite_disk.specs.Disk.{CountsFault};
 ghost use Rattle.sqlite_disk.specs.Tally.{CountsRefusal};
-ghost use Rattle.mt_journal.specs.Growing.{IsGrown, CountsFull};
+ghost use Rattle.mt_journal.specs.Growing.{IsGrown, CountsFull, IfUnsynced};
 
 use crate::position::Position;
 use sqlite_disk::Disk;
@@ -56,6 +56,7 @@ pub fn grow<D: Disk>(disk: &mut D, at: &mut Position, zeros: &[u8]) -> Result<()
     ensures usable { IsGrown result (IsTrue (D.Disk.is_usable disk.new)) }
     ensures faults { CountsFault result (D.Disk.faults disk.old) (D.Disk.faults disk.new) }
     ensures full { CountsFull result (D.Disk.tally_of disk.old).refused (D.Disk.tally_of disk.new).refused }
+    ensures unsynced { IfUnsynced result (IsFalse (D.Disk.is_usable disk.new)) }
 {
     if let Err(error) = write_zeros(disk, at, zeros) {
         return Err(GrowError::Write(error));

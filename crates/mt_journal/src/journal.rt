@@ -1,7 +1,6 @@
 //! A log that is in use: groups of commits are appended and made durable.
 
 ghost use Rattle.std.specs.Prelude.{◌≡◌, ◌⊎◌, ◌+◌, ◌++◌, ◌∷◌, [], ◌<◌, ◌≤◌, ◌^◌, ℕ, List, length, replicate, Err, OnOk, OnErr, IfOk, IsTrue, IsFalse, true};
-ghost use Rattle.sqlite_disk.specs.Disk.{MoreFaults};
 ghost use Rattle.mt_frame.specs.declared.entry.Entry.{Entry};
 ghost use Rattle.mt_frame.specs.declared.entry.LogHeader.{LogHeader};
 ghost use Rattle.mt_frame.specs.declared.entry.Entry.TheVariants.{Closed};
@@ -10,7 +9,7 @@ ghost use Rattle.mt_frame.specs.Fits.{CountFits};
 ghost use Rattle.mt_journal.specs.Log.{AreNumbered, last_number};
 ghost use Rattle.mt_journal.specs.Keeping.{Keeps, AllSurvive};
 ghost use Rattle.mt_journal.specs.Appending.{with_commits, with_end};
-ghost use Rattle.mt_journal.specs.Causes.{may_ask, next_commits, LacksPlace, IsTooLong, AppendHasCause, SyncHasCause, GoesOn};
+ghost use Rattle.mt_journal.specs.Causes.{may_ask, next_commits, LacksPlace, IsTooLong, AppendHasCause, SyncHasCause, TellsFull, GivesUp, HasRoom, GoesOn};
 
 use crate::error::JournalError;
 use crate::growing::{GrowError, grow};
@@ -96,12 +95,12 @@ impl<D: Disk + Drop> Journal<D> {
         ensures room { OnOk result (self.new.at.room ≡ self.old.at.room + length zeros.now) }
         ensures cause { AppendHasCause result true ⊥
             (D.Disk.faults self.old.disk) (D.Disk.faults self.new.disk) }
-        ensures full { result ≡ Err JournalError.DiskFull
-            → MoreFaults (D.Disk.tally_of self.old.disk).refused (D.Disk.tally_of self.new.disk).refused }
+        ensures full { TellsFull result (D.Disk.tally_of self.old.disk).refused (D.Disk.tally_of self.new.disk).refused }
         ensures stays { (header : LogHeader) (entries : List Entry)
             → Keeps self.old.at (D.Disk.seen self.old.disk) (D.Disk.may_leave self.old.disk) header entries
             → IsTrue (may_ask self.new.is_given_up (D.Disk.is_usable self.new.disk))
             → Keeps self.new.at (D.Disk.seen self.new.disk) (D.Disk.may_leave self.new.disk) header entries }
+        ensures gives_up { GivesUp self.old.is_given_up self.new.is_given_up (D.Disk.is_usable self.new.disk) ⊥ }
         ensures goes_on { GoesOn result (may_ask self.old.is_given_up (D.Disk.is_usable self.old.disk))
             (may_ask self.new.is_given_up (D.Disk.is_usable self.new.disk)) }
     {
@@ -144,12 +143,12 @@ impl<D: Disk + Drop> Journal<D> {
         ensures durable { (self.new.at.durable ≡ self.old.at.durable) ⊎ (self.new.at.durable ≡ self.old.at.newest) }
         ensures cause { AppendHasCause result true (LacksPlace self.old.at count)
             (D.Disk.faults self.old.disk) (D.Disk.faults self.new.disk) }
-        ensures full { result ≡ Err JournalError.DiskFull
-            → MoreFaults (D.Disk.tally_of self.old.disk).refused (D.Disk.tally_of self.new.disk).refused }
+        ensures full { TellsFull result (D.Disk.tally_of self.old.disk).refused (D.Disk.tally_of self.new.disk).refused }
         ensures stays { (header : LogHeader) (entries : List Entry)
             → Keeps self.old.at (D.Disk.seen self.old.disk) (D.Disk.may_leave self.old.disk) header entries
             → IsTrue (may_ask self.new.is_given_up (D.Disk.is_usable self.new.disk))
             → Keeps self.new.at (D.Disk.seen self.new.disk) (D.Disk.may_leave self.new.disk) header entries }
+        ensures gives_up { GivesUp self.old.is_given_up self.new.is_given_up (D.Disk.is_usable self.new.disk) ⊥ }
         ensures goes_on { GoesOn result (may_ask self.old.is_given_up (D.Disk.is_usable self.old.disk))
             (may_ask self.new.is_given_up (D.Disk.is_usable self.new.disk)) }
     {
@@ -186,12 +185,13 @@ impl<D: Disk + Drop> Journal<D> {
         ensures many { (CountFits entry.now → ⊥) → result ≡ Err JournalError.TooLong }
         ensures cause { AppendHasCause result true ((2 ^ 64 ≤ self.old.at.newest + count) ⊎ IsTooLong self.old.at entry.now)
             (D.Disk.faults self.old.disk) (D.Disk.faults self.new.disk) }
-        ensures full { result ≡ Err JournalError.DiskFull
-            → MoreFaults (D.Disk.tally_of self.old.disk).refused (D.Disk.tally_of self.new.disk).refused }
+        ensures full { TellsFull result (D.Disk.tally_of self.old.disk).refused (D.Disk.tally_of self.new.disk).refused }
         ensures stays { (header : LogHeader) (entries : List Entry)
             → Keeps self.old.at (D.Disk.seen self.old.disk) (D.Disk.may_leave self.old.disk) header entries
             → IsTrue (may_ask self.new.is_given_up (D.Disk.is_usable self.new.disk))
             → OnErr result (Keeps self.new.at (D.Disk.seen self.new.disk) (D.Disk.may_leave self.new.disk) header entries) }
+        ensures gives_up { GivesUp self.old.is_given_up self.new.is_given_up (D.Disk.is_usable self.new.disk)
+            (HasRoom self.old.at self.new.at entry.now) }
         ensures goes_on { GoesOn result (may_ask self.old.is_given_up (D.Disk.is_usable self.old.disk))
             (may_ask self.new.is_given_up (D.Disk.is_usable self.new.disk)) }
     {
@@ -232,12 +232,13 @@ impl<D: Disk + Drop> Journal<D> {
             (D.Disk.faults self.old.disk) (D.Disk.faults self.new.disk) }
         ensures spent { IsTrue (may_ask self.old.is_given_up (D.Disk.is_usable self.old.disk))
             → (2 ^ 64 ≤ self.old.at.newest + length records + 1) ⊎ (MAX_RECORDS < length records) → result ≡ Err JournalError.TooLong }
-        ensures full { result ≡ Err JournalError.DiskFull
-            → MoreFaults (D.Disk.tally_of self.old.disk).refused (D.Disk.tally_of self.new.disk).refused }
+        ensures full { TellsFull result (D.Disk.tally_of self.old.disk).refused (D.Disk.tally_of self.new.disk).refused }
         ensures stays { (header : LogHeader) (entries : List Entry)
             → Keeps self.old.at (D.Disk.seen self.old.disk) (D.Disk.may_leave self.old.disk) header entries
             → IsTrue (may_ask self.new.is_given_up (D.Disk.is_usable self.new.disk))
             → OnErr result (Keeps self.new.at (D.Disk.seen self.new.disk) (D.Disk.may_leave self.new.disk) header entries) }
+        ensures gives_up { GivesUp self.old.is_given_up self.new.is_given_up (D.Disk.is_usable self.new.disk)
+            (HasRoom self.old.at self.new.at (next_commits self.old.at records)) }
         ensures goes_on { GoesOn result (may_ask self.old.is_given_up (D.Disk.is_usable self.old.disk))
             (may_ask self.new.is_given_up (D.Disk.is_usable self.new.disk)) }
         ensures asks_nothing { result ≡ Err JournalError.GivenUp → self.new ≡ self.old }
@@ -275,6 +276,7 @@ impl<D: Disk + Drop> Journal<D> {
         ensures newest { OnOk result (self.new.at.newest ≡ self.old.at.newest) }
         ensures cause { SyncHasCause result (may_ask self.old.is_given_up (D.Disk.is_usable self.old.disk))
             (D.Disk.faults self.old.disk) (D.Disk.faults self.new.disk) }
+        ensures full { TellsFull result (D.Disk.tally_of self.old.disk).refused (D.Disk.tally_of self.new.disk).refused }
         ensures goes_on { OnOk result (IsTrue (may_ask self.new.is_given_up (D.Disk.is_usable self.new.disk))) }
         ensures stops { OnErr result (IsFalse (may_ask self.new.is_given_up (D.Disk.is_usable self.new.disk))) }
         ensures asks_nothing { result ≡ Err JournalError.GivenUp → self.new ≡ self.old }
@@ -309,12 +311,13 @@ impl<D: Disk + Drop> Journal<D> {
             (may_ask self.old.is_given_up (D.Disk.is_usable self.old.disk))
             (IsTooLong self.old.at (Closed self.old.at.newest))
             (D.Disk.faults self.old.disk) (D.Disk.faults self.new.disk) }
-        ensures full { result ≡ Err JournalError.DiskFull
-            → MoreFaults (D.Disk.tally_of self.old.disk).refused (D.Disk.tally_of self.new.disk).refused }
+        ensures full { TellsFull result (D.Disk.tally_of self.old.disk).refused (D.Disk.tally_of self.new.disk).refused }
         ensures stays { (header : LogHeader) (entries : List Entry)
             → Keeps self.old.at (D.Disk.seen self.old.disk) (D.Disk.may_leave self.old.disk) header entries
             → IsTrue (may_ask self.new.is_given_up (D.Disk.is_usable self.new.disk))
             → OnErr result (Keeps self.new.at (D.Disk.seen self.new.disk) (D.Disk.may_leave self.new.disk) header entries) }
+        ensures gives_up { GivesUp self.old.is_given_up self.new.is_given_up (D.Disk.is_usable self.new.disk)
+            (HasRoom self.old.at self.new.at (Closed self.old.at.newest)) }
         ensures goes_on { GoesOn result (may_ask self.old.is_given_up (D.Disk.is_usable self.old.disk))
             (may_ask self.new.is_given_up (D.Disk.is_usable self.new.disk)) }
         ensures asks_nothing { result ≡ Err JournalError.GivenUp → self.new ≡ self.old }
