@@ -1,7 +1,7 @@
 //! Entries, written as frames.
 
-ghost use Rattle.std.specs.Prelude.{◌≡◌, ◌↔◌, IsTrue, IfOk, OnOk, IsErrOf};
-ghost use Rattle.mt_frame.specs.Spelling.{entry_spelling, sealed, frame_of};
+ghost use Rattle.std.specs.Prelude.{◌≡◌, ◌↔◌, ◌<◌, length, IsTrue, IfOk, OnOk, IsErrOf};
+ghost use Rattle.mt_frame.specs.Spelling.{entry_spelling, sealed, text_of, frame_of};
 ghost use Rattle.mt_frame.specs.Fits.{CountFits, EntryFits, HasFrame};
 
 use crate::digest::digest_of;
@@ -51,6 +51,9 @@ pub fn encode(
     ensures value { IfOk result (λ frame. frame.items ≡ frame_of generation place entry.now) }
     ensures fits { OnOk result (HasFrame generation place entry.now) }
     ensures long { IsErrOf result EncodeError.TooLong → HasFrame generation place entry.now → ⊥ }
+    ensures many { (CountFits entry.now → ⊥) → IsErrOf result EncodeError.TooLong }
+    ensures text { IsErrOf result EncodeError.TooLong → CountFits entry.now
+        → MAX_TEXT_BYTES < length (text_of generation place entry.now) }
 {
     if !count_fits(entry) {
         return Err(EncodeError::TooLong);

@@ -8,3 +8,7 @@ mod Kept
 -- Recovery.
 mod Reading
 mod Repairs
+-- Errors and their causes.
+mod HeaderFits
+mod Caused
+mod Refused

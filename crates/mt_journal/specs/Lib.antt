@@ -2,6 +2,8 @@
 pub mod Log
 pub mod Keeping
 pub mod Appending
+pub mod Causes
+pub mod Refusing
 pub mod Laws
 -- Contracts of private calls speak of these.
 pub mod Growing

@@ -25,3 +25,7 @@ pub record HasReadAll (header : LogHeader) (entries : List Entry) (at : Position
 -- each disk of the type mixes
 abbrev pub Mixes : {D : Type 0} → (D → Bool) → Type 0
 Mixes {D} is_mixing = (disk : D) → IsTrue (is_mixing disk)
+
+-- nothing was written: a read sees the same, and a crash leaves nothing that it could not leave before
+abbrev pub IsUnwritten : List ℕ → List ℕ → (List ℕ → Type 0) → (List ℕ → Type 0) → Type 0
+IsUnwritten old new may_leave leaves = (new ≡ old) × ((left : List ℕ) → leaves left → may_leave left)

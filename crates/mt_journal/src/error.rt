@@ -41,7 +41,7 @@ pub enum JournalError {
     DiskFull,
     /// The disk failed.
     #[error("the disk failed: {0}")]
-    Disk(#[from] io::Error),
+    Disk(io::Error),
     /// A call of the disk failed before. Nothing more is asked of the file.
     #[error("the log was given up after a failure of the disk")]
     GivenUp,
@@ -73,7 +73,21 @@ impl<T: Drop> From<AllocFailed<T>> for JournalError {
     }
 }
 
+impl From<io::Error> for JournalError {
+    ghost use Rattle.mt_journal.specs.declared.error.JournalError.TheVariants.{Disk};
+
+    ghost from_gives = { λ error made. made ≡ Disk error };
+
+    fn from(error: io::Error) -> JournalError {
+        JournalError::Disk(error)
+    }
+}
+
 impl From<EncodeError> for JournalError {
+    ghost use Rattle.mt_journal.specs.Causes.{of_encoding};
+
+    ghost from_gives = { λ error made. made ≡ of_encoding error };
+
     fn from(error: EncodeError) -> JournalError {
         match error {
             EncodeError::TooLong => JournalError::TooLong,

@@ -1,10 +1,12 @@
 //! Zeros written ahead of the end of a log.
 
-ghost use Rattle.std.specs.Prelude.{◌≡◌, ◌⊎◌, ◌+◌, ◌<◌, ◌^◌, ℕ, List, length, replicate, OnOk, IsTrue};
+ghost use Rattle.std.specs.Prelude.{◌≡◌, ◌⊎◌, ◌+◌, ◌<◌, ◌^◌, ℕ, List, length, replicate, OnOk, IsTrue, IsFalse};
 ghost use Rattle.mt_frame.specs.declared.entry.Entry.{Entry};
 ghost use Rattle.mt_frame.specs.declared.entry.LogHeader.{LogHeader};
 ghost use Rattle.mt_journal.specs.Keeping.{Keeps, AllSurvive, HasZeros};
-ghost use Rattle.mt_journal.specs.Growing.{IsGrown};
+ghost use Rattle.sqlite_disk.specs.Disk.{CountsFault};
+ghost use Rattle.sqlite_disk.specs.Tally.{CountsRefusal};
+ghost use Rattle.mt_journal.specs.Growing.{IsGrown, CountsFull, IfUnsynced};
 
 use crate::position::Position;
 use sqlite_disk::Disk;
@@ -30,6 +32,8 @@ fn write_zeros<D: Disk>(disk: &mut D, at: &Position, zeros: &[u8]) -> io::Result
         → Keeps at.now (D.Disk.seen disk.old) (D.Disk.may_leave disk.old) header entries
         → OnOk result (HasZeros at.now (length zeros.now) (D.Disk.seen disk.new) header entries) }
     ensures usable { IsTrue (D.Disk.is_usable disk.new) }
+    ensures faults { CountsFault result (D.Disk.faults disk.old) (D.Disk.faults disk.new) }
+    ensures tally { CountsRefusal result (D.Disk.tally_of disk.old) (D.Disk.tally_of disk.new) }
 {
     disk.write_at(at.room, zeros)
 }
@@ -50,6 +54,9 @@ pub fn grow<D: Disk>(disk: &mut D, at: &mut Position, zeros: &[u8]) -> Result<()
     ensures newest { at.new.newest ≡ at.old.newest }
     ensures durable { (at.new.durable ≡ at.old.durable) ⊎ (at.new.durable ≡ at.old.newest) }
     ensures usable { IsGrown result (IsTrue (D.Disk.is_usable disk.new)) }
+    ensures faults { CountsFault result (D.Disk.faults disk.old) (D.Disk.faults disk.new) }
+    ensures full { CountsFull result (D.Disk.tally_of disk.old).refused (D.Disk.tally_of disk.new).refused }
+    ensures unsynced { IfUnsynced result (IsFalse (D.Disk.is_usable disk.new)) }
 {
     if let Err(error) = write_zeros(disk, at, zeros) {
         return Err(GrowError::Write(error));

@@ -1,11 +1,15 @@
 //! A log that is in use: groups of commits are appended and made durable.
 
-ghost use Rattle.std.specs.Prelude.{◌≡◌, ◌⊎◌, ◌+◌, ◌++◌, ◌∷◌, [], ◌<◌, ◌^◌, ℕ, List, length, replicate, OnOk, IfOk, IsTrue};
+ghost use Rattle.std.specs.Prelude.{◌≡◌, ◌⊎◌, ◌+◌, ◌++◌, ◌∷◌, [], ◌<◌, ◌≤◌, ◌^◌, ℕ, List, length, replicate, Err, OnOk, OnErr, IfOk, IsTrue, IsFalse, true};
 ghost use Rattle.mt_frame.specs.declared.entry.Entry.{Entry};
 ghost use Rattle.mt_frame.specs.declared.entry.LogHeader.{LogHeader};
+ghost use Rattle.mt_frame.specs.declared.entry.Entry.TheVariants.{Closed};
+ghost use Rattle.mt_frame.specs.declared.limits.TheConstants.{MAX_RECORDS};
+ghost use Rattle.mt_frame.specs.Fits.{CountFits};
 ghost use Rattle.mt_journal.specs.Log.{AreNumbered, last_number};
 ghost use Rattle.mt_journal.specs.Keeping.{Keeps, AllSurvive};
 ghost use Rattle.mt_journal.specs.Appending.{with_commits, with_end};
+ghost use Rattle.mt_journal.specs.Causes.{may_ask, next_commits, LacksPlace, IsTooLong, AppendHasCause, SyncHasCause, TellsFull, GivesUp, HasRoom, GoesOn};
 
 use crate::error::JournalError;
 use crate::growing::{GrowError, grow};
@@ -33,6 +37,7 @@ impl<D: Disk + Drop> Journal<D> {
     pub(crate) fn new(disk: D, at: Position) -> Journal<D>
         ensures disk { result.disk ≡ disk }
         ensures at { result.at ≡ at }
+        ensures asks { IsFalse result.is_given_up }
     {
         Journal {
             disk,
@@ -66,7 +71,8 @@ impl<D: Disk + Drop> Journal<D> {
 
     // Whether the disk may be asked.
     fn is_usable(&self) -> bool
-        ensures { IsTrue result → IsTrue (D.Disk.is_usable self.now.disk) }
+        ensures usable { IsTrue result → IsTrue (D.Disk.is_usable self.now.disk) }
+        ensures exact { result ≡ may_ask self.now.is_given_up (D.Disk.is_usable self.now.disk) }
     {
         !self.is_given_up && self.disk.may_be_used()
     }
@@ -86,6 +92,17 @@ impl<D: Disk + Drop> Journal<D> {
         ensures end { self.new.at.end ≡ self.old.at.end }
         ensures newest { self.new.at.newest ≡ self.old.at.newest }
         ensures durable { (self.new.at.durable ≡ self.old.at.durable) ⊎ (self.new.at.durable ≡ self.old.at.newest) }
+        ensures room { OnOk result (self.new.at.room ≡ self.old.at.room + length zeros.now) }
+        ensures cause { AppendHasCause result true ⊥
+            (D.Disk.faults self.old.disk) (D.Disk.faults self.new.disk) }
+        ensures full { TellsFull result (D.Disk.tally_of self.old.disk).refused (D.Disk.tally_of self.new.disk).refused }
+        ensures stays { (header : LogHeader) (entries : List Entry)
+            → Keeps self.old.at (D.Disk.seen self.old.disk) (D.Disk.may_leave self.old.disk) header entries
+            → IsTrue (may_ask self.new.is_given_up (D.Disk.is_usable self.new.disk))
+            → Keeps self.new.at (D.Disk.seen self.new.disk) (D.Disk.may_leave self.new.disk) header entries }
+        ensures gives_up { GivesUp self.old.is_given_up self.new.is_given_up (D.Disk.is_usable self.new.disk) ⊥ }
+        ensures goes_on { GoesOn result (may_ask self.old.is_given_up (D.Disk.is_usable self.old.disk))
+            (may_ask self.new.is_given_up (D.Disk.is_usable self.new.disk)) }
     {
         match grow(&mut self.disk, &mut self.at, zeros) {
             Ok(()) => Ok(()),
@@ -104,7 +121,8 @@ impl<D: Disk + Drop> Journal<D> {
 
     // Whether `count` bytes and one zero have room.
     fn has_room(&self, count: usize) -> bool
-        ensures { IsTrue result → self.now.at.end + count < self.now.at.room }
+        ensures some { IsTrue result → self.now.at.end + count < self.now.at.room }
+        ensures none { IsFalse result → self.now.at.room ≤ self.now.at.end + count }
     {
         self.at.room.saturating_sub(self.at.end) > count
     }
@@ -123,6 +141,16 @@ impl<D: Disk + Drop> Journal<D> {
         ensures end { self.new.at.end ≡ self.old.at.end }
         ensures newest { self.new.at.newest ≡ self.old.at.newest }
         ensures durable { (self.new.at.durable ≡ self.old.at.durable) ⊎ (self.new.at.durable ≡ self.old.at.newest) }
+        ensures cause { AppendHasCause result true (LacksPlace self.old.at count)
+            (D.Disk.faults self.old.disk) (D.Disk.faults self.new.disk) }
+        ensures full { TellsFull result (D.Disk.tally_of self.old.disk).refused (D.Disk.tally_of self.new.disk).refused }
+        ensures stays { (header : LogHeader) (entries : List Entry)
+            → Keeps self.old.at (D.Disk.seen self.old.disk) (D.Disk.may_leave self.old.disk) header entries
+            → IsTrue (may_ask self.new.is_given_up (D.Disk.is_usable self.new.disk))
+            → Keeps self.new.at (D.Disk.seen self.new.disk) (D.Disk.may_leave self.new.disk) header entries }
+        ensures gives_up { GivesUp self.old.is_given_up self.new.is_given_up (D.Disk.is_usable self.new.disk) ⊥ }
+        ensures goes_on { GoesOn result (may_ask self.old.is_given_up (D.Disk.is_usable self.old.disk))
+            (may_ask self.new.is_given_up (D.Disk.is_usable self.new.disk)) }
     {
         if self.has_room(count) {
             return Ok(());
@@ -154,6 +182,18 @@ impl<D: Disk + Drop> Journal<D> {
             → AllSurvive header (entries ++ entry.now ∷ []) self.old.at.durable (D.Disk.may_leave self.new.disk) }
         ensures newest { OnOk result (self.new.at.newest ≡ self.old.at.newest + count) }
         ensures usable { OnOk result (IsTrue (D.Disk.is_usable self.new.disk)) }
+        ensures many { (CountFits entry.now → ⊥) → result ≡ Err JournalError.TooLong }
+        ensures cause { AppendHasCause result true ((2 ^ 64 ≤ self.old.at.newest + count) ⊎ IsTooLong self.old.at entry.now)
+            (D.Disk.faults self.old.disk) (D.Disk.faults self.new.disk) }
+        ensures full { TellsFull result (D.Disk.tally_of self.old.disk).refused (D.Disk.tally_of self.new.disk).refused }
+        ensures stays { (header : LogHeader) (entries : List Entry)
+            → Keeps self.old.at (D.Disk.seen self.old.disk) (D.Disk.may_leave self.old.disk) header entries
+            → IsTrue (may_ask self.new.is_given_up (D.Disk.is_usable self.new.disk))
+            → OnErr result (Keeps self.new.at (D.Disk.seen self.new.disk) (D.Disk.may_leave self.new.disk) header entries) }
+        ensures gives_up { GivesUp self.old.is_given_up self.new.is_given_up (D.Disk.is_usable self.new.disk)
+            (HasRoom self.old.at self.new.at entry.now) }
+        ensures goes_on { GoesOn result (may_ask self.old.is_given_up (D.Disk.is_usable self.old.disk))
+            (may_ask self.new.is_given_up (D.Disk.is_usable self.new.disk)) }
     {
         if u64::MAX - self.at.newest < count {
             return Err(JournalError::TooLong);
@@ -186,6 +226,22 @@ impl<D: Disk + Drop> Journal<D> {
             → AllSurvive header (with_commits self.old.at records entries) self.old.at.durable (D.Disk.may_leave self.new.disk) }
         ensures number { IfOk result (λ number. number ≡ self.old.at.newest + length records) }
         ensures newest { OnOk result (self.new.at.newest ≡ self.old.at.newest + length records) }
+        ensures cause { AppendHasCause result
+            (may_ask self.old.is_given_up (D.Disk.is_usable self.old.disk))
+            ((2 ^ 64 ≤ self.old.at.newest + length records + 1) ⊎ IsTooLong self.old.at (next_commits self.old.at records))
+            (D.Disk.faults self.old.disk) (D.Disk.faults self.new.disk) }
+        ensures spent { IsTrue (may_ask self.old.is_given_up (D.Disk.is_usable self.old.disk))
+            → (2 ^ 64 ≤ self.old.at.newest + length records + 1) ⊎ (MAX_RECORDS < length records) → result ≡ Err JournalError.TooLong }
+        ensures full { TellsFull result (D.Disk.tally_of self.old.disk).refused (D.Disk.tally_of self.new.disk).refused }
+        ensures stays { (header : LogHeader) (entries : List Entry)
+            → Keeps self.old.at (D.Disk.seen self.old.disk) (D.Disk.may_leave self.old.disk) header entries
+            → IsTrue (may_ask self.new.is_given_up (D.Disk.is_usable self.new.disk))
+            → OnErr result (Keeps self.new.at (D.Disk.seen self.new.disk) (D.Disk.may_leave self.new.disk) header entries) }
+        ensures gives_up { GivesUp self.old.is_given_up self.new.is_given_up (D.Disk.is_usable self.new.disk)
+            (HasRoom self.old.at self.new.at (next_commits self.old.at records)) }
+        ensures goes_on { GoesOn result (may_ask self.old.is_given_up (D.Disk.is_usable self.old.disk))
+            (may_ask self.new.is_given_up (D.Disk.is_usable self.new.disk)) }
+        ensures asks_nothing { result ≡ Err JournalError.GivenUp → self.new ≡ self.old }
     {
         if !self.is_usable() {
             return Err(JournalError::GivenUp);
@@ -218,6 +274,12 @@ impl<D: Disk + Drop> Journal<D> {
         ensures number { IfOk result (λ number. number ≡ self.old.at.newest) }
         ensures durable { OnOk result (self.new.at.durable ≡ self.old.at.newest) }
         ensures newest { OnOk result (self.new.at.newest ≡ self.old.at.newest) }
+        ensures cause { SyncHasCause result (may_ask self.old.is_given_up (D.Disk.is_usable self.old.disk))
+            (D.Disk.faults self.old.disk) (D.Disk.faults self.new.disk) }
+        ensures full { TellsFull result (D.Disk.tally_of self.old.disk).refused (D.Disk.tally_of self.new.disk).refused }
+        ensures goes_on { OnOk result (IsTrue (may_ask self.new.is_given_up (D.Disk.is_usable self.new.disk))) }
+        ensures stops { OnErr result (IsFalse (may_ask self.new.is_given_up (D.Disk.is_usable self.new.disk))) }
+        ensures asks_nothing { result ≡ Err JournalError.GivenUp → self.new ≡ self.old }
     {
         if !self.is_usable() {
             return Err(JournalError::GivenUp);
@@ -245,6 +307,20 @@ impl<D: Disk + Drop> Journal<D> {
             → IsTrue (D.Disk.is_mixing self.new.disk)
             → AllSurvive header (with_end self.old.at entries) self.old.at.durable (D.Disk.may_leave self.new.disk) }
         ensures newest { OnOk result (self.new.at.newest ≡ self.old.at.newest) }
+        ensures cause { AppendHasCause result
+            (may_ask self.old.is_given_up (D.Disk.is_usable self.old.disk))
+            (IsTooLong self.old.at (Closed self.old.at.newest))
+            (D.Disk.faults self.old.disk) (D.Disk.faults self.new.disk) }
+        ensures full { TellsFull result (D.Disk.tally_of self.old.disk).refused (D.Disk.tally_of self.new.disk).refused }
+        ensures stays { (header : LogHeader) (entries : List Entry)
+            → Keeps self.old.at (D.Disk.seen self.old.disk) (D.Disk.may_leave self.old.disk) header entries
+            → IsTrue (may_ask self.new.is_given_up (D.Disk.is_usable self.new.disk))
+            → OnErr result (Keeps self.new.at (D.Disk.seen self.new.disk) (D.Disk.may_leave self.new.disk) header entries) }
+        ensures gives_up { GivesUp self.old.is_given_up self.new.is_given_up (D.Disk.is_usable self.new.disk)
+            (HasRoom self.old.at self.new.at (Closed self.old.at.newest)) }
+        ensures goes_on { GoesOn result (may_ask self.old.is_given_up (D.Disk.is_usable self.old.disk))
+            (may_ask self.new.is_given_up (D.Disk.is_usable self.new.disk)) }
+        ensures asks_nothing { result ≡ Err JournalError.GivenUp → self.new ≡ self.old }
     {
         if !self.is_usable() {
             return Err(JournalError::GivenUp);

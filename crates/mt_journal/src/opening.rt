@@ -1,14 +1,16 @@
 //! Logs, made and opened.
 
-ghost use Rattle.std.specs.Prelude.{◌≡◌, ◌⊎◌, ◌++◌, ◌+◌, ◌<◌, ◌≤◌, ◌^◌, ℕ, List, [], length, replicate, OnOk, IfOk, IsTrue};
+ghost use Rattle.std.specs.Prelude.{◌≡◌, ◌⊎◌, ◌++◌, ◌+◌, ◌<◌, ◌≤◌, ◌^◌, ℕ, List, [], length, replicate, true, OnOk, IfOk, IfErr, IsTrue};
 ghost use Rattle.mt_frame.specs.declared.entry.Entry.{Entry};
 ghost use Rattle.mt_frame.specs.declared.entry.LogHeader.{LogHeader};
-ghost use Rattle.sqlite_disk.specs.Disk.{Only};
-ghost use Rattle.mt_journal.specs.Log.{IsLog, header_frame};
+ghost use Rattle.sqlite_disk.specs.Disk.{Only, CountsFault};
+ghost use Rattle.mt_journal.specs.Log.{IsLog, header_frame, last_number};
 ghost use Rattle.mt_frame.specs.Fits.{HasFrame};
 ghost use Rattle.mt_frame.specs.declared.entry.Entry.TheVariants.{Header};
 ghost use Rattle.mt_journal.specs.Keeping.{Keeps, AllAreLogs};
-ghost use Rattle.mt_journal.specs.Recovery.{HasReadAll, Mixes};
+ghost use Rattle.mt_journal.specs.Recovery.{HasReadAll, Mixes, IsUnwritten};
+ghost use Rattle.mt_journal.specs.Refusing.{FileFails, IsNoRefusal};
+ghost use Rattle.mt_journal.specs.Causes.{may_ask, OpenHasCause, OnRefusal};
 
 use crate::error::JournalError;
 use crate::journal::{Journal, ZEROS_AHEAD};
@@ -35,6 +37,8 @@ fn repair<D: Disk>(disk: &mut D, at: &Position, zeros: &[u8]) -> io::Result<()>
         → Only (D.Disk.seen disk.old) (D.Disk.may_leave disk.old)
         → AllAreLogs header entries (D.Disk.may_leave disk.new) }
     ensures clean { IsTrue (D.Disk.is_clean disk.new) → IsTrue (D.Disk.is_clean disk.old) }
+    ensures usable { OnOk result (IsTrue (D.Disk.is_usable disk.new)) }
+    ensures faults { CountsFault result (D.Disk.faults disk.old) (D.Disk.faults disk.new) }
 {
     disk.write_at(at.end, zeros)?;
     disk.sync()
@@ -48,6 +52,10 @@ fn read_file<D: Disk>(alloc: Global, disk: &mut D) -> Result<Vec<u8>, JournalErr
     ensures crash { (left : List ℕ) → D.Disk.may_leave disk.new left → D.Disk.may_leave disk.old left }
     ensures clean { IsTrue (D.Disk.is_clean disk.new) → IsTrue (D.Disk.is_clean disk.old) }
     ensures usable { IsTrue (D.Disk.is_usable disk.new) }
+    ensures some { IfOk result (λ bytes. 0 < length bytes.items) }
+    ensures cause { OpenHasCause result true
+        (λ error. (error ≡ JournalError.NoLog) × (IsTrue (D.Disk.is_clean disk.new) → D.Disk.seen disk.old ≡ []))
+        (D.Disk.faults disk.old) (D.Disk.faults disk.new) }
 {
     let count = disk.len()?;
     if count == 0 {
@@ -74,6 +82,23 @@ pub fn recover<D: Disk>(alloc: Global, disk: &mut D, columns: u8) -> Result<Reco
     ensures crash { (header : LogHeader) (entries : List Entry) → IsLog header entries (D.Disk.seen disk.old)
         → IsTrue (D.Disk.is_clean disk.new) → Mixes D.Disk.is_mixing
         → (left : List ℕ) → D.Disk.may_leave disk.new left → D.Disk.may_leave disk.old left ⊎ IsLog header entries left }
+    ensures columns { IfOk result (λ read. read.header.columns ≡ columns) }
+    ensures usable { OnOk result (IsTrue (D.Disk.is_usable disk.new)) }
+
+    // A file that is refused is left as it was, and so is one that is no log.
+    ensures cause { OpenHasCause result (D.Disk.is_usable disk.old)
+        (λ error. IsTrue (D.Disk.is_clean disk.new) → FileFails columns (D.Disk.seen disk.old) error)
+        (D.Disk.faults disk.old) (D.Disk.faults disk.new) }
+    ensures unwritten { OnRefusal result (IsUnwritten (D.Disk.seen disk.old) (D.Disk.seen disk.new)
+        (D.Disk.may_leave disk.old) (D.Disk.may_leave disk.new)) }
+    ensures no_log { ((header : LogHeader) (entries : List Entry) → IsLog header entries (D.Disk.seen disk.old) → ⊥)
+        → IsTrue (D.Disk.is_clean disk.new)
+        → IsUnwritten (D.Disk.seen disk.old) (D.Disk.seen disk.new) (D.Disk.may_leave disk.old) (D.Disk.may_leave disk.new) }
+
+    // A log of the right columns, whose numbers fit, is read.
+    ensures refused { (header : LogHeader) (others : List Entry) → IsLog header others (D.Disk.seen disk.old)
+        → header.columns ≡ columns → last_number header.base others < 2 ^ 64 → IsTrue (D.Disk.is_clean disk.new)
+        → IfErr result IsNoRefusal }
 {
     if !disk.may_be_used() {
         return Err(JournalError::GivenUp);
@@ -109,6 +134,16 @@ pub fn open<D: Disk + Drop>(
         → IsLog opened.header opened.entries.items (D.Disk.seen disk)) }
     ensures kept { IfOk result (λ opened. IsTrue (D.Disk.is_clean opened.journal.disk)
         → Keeps opened.journal.at (D.Disk.seen opened.journal.disk) (D.Disk.may_leave opened.journal.disk) opened.header opened.entries.items) }
+    ensures columns { IfOk result (λ opened. opened.header.columns ≡ columns) }
+    ensures asks { IfOk result (λ opened. IsTrue (may_ask opened.journal.is_given_up (D.Disk.is_usable opened.journal.disk))) }
+
+    // `last` is the disk as the call leaves it.
+    ensures cause { (last : D) × OpenHasCause result (D.Disk.is_usable disk)
+        (λ error. IsTrue (D.Disk.is_clean last) → FileFails columns (D.Disk.seen disk) error)
+        (D.Disk.faults disk) (D.Disk.faults last) }
+    ensures refused { (header : LogHeader) (others : List Entry) → IsLog header others (D.Disk.seen disk)
+        → header.columns ≡ columns → last_number header.base others < 2 ^ 64
+        → (last : D) × (IsTrue (D.Disk.is_clean last) → IfErr result IsNoRefusal) }
 {
     let Recovered {
         header,
@@ -133,8 +168,10 @@ fn put_header<D: Disk>(
     requires frame { frame.now ≡ header_frame header.now }
     requires has { HasFrame 0 0 (Header header.now) }
     requires room { length frame.now < room }
-    ensures { IfOk result (λ at. (rest : List ℕ) → D.Disk.seen disk.old ≡ replicate room 0 ++ rest
+    ensures kept { IfOk result (λ at. (rest : List ℕ) → D.Disk.seen disk.old ≡ replicate room 0 ++ rest
         → Keeps at (D.Disk.seen disk.new) (D.Disk.may_leave disk.new) header.now []) }
+    ensures usable { OnOk result (IsTrue (D.Disk.is_usable disk.new)) }
+    ensures cause { OpenHasCause result true (λ error. ⊥) (D.Disk.faults disk.old) (D.Disk.faults disk.new) }
 {
     disk.write_at(0, frame)?;
     disk.sync()?;
@@ -158,7 +195,11 @@ pub fn create<D: Disk + Drop>(
     mut disk: D,
     header: LogHeader,
 ) -> Result<Journal<D>, JournalError>
-    ensures { IfOk result (λ journal. Keeps journal.at (D.Disk.seen journal.disk) (D.Disk.may_leave journal.disk) header []) }
+    ensures kept { IfOk result (λ journal. Keeps journal.at (D.Disk.seen journal.disk) (D.Disk.may_leave journal.disk) header []) }
+    ensures asks { IfOk result (λ journal. IsTrue (may_ask journal.is_given_up (D.Disk.is_usable journal.disk))) }
+
+    // `last` is the disk as the call leaves it.
+    ensures cause { (last : D) × OpenHasCause result (D.Disk.is_usable disk) (λ error. ⊥) (D.Disk.faults disk) (D.Disk.faults last) }
 {
     if !disk.may_be_used() {
         return Err(JournalError::GivenUp);

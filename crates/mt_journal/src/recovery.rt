@@ -7,6 +7,7 @@ ghost use Rattle.mt_frame.specs.declared.entry.Entry.TheVariants.{Header};
 ghost use Rattle.mt_frame.specs.Ends.{ends};
 ghost use Rattle.mt_journal.specs.Log.{AreNumbered, last_number, IsLog};
 ghost use Rattle.mt_journal.specs.Recovery.{HasRead, HasReadAll};
+ghost use Rattle.mt_journal.specs.Refusing.{of_fault, NextFails, EntriesFail, HeaderFails, LogFails};
 
 use crate::error::{Damage, JournalError};
 use crate::position::Position;
@@ -71,6 +72,7 @@ fn next_entry(alloc: Global, bytes: &[u8], at: &mut Position) -> Result<Option<E
     ensures refused { (header : LogHeader) (entries others : List Entry) → HasRead header entries at.old bytes.now
         → IsLog header others bytes.now → last_number header.base others < 2 ^ 64
         → IfErr result (λ error. error ≡ JournalError.NoMemory) }
+    ensures cause { IfErr result (NextFails at.old bytes.now) }
 {
     match decode(alloc, at.generation, at.end as u64, rest_of(bytes, at.end)) {
         Ok(None) => Ok(None),
@@ -104,6 +106,8 @@ fn all_entries(alloc: Global, bytes: &[u8], at: &mut Position) -> Result<Vec<Ent
         → IfErr result (λ error. error ≡ JournalError.NoMemory) }
     ensures within { at.new.end ≤ length bytes.now }
     ensures room { at.new.room ≡ at.old.room }
+    ensures cause { (header : LogHeader) → HasRead header [] at.old bytes.now
+        → IfErr result (EntriesFail header bytes.now) }
 {
     let mut entries = Vec::new(alloc);
     loop {
@@ -134,6 +138,8 @@ fn read_header(
     ensures read { IfOk result (λ read. HasRead read.0 [] read.1 bytes.now × (read.1.room ≡ length bytes.now)) }
     ensures refused { (header : LogHeader) (others : List Entry) → IsLog header others bytes.now → header.columns ≡ columns
         → MatchResult result (λ read. read.0 ≡ header) (λ error. error ≡ JournalError.NoMemory) }
+    ensures columns { IfOk result (λ read. read.0.columns ≡ columns) }
+    ensures cause { IfErr result (HeaderFails columns bytes.now) }
 {
     match decode(alloc, 0, 0, bytes) {
         Ok(Some((entry, count))) => {
@@ -161,7 +167,9 @@ fn read_header(
 }
 
 // Why no header is at the front.
-fn no_header(fault: FrameFault) -> JournalError {
+fn no_header(fault: FrameFault) -> JournalError
+    ensures { result ≡ of_fault fault }
+{
     match fault {
         FrameFault::UnknownFormat => JournalError::UnknownFormat,
         FrameFault::Length | FrameFault::Cut | FrameFault::Escape => JournalError::NotALog,
@@ -184,6 +192,8 @@ pub fn read_log(alloc: Global, bytes: &[u8], columns: u8) -> Result<Recovered, J
     ensures refused { (header : LogHeader) (others : List Entry) → IsLog header others bytes.now → header.columns ≡ columns
         → last_number header.base others < 2 ^ 64
         → IfErr result (λ error. error ≡ JournalError.NoMemory) }
+    ensures columns { IfOk result (λ read. read.header.columns ≡ columns) }
+    ensures cause { IfErr result (LogFails columns bytes.now) }
 {
     let (header, mut at) = read_header(alloc, bytes, columns)?;
     let entries = all_entries(alloc, bytes, &mut at)?;

@@ -1,9 +1,11 @@
 //! The steps of a log in use, each with at most one write and one sync.
 
-ghost use Rattle.std.specs.Prelude.{◌≡◌, ◌+◌, ◌++◌, ◌∷◌, ◌<◌, ◌^◌, ℕ, List, [], length, OnOk, IsTrue};
+ghost use Rattle.std.specs.Prelude.{◌≡◌, ◌+◌, ◌++◌, ◌∷◌, ◌<◌, ◌^◌, ℕ, List, [], length, OnOk, OnErr, IsTrue};
 ghost use Rattle.mt_frame.specs.declared.entry.Entry.{Entry};
 ghost use Rattle.mt_frame.specs.declared.entry.LogHeader.{LogHeader};
 ghost use Rattle.mt_frame.specs.Spelling.{frame_of};
+ghost use Rattle.sqlite_disk.specs.Disk.{CountsFault};
+ghost use Rattle.sqlite_disk.specs.Tally.{CountsRefusal};
 ghost use Rattle.mt_journal.specs.Log.{MaySay, last_number};
 ghost use Rattle.mt_journal.specs.Keeping.{Keeps, AllSurvive};
 
@@ -36,7 +38,10 @@ pub fn write_frame<D: Disk>(
         → AllSurvive header (entries ++ entry ∷ []) at.old.durable (D.Disk.may_leave disk.new) }
     ensures durable { at.new.durable ≡ at.old.durable }
     ensures newest { OnOk result (at.new.newest ≡ at.old.newest + count) }
+    ensures place { OnErr result (at.new ≡ at.old) }
     ensures usable { IsTrue (D.Disk.is_usable disk.new) }
+    ensures faults { CountsFault result (D.Disk.faults disk.old) (D.Disk.faults disk.new) }
+    ensures tally { CountsRefusal result (D.Disk.tally_of disk.old) (D.Disk.tally_of disk.new) }
 {
     disk.write_at(at.end, frame)?;
     at.end += frame.len();
@@ -56,6 +61,8 @@ pub fn sync_log<D: Disk>(disk: &mut D, at: &mut Position) -> io::Result<()>
     ensures durable { OnOk result (at.new.durable ≡ at.old.newest) }
     ensures newest { at.new.newest ≡ at.old.newest }
     ensures usable { OnOk result (IsTrue (D.Disk.is_usable disk.new)) }
+    ensures faults { CountsFault result (D.Disk.faults disk.old) (D.Disk.faults disk.new) }
+    ensures tally { CountsRefusal result (D.Disk.tally_of disk.old) (D.Disk.tally_of disk.new) }
 {
     disk.sync()?;
     at.durable = at.newest;
