@@ -1,5 +1,9 @@
 //! What a server counts, and what it reads of its index for an operator.
 
+ghost use Rattle.std.specs.Prelude.{◌≡◌, IfOk, IfSome, None, map};
+ghost use Rattle.mt_shared.specs.Moments.{machine_of};
+ghost use Rattle.mt_loop.specs.Listing.{listed, ListsSomewhere};
+
 use crate::desk::Desk;
 use crate::parking::Parking;
 use mt_shared::door::Door;
@@ -94,7 +98,9 @@ pub fn open(desks: &[Desk]) -> u64 {
 }
 
 // The views of a moment.
-fn listing_of(alloc: Global, moment: &Moment<'_>) -> Result<Listing, Refusal> {
+fn listing_of(alloc: Global, moment: &Moment<'_>) -> Result<Listing, Refusal>
+    ensures { IfOk result (λ listing. listing ≡ map listed (machine_of moment.now).views.views) }
+{
     let mut listing = Listing::new(alloc);
     for (number, state) in moment.views() {
         listing.push(ListedView {
@@ -120,9 +126,13 @@ impl<'a, R: Wait + Clock> Gauge<'a, R> {
     }
 
     // What the index is at one moment. Its nodes and its log aren't counted while a change waits for another one.
-    fn read_index(&self, alloc: Global, query: Option<&ServerQuery>, facts: &mut Facts) {
+    fn read_index(&self, alloc: Global, query: Option<&ServerQuery>, facts: &mut Facts)
+        requires { facts.old.views ≡ None }
+        ensures { IfSome facts.new.views ListsSomewhere }
+    {
         let door = Door::new(self.index, self.rt, 1);
         let moment = door.moment();
+        let machine = moment.machine();
         facts.commits = moment.commits();
         facts.standing = moment.views().count() as u64;
         match query {
@@ -133,7 +143,7 @@ impl<'a, R: Wait + Clock> Gauge<'a, R> {
             }) => facts.watched = moment.view(*view).map(|state| state.at()),
             _ => {}
         }
-        if let Some(machine) = moment.machine() {
+        if let Some(machine) = machine {
             facts.nodes = machine.nodes() as u64;
             facts.logged = match machine.feed(alloc, 0, 1) {
                 Err(Refusal::Behind(number)) => number,
@@ -177,7 +187,9 @@ impl<'a, R: Wait + Clock> Gauge<'a, R> {
     }
 
     /// Returns what the server is now, as far as this query asks for it. The worker holds no lock.
-    pub fn facts(&self, alloc: Global, query: Option<&ServerQuery>) -> Facts {
+    pub fn facts(&self, alloc: Global, query: Option<&ServerQuery>) -> Facts
+        ensures lists { IfSome result.views ListsSomewhere }
+    {
         let mut facts = Facts {
             run: self.tally.run,
             columns: self.index.columns(),
