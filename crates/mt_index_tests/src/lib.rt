@@ -8,6 +8,7 @@ mod builds;
 mod commits;
 #[cfg(test)]
 mod faulty;
+mod listings;
 #[cfg(test)]
 mod maps;
 #[cfg(test)]

@@ -255,6 +255,25 @@ fn views_of_a_map(rt: HostRuntime) -> Result<(), Fail> {
 }
 
 #[test]
+fn list_of_the_views_of_a_map(rt: HostRuntime) -> Result<(), Fail> {
+    let alloc = rt.alloc();
+    let mut map = filled(alloc)?;
+    assert_eq!(rt; map.views().count(), 0);
+    let first = build(&mut map)?;
+    let second = build(&mut map)?;
+    assert_eq!(rt; put(&mut map, b"apricots/c", b"\x07"), Ok(7));
+    assert_eq!(rt; map.apply(second), Ok(Some(7)));
+    let mut listed = Vec::new(alloc);
+    for (number, state) in map.views() {
+        listed.push((*number, state.at(), state.count()))?;
+    }
+    assert_eq!(rt; listed.as_slice(), [(1, 6, 3), (2, 7, 4)].as_slice());
+    assert_eq!(rt; map.drop_view(first), Ok(()));
+    assert_eq!(rt; map.views().count(), 1);
+    Ok(())
+}
+
+#[test]
 fn tidies_of_a_map(rt: HostRuntime) -> Result<(), Fail> {
     let mut map = filled(rt.alloc())?;
     let nodes = map.nodes();
