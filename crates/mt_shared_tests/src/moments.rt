@@ -1,7 +1,7 @@
 //! Moments: rows that are borrowed while the lock is held for reading, all of one number of commits.
 
 use bytes::Bytes;
-use mt_asked::borrowed::Set;
+use mt_asked::borrowed::{Set, Spec, Test};
 use mt_index::options::Options;
 use mt_map::walk::Rows;
 use mt_shared::client::Client;
@@ -12,6 +12,7 @@ use mt_shared::moment::Moment;
 use mt_types::event::Request;
 use mt_types::items::Items;
 use mt_types::key::Key;
+use mt_types::numbers::ViewNo;
 use mt_types::refusal::Refusal;
 use mt_types::row::Sets;
 use std::alloc::Global;
@@ -92,5 +93,28 @@ fn no_rows_while_a_put_is_open(rt: HostRuntime) -> Result<(), Fail> {
     let mut through = Door::new(&index, &rt, 64);
     let _ = through.go(alloc, &mut pass, call);
     assert_eq!(rt; rows(alloc, &door.moment(), b""), Ok(Some((1, 1))));
+    Ok(())
+}
+
+#[test]
+fn views_of_a_moment(rt: HostRuntime) -> Result<(), Fail> {
+    let alloc = rt.alloc();
+    let (index, mut passes) = SharedMap::start(alloc, Options::default(), 1)?;
+    let pass = passes.pop().ok_or("pass")?;
+    let mut client = Client::new(alloc, Door::new(&index, &rt, 64), pass);
+    let _ = client.put(b"apple", &[Set::new(0, b"red")])?;
+    let view = client
+        .build(&Spec::Prefix {
+            key: b"a",
+            test: Test::Any,
+        })?
+        .value;
+    let moment = client.shared.moment();
+    assert_eq!(rt; moment.commits(), 1);
+    for (number, state) in moment.views() {
+        assert_eq!(rt; (ViewNo(*number), state.at(), state.count()), (view, 1, 1));
+    }
+    assert_eq!(rt; moment.views().count(), 1);
+    assert!(rt; moment.view(view).is_some() && moment.view(ViewNo(9)).is_none());
     Ok(())
 }
