@@ -31,7 +31,10 @@ fn listings_keep_their_order(rt: HostRuntime) -> Result<(), Fail> {
     listing.push(listed(alloc, 3, 0)?)?;
     listing.push(listed(alloc, 8, MAX_KEY_BYTES)?)?;
     let views = listing.views(alloc)?;
-    assert_eq!(rt; (views.len(), views[0].number, views[1].number), (2, ViewNo(3), ViewNo(8)));
+    assert_eq!(rt;
+        (views.len(), views[0].number, views[1].number),
+        (2, ViewNo(3), ViewNo(8))
+    );
     assert_eq!(rt; (views[1].at, views[1].rows), (9, 2));
     assert!(rt; views[1].spec == listed(alloc, 8, MAX_KEY_BYTES)?.spec);
     Ok(())

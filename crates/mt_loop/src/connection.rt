@@ -9,9 +9,9 @@ use mt_serve::answerer::Answerer;
 use mt_serve::fault::SessionFault;
 use mt_shared::driving::Shared;
 use mt_shared::pass::Pass;
+use mt_talk::facts::Facts;
 use mt_talk::serving::Server;
 use mt_talk::talk::Talk;
-use mt_talk::facts::Facts;
 use mt_wire::server::{Awaited, Role, ServerQuery};
 use std::alloc::Global;
 use std::io::{ErrorKind, Read, Write};
@@ -114,7 +114,11 @@ impl Connection {
 
     /// Returns what the frame at the front waits for, if it waits.
     pub fn awaited(&self) -> Option<Parked> {
-        if self.is_waiting() { self.awaited } else { None }
+        if self.is_waiting() {
+            self.awaited
+        } else {
+            None
+        }
     }
 
     /// Returns the query of the server that is alone in the frame at the front.
@@ -127,11 +131,13 @@ impl Connection {
 
     /// Returns whether the frame at the front is a wait whose end hasn't come. Then it is answered later.
     pub fn waits(&mut self, facts: &Facts, now: u64) -> bool {
-        let Some(ServerQuery::Wait {
-            of,
-            number,
-            milliseconds,
-        }) = self.server_query()
+        let Some(
+            ServerQuery::Wait {
+                of,
+                number,
+                milliseconds,
+            },
+        ) = self.server_query()
         else {
             return false;
         };

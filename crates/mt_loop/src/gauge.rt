@@ -119,7 +119,10 @@ impl<'a, R: Wait + Clock> Gauge<'a, R> {
         match self.start.elapsed(self.rt) {
             Ok(elapsed) => {
                 let millis = u64::from(elapsed.subsec_millis());
-                elapsed.as_secs().saturating_mul(1000).saturating_add(millis)
+                elapsed
+                    .as_secs()
+                    .saturating_mul(1000)
+                    .saturating_add(millis)
             }
             Err(_) => 0,
         }
@@ -137,10 +140,12 @@ impl<'a, R: Wait + Clock> Gauge<'a, R> {
         facts.standing = moment.views().count() as u64;
         match query {
             Some(ServerQuery::Views) => facts.views = listing_of(alloc, &moment).ok(),
-            Some(ServerQuery::Wait {
-                of: Awaited::View(view),
-                ..
-            }) => facts.watched = moment.view(*view).map(|state| state.at()),
+            Some(
+                ServerQuery::Wait {
+                    of: Awaited::View(view),
+                    ..
+                },
+            ) => facts.watched = moment.view(*view).map(|state| state.at()),
             _ => {}
         }
         if let Some(machine) = machine {

@@ -13,8 +13,8 @@ use mt_types::event::Event;
 use mt_wire::server::Role;
 use slab::Slab;
 use std::alloc::Global;
-use std::sync::Wait;
 use std::mem;
+use std::sync::Wait;
 use std::time::Clock;
 
 // How many queries are answered in one holding of the lock, if a frame of them doesn't have more.

@@ -81,7 +81,8 @@ fn text_option<'a>(alloc: Global, name: &'a str, value: &'a str, help: &'a str) 
 fn access_options<'a>(command: Command<'a>, alloc: Global) -> Result<Command<'a>, AllocError>
     ensures { IfOk result (λ r. app_of r ≡ with_access_rules (app_of command.entry)) }
 {
-    let listen = "Where to listen: addresses as 127.0.0.1:7070, and unix:PATH, with commas between [default: --port of 127.0.0.1]";
+    let listen =
+        "Where to listen: addresses as 127.0.0.1:7070, and unix:PATH, with commas between [default: --port of 127.0.0.1]";
     let tokens =
         "A file of secrets, in lines of a role (read, write or all) and a secret [default: all may do all]";
     let hello =

@@ -93,10 +93,7 @@ fn read_addresses(alloc: Global, texts: &str) -> io::Result<Option<Vec<Address<'
 }
 
 // Where to listen.
-fn addresses_of<'a>(
-    alloc: Global,
-    settings: Settings<'a>,
-) -> Result<Vec<Address<'a>>, ServeError> {
+fn addresses_of<'a>(alloc: Global, settings: Settings<'a>) -> Result<Vec<Address<'a>>, ServeError> {
     if let Some(texts) = settings.listen {
         return read_addresses(alloc, texts)?.ok_or(ServeError::Address);
     }
