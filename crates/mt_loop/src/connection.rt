@@ -129,30 +129,36 @@ impl Connection {
         }
     }
 
+    // What the frame at the front waits for, up to which number, and for how many milliseconds, if it is a wait.
+    fn wait_asked(&self) -> Option<(Awaited, u64, u64)> {
+        match self.server_query() {
+            Some(
+                ServerQuery::Wait {
+                    of,
+                    number,
+                    milliseconds,
+                },
+            ) => Some((*of, *number, u64::from(*milliseconds))),
+            _ => None,
+        }
+    }
+
     /// Returns whether the frame at the front is a wait whose end hasn't come. Then it is answered later.
     pub fn waits(&mut self, facts: &Facts, now: u64) -> bool {
-        let Some(
-            ServerQuery::Wait {
-                of,
-                number,
-                milliseconds,
-            },
-        ) = self.server_query()
-        else {
+        let Some((of, number, lasts)) = self.wait_asked() else {
             return false;
         };
         let (view, at) = match of {
             Awaited::Commits => (0, Some(facts.commits)),
             Awaited::View(view) => (view.0, facts.watched),
         };
-        let number = *number;
         let is_reached = match at {
             Some(at) => number <= at,
             None => true,
         };
         let until = match self.awaited {
             Some(awaited) => awaited.until,
-            None => now.saturating_add(u64::from(*milliseconds)),
+            None => now.saturating_add(lasts),
         };
         if is_reached || until <= now || self.is_hung_up || self.role.is_none() {
             return false;
