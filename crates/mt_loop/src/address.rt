@@ -5,6 +5,7 @@ use mio::net::{TcpListener, UnixListener, UnixStream};
 use mio::{Interest, Registry, Token};
 use std::io::ErrorKind;
 use std::net::{Net, SocketAddr};
+use std::os::unix::fs::FileTypeExt;
 use std::rt::Files;
 use std::{fs, io};
 
@@ -49,17 +50,28 @@ pub enum Listener {
     Unix(UnixListener),
 }
 
+// Whether this is a socket, and no other file.
+fn is_socket<R: Files>(rt: &R, path: &str) -> bool {
+    match fs::symlink_metadata(rt, path) {
+        Ok(found) => found.file_type().is_socket(),
+        Err(_) => false,
+    }
+}
+
+// Whether nobody listens at a socket. (A connection to a file that is no socket is refused too.)
+fn is_left_over<R: Net + Files>(rt: &R, path: &str) -> bool {
+    match UnixStream::connect(rt, path) {
+        Err(error) => error.kind() == ErrorKind::ConnectionRefused && is_socket(rt, path),
+        Ok(_) => false,
+    }
+}
+
 // Listens at a Unix socket. A socket that is there is replaced, if nobody listens at it.
 fn bind_unix<R: Net + Files>(rt: &R, path: &str) -> io::Result<UnixListener> {
     match UnixListener::bind(rt, path) {
-        Err(error) if error.kind() == ErrorKind::AddrInUse => {
-            match UnixStream::connect(rt, path) {
-                Err(refused) if refused.kind() == ErrorKind::ConnectionRefused => {
-                    fs::remove_file(rt, path)?;
-                    UnixListener::bind(rt, path)
-                }
-                _ => Err(error),
-            }
+        Err(error) if error.kind() == ErrorKind::AddrInUse && is_left_over(rt, path) => {
+            fs::remove_file(rt, path)?;
+            UnixListener::bind(rt, path)
         }
         bound => bound,
     }
@@ -119,7 +131,9 @@ impl Listener {
 pub fn remove_sockets<R: Files>(rt: &R, addresses: &[Address<'_>]) {
     for address in addresses {
         if let Address::Unix(path) = address {
-            let _ = fs::remove_file(rt, *path);
+            if is_socket(rt, path) {
+                let _ = fs::remove_file(rt, *path);
+            }
         }
     }
 }
