@@ -1,1 +1,3 @@
+pub mod EntryLemmas
+pub mod NumberedLemmas
 pub mod ReplayLemmas

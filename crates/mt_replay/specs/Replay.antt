@@ -1,11 +1,13 @@
 -- The commits of a log's records, made again.
-use Rattle.std.specs.Prelude.{ℕ, ◌+◌, ◌≡◌, List, [], ◌∷◌, map, take, Option, Some, None}
+use Rattle.std.specs.Prelude.{ℕ, ◌+◌, ◌≡◌, List, [], ◌∷◌, ◌++◌, map, take, Option, Some, None}
 use Rattle.mt_types.specs.Rows.{after}
 use Rattle.mt_types.specs.declared.row.Change.{Change}
 use Rattle.mt_types.specs.declared.row.Change.TheVariants.{Put, Drop}
 use Rattle.mt_types.specs.declared.row.Delta.{Delta}
 use Rattle.mt_types.specs.declared.row.Row.{Row}
 use Rattle.mt_commit.specs.Logged.{deltas_of}
+use Rattle.mt_frame.specs.declared.entry.Entry.{Entry}
+use Rattle.mt_frame.specs.declared.entry.Entry.TheVariants.{Header, Commits as Group, Closed}
 use Rattle.mt_frame.specs.declared.entry.Record.{Record}
 use Rattle.mt_frame.specs.declared.entry.Record.TheVariants.{Row as RowOf, Removed}
 
@@ -30,6 +32,13 @@ record_of delta = left_of delta.key delta.after
 -- the records of all commits of an index of C columns, from none on
 abbrev pub records_of : ℕ → List Change → List Record
 records_of C changes = map record_of (deltas_of C changes)
+
+-- the records of the commits that entries have
+abbrev pub records_in : List Entry → List Record
+records_in [] = []
+records_in (Header header ∷ entries) = records_in entries
+records_in (Group commits ∷ entries) = commits.records ++ records_in entries
+records_in (Closed number ∷ entries) = records_in entries
 
 -- THE FIRST m COMMITS, MADE AGAIN, make the rows that they made, with their versions
 abbrev pub PrefixesMakeRows : Type 0

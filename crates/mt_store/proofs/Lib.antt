@@ -2,6 +2,5 @@ pub mod ExtendLemmas
 pub mod RecordLemmas
 pub mod StoreLemmas
 pub mod OpenLemmas
-pub mod NumberedLemmas
 pub mod MakingLemmas
 pub mod WrittenLemmas

@@ -3,18 +3,12 @@ use Rattle.std.proofs.Common.{◌≡◌, ℕ, ◌<◌, ◌≤◌, ◌+◌, ◌�
 use Rattle.std.proofs.lemmas.List.{append-nil, map-append, take_all, take_more}
 use Rattle.mt_types.specs.declared.row.Change.{Change}
 use Rattle.mt_index.specs.Stands.{MachineView}
-use Rattle.mt_frame.specs.declared.entry.Commits.{Commits}
 use Rattle.mt_frame.specs.declared.entry.Entry.{Entry}
-use Rattle.mt_frame.specs.declared.entry.Entry.TheVariants.{Header, Commits as Group, Closed}
 use Rattle.mt_frame.specs.declared.entry.Record.{Record}
-use Rattle.mt_replay.specs.Replay.{change_again}
+use Rattle.mt_replay.specs.Replay.{change_again, records_in}
+use Rattle.mt_replay.proofs.EntryLemmas.{records-append, take_item}
 use Rattle.mt_store.specs.Extending.{Adds}
-use Rattle.mt_store.specs.Stored.{records_in}
 use Rattle.mt_store.proofs.ExtendLemmas.{adds_both}
-use Rattle.mt_store.proofs.RecordLemmas.{records-append}
-
-take_item : {A : Type 0} (n : ℕ) (xs : List A) (x : A) → n < length xs → x ≡ get_or xs n x → take (n + 1) xs ≡ take n xs ++ (x ∷ [])
-take_item n xs x less is = take_more xs n x less ∙ ap (λ y. take n xs ++ (y ∷ [])) (sym is)
 
 -- ---- records
 module _ (first mid last : MachineView) (records : List Record) (n : ℕ) where
@@ -37,12 +31,3 @@ module _ (first mid last : MachineView) (entries : List Entry) (n : ℕ) where
 
   pub all_entries : length entries ≤ n → Adds first (map change_again (records_in (take n entries))) mid → Adds first (map change_again (records_in entries)) mid
   all_entries all so_far = subst (λ (es : List Entry). Adds first (map change_again (records_in es)) mid) (take_all n entries all) so_far
-
--- the records of one entry
-pub of_commits : (entry : Entry) (commits : Commits) → entry ≡ Group commits → records_in (entry ∷ []) ≡ commits.records
-of_commits entry commits is = ap (λ (e : Entry). records_in (e ∷ [])) is ∙ append-nil commits.records
-
-pub of_others : (entry : Entry) → ((commits : Commits) → entry ≡ Group commits → ⊥) → records_in (entry ∷ []) ≡ []
-of_others (Header header) other = refl
-of_others (Group commits) other = absurd (other commits refl)
-of_others (Closed number) other = refl

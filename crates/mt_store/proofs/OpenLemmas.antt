@@ -14,10 +14,10 @@ use Rattle.mt_journal.specs.declared.position.Position.{Position}
 use Rattle.mt_journal.specs.Keeping.{Keeps}
 use Rattle.mt_journal.specs.Laws.{LogsReadOneWay}
 use Rattle.mt_journal.specs.Log.{IsLog}
-use Rattle.mt_replay.specs.Replay.{change_again, record_of, records_of}
+use Rattle.mt_replay.specs.Replay.{change_again, record_of, records_of, records_in}
 use Rattle.mt_replay.proofs.ReplayLemmas.{prefixes_make_records, prefixes_make_rows}
 use Rattle.mt_store.specs.Extending.{Adds}
-use Rattle.mt_store.specs.Stored.{FindsAgain, IsStored, Recovers, records_in}
+use Rattle.mt_store.specs.Stored.{FindsAgain, IsStored, Recovers}
 use Rattle.mt_store.proofs.RecordLemmas.{last_counts}
 
 -- a map that was empty, and in which the commits of a log's entries were made again

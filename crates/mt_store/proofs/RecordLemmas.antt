@@ -14,8 +14,9 @@ use Rattle.mt_journal.specs.declared.position.Position.{Position}
 use Rattle.mt_journal.specs.Appending.{with_commits}
 use Rattle.mt_journal.specs.Keeping.{Survives}
 use Rattle.mt_journal.specs.Log.{last_number}
-use Rattle.mt_replay.specs.Replay.{record_of, records_of}
-use Rattle.mt_store.specs.Stored.{Recovers, records_in}
+use Rattle.mt_replay.specs.Replay.{record_of, records_in, records_of}
+use Rattle.mt_replay.proofs.EntryLemmas.{records-append}
+use Rattle.mt_store.specs.Stored.{Recovers}
 
 -- ---- lists
 -- the first of a list that has a front, as many as that has
@@ -46,12 +47,6 @@ few_taken (suc n) [] = omega arith
 few_taken (suc n) (x ∷ xs) = let less = few_taken n xs in omega (arith, less)
 
 -- ---- records of entries
-pub records-append : (entries more : List Entry) → records_in (entries ++ more) ≡ records_in entries ++ records_in more
-records-append [] more = refl
-records-append (Header header ∷ entries) more = records-append entries more
-records-append (Group commits ∷ entries) more = ap (λ (rs : List Record). commits.records ++ rs) (records-append entries more) ∙ sym (append_assoc commits.records (records_in entries) (records_in more))
-records-append (Closed number ∷ entries) more = records-append entries more
-
 -- they are as many as the number of the last commit says
 pub last_counts : (n : ℕ) (entries : List Entry) → last_number n entries ≡ n + length (records_in entries)
 last_counts n [] = omega arith

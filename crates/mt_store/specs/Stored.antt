@@ -5,20 +5,11 @@ use Rattle.mt_types.specs.Rows.{after}
 use Rattle.mt_promise.specs.History.{History, moment}
 use Rattle.mt_index.specs.Stands.{MachineView, Stands}
 use Rattle.mt_frame.specs.declared.entry.Entry.{Entry}
-use Rattle.mt_frame.specs.declared.entry.Entry.TheVariants.{Header, Commits as Group, Closed}
 use Rattle.mt_frame.specs.declared.entry.LogHeader.{LogHeader}
-use Rattle.mt_frame.specs.declared.entry.Record.{Record}
 use Rattle.mt_journal.specs.declared.position.Position.{Position}
 use Rattle.mt_journal.specs.Keeping.{Keeps}
 use Rattle.mt_journal.specs.Log.{IsLog}
-use Rattle.mt_replay.specs.Replay.{records_of}
-
--- the records of the commits that entries have
-abbrev pub records_in : List Entry → List Record
-records_in [] = []
-records_in (Header header ∷ entries) = records_in entries
-records_in (Group commits ∷ entries) = commits.records ++ records_in entries
-records_in (Closed number ∷ entries) = records_in entries
+use Rattle.mt_replay.specs.Replay.{records_in, records_of}
 
 -- a log of an index of C columns that begins with its first commit
 pub record IsOf (C : ℕ) (header : LogHeader) : Type 0 where

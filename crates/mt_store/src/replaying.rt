@@ -1,31 +1,18 @@
 //! The commits of a log, made again in a map.
 
-ghost use Rattle.std.specs.Prelude.{◌≡◌, [], ◌∷◌, IfOk, OnOk, map};
-ghost use Rattle.mt_asked.specs.Borrowed.{sets_of};
+ghost use Rattle.std.specs.Prelude.{[], ◌∷◌, OnOk, map};
 ghost use Rattle.mt_frame.specs.declared.entry.Record.TheVariants.{Row as RowOf, Removed as RemovedOf};
-ghost use Rattle.mt_replay.specs.Replay.{change_again, numbered};
+ghost use Rattle.mt_replay.specs.Replay.{change_again, records_in};
 ghost use Rattle.mt_store.specs.Extending.{Adds};
-ghost use Rattle.mt_store.specs.Stored.{records_in};
 
 use crate::error::StoreError;
-use mt_asked::borrowed::Set;
 use mt_frame::entry::{Entry, Record};
 use mt_map::map::Map;
+use mt_replay::records::sets_of;
 use mt_types::key::Key;
-use mt_types::refusal::{NoMemory, Refusal};
+use mt_types::refusal::Refusal;
 use mt_types::row::Columns;
 use std::alloc::Global;
-
-// The bytes of all columns, each with its number.
-fn sets_of(alloc: Global, columns: &Columns) -> Result<Vec<Set<'_>>, NoMemory>
-    ensures { IfOk result (λ sets. sets_of sets.items ≡ numbered 0 columns.now) }
-{
-    let mut sets = Vec::with_capacity(alloc, columns.len())?;
-    for number in 0..columns.len() {
-        sets.push(Set::new(number as u8, columns.get_or_empty(number)))?;
-    }
-    Ok(sets)
-}
 
 // Puts all columns of a row.
 fn put_again(alloc: Global, index: &mut Map, key: &Key, columns: &Columns) -> Result<(), StoreError>

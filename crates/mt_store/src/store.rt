@@ -10,25 +10,21 @@ ghost use Rattle.mt_promise.specs.History.{change_of};
 ghost use Rattle.mt_asked.specs.Borrowed.{sets_of};
 ghost use Rattle.mt_map.specs.Calls.{answered_by};
 ghost use Rattle.mt_map.specs.Tidies.{MapComesTo, Removes};
-ghost use Rattle.mt_replay.specs.Replay.{record_of};
 ghost use Rattle.mt_store.specs.Changing.{Changes, IsLogged, IsWritten, made_of, removed_of};
 ghost use Rattle.mt_store.specs.Stored.{AllRecover, FindsAgain, IsStored, Recovers};
 
 use crate::error::StoreError;
 use crate::replaying::replay;
 use mt_asked::borrowed::Set;
-use mt_frame::entry::{LogHeader, Record};
+use mt_frame::entry::LogHeader;
 use mt_index::options::Options;
 use mt_journal::error::JournalError;
 use mt_journal::journal::Journal;
 use mt_journal::laws::logs_are_read_one_way;
 use mt_journal::opening::{create, open};
 use mt_map::map::Map;
-use mt_types::copying::TryCopy;
-use mt_types::items::Items;
+use mt_replay::records::records_of;
 use mt_types::limits::MAX_RANGE;
-use mt_types::refusal::NoMemory;
-use mt_types::row::Delta;
 use sqlite_disk::Disk;
 use std::alloc::Global;
 
@@ -43,28 +39,6 @@ pub struct Store<D: Disk + Drop> {
 
 // For how many commits the map keeps what is to be written to the log.
 const KEPT: u64 = 1000;
-
-// What a commit left of its key.
-fn record_of(alloc: Global, delta: &Delta) -> Result<Record, NoMemory>
-    ensures { IfOk result (λ made. made ≡ record_of delta.now) }
-{
-    let key = delta.key.copy(alloc)?;
-    match &delta.after {
-        Some(row) => Ok(Record::Row(key, row.columns.copy(alloc)?)),
-        None => Ok(Record::Removed(key)),
-    }
-}
-
-// What each commit left of its key.
-fn records_of(alloc: Global, deltas: &[Delta]) -> Result<Items<Record>, NoMemory>
-    ensures { IfOk result (λ records. records ≡ map record_of deltas.now) }
-{
-    let mut records = Vec::with_capacity(alloc, deltas.len())?;
-    for delta in deltas {
-        records.push(record_of(alloc, delta)?)?;
-    }
-    Ok(Items::from_vec(records))
-}
 
 // The options of a map whose log keeps the deltas that are to be written.
 fn with_retention(options: Options) -> Options

@@ -1,5 +1,5 @@
 -- A FRAME COMES TO A SERVER, around what answers the queries of its index.
-use Rattle.std.specs.Prelude.{◌≡◌, ◌⊎◌, List, Option, Some, None, MatchOption, true}
+use Rattle.std.specs.Prelude.{◌≡◌, ◌⊎◌, List, Option, Some, None, MatchOption, true, false}
 use Rattle.sha2.specs.Sha256.{sha256}
 use Rattle.mt_wire.specs.declared.query.Query.{Query}
 use Rattle.mt_wire.specs.declared.response.Response.{Response}
@@ -7,13 +7,15 @@ use Rattle.mt_wire.specs.declared.server.ServerQuery.{ServerQuery}
 use Rattle.mt_wire.specs.declared.server.ServerQuery.TheVariants.{Hello}
 use Rattle.mt_wire.specs.declared.server.Role.{Role}
 use Rattle.mt_wire.specs.declared.server.Role.TheVariants.{Read}
+use Rattle.mt_wire.specs.declared.server.ServerRefusal.{ServerRefusal}
+use Rattle.mt_wire.specs.declared.server.ServerRefusal.TheVariants.{NotAllowed}
 use Rattle.mt_wire.specs.declared.frame.Frame.{Frame}
 use Rattle.mt_wire.specs.Spelling.{framed}
 use Rattle.mt_talk.specs.declared.tokens.Token.{Token}
 use Rattle.mt_talk.specs.declared.server.Keeper.{Keeper}
 use Rattle.mt_talk.specs.declared.serving.Server.{Server}
 use Rattle.mt_talk.specs.Tokens.{Admits}
-use Rattle.mt_talk.specs.Serving.{alone, refusals, may_all, Keeps}
+use Rattle.mt_talk.specs.Serving.{alone, refusals, may_all, changes_rows, Keeps}
 
 -- what is inside answers it; or the server does, and neither what is inside nor what is shared is reached
 abbrev pub ServesFrame : {A S P : Type 0} → (A → S → P → Frame Query → Frame Response → A → S → P → Type 0) → Server A → S → P → Frame Query
@@ -41,7 +43,7 @@ ClosedIsBlind {A} {S} {P} answers =
     (a b : Server A) (s t : S) (p q : P) (frame : Frame Query) (reply : Frame Response)
     → a.keeper.role ≡ None → HasNoKey a.keeper.tokens.items (alone frame.messages)
     → ServesFrame answers a s p frame reply b t q
-    → (reply ≡ framed frame.version (refusals frame.messages)) × (b.keeper.role ≡ None)
+    → (reply ≡ framed frame.version (refusals NotAllowed frame.messages)) × (b.keeper.role ≡ None)
     × (b.keeper.tokens.items ≡ a.keeper.tokens.items) × (b.inner ≡ a.inner) × (t ≡ s) × (q ≡ p)
 
 -- A CLIENT THAT MAY READ reaches what is inside by gets, ranges and pages alone.
@@ -50,4 +52,12 @@ ReadersRead {A} {S} {P} answers =
     (a b : Server A) (s t : S) (p q : P) (frame : Frame Query) (reply : Frame Response)
     → a.keeper.role ≡ Some Read → ServesFrame answers a s p frame reply b t q
     → ((may_all Read frame.messages ≡ true) × answers a.inner s p frame reply b.inner t q)
+    ⊎ ((b.inner ≡ a.inner) × (t ≡ s) × (q ≡ p))
+
+-- WHILE ROWS CAN'T BE CHANGED, a frame comes to what is inside only if none of its queries changes a row.
+abbrev pub HinderedKeepRows : {A S P : Type 0} → (A → S → P → Frame Query → Frame Response → A → S → P → Type 0) → Type 0
+HinderedKeepRows {A} {S} {P} answers =
+    (a b : Server A) (s t : S) (p q : P) (frame : Frame Query) (reply : Frame Response) (refusal : ServerRefusal)
+    → a.keeper.read_only ≡ Some refusal → ServesFrame answers a s p frame reply b t q
+    → ((changes_rows frame.messages ≡ false) × answers a.inner s p frame reply b.inner t q)
     ⊎ ((b.inner ≡ a.inner) × (t ≡ s) × (q ≡ p))

@@ -1,8 +1,8 @@
 -- WHAT A SERVER ANSWERS WITHOUT ITS INDEX, around what answers the queries of its index: who may ask what, and its own queries.
-use Rattle.std.specs.Prelude.{◌≡◌, ℕ, Bool, true, false, MatchBool, MatchOption, List, [], ◌∷◌, map, Option, Some, None, nat_le, nat_lt, not, if◌then◌else◌}
+use Rattle.std.specs.Prelude.{◌≡◌, ℕ, Bool, true, false, MatchBool, MatchOption, List, [], ◌∷◌, map, Option, Some, None, nat_le, nat_lt, not, if◌then◌else◌, unwrap_or}
 use Rattle.std.specs.List.{list_any}
 use Rattle.sha2.specs.Sha256.{sha256}
-use Rattle.mt_types.specs.declared.event.Request.TheVariants.{Get, Range}
+use Rattle.mt_types.specs.declared.event.Request.TheVariants.{Get, Put, PutIf, Remove, Range}
 use Rattle.mt_wire.specs.declared.query.Query.{Query}
 use Rattle.mt_wire.specs.declared.query.Query.TheVariants.{Call, ViewRead, Server}
 use Rattle.mt_wire.specs.declared.response.Response.{Response}
@@ -10,9 +10,10 @@ use Rattle.mt_wire.specs.declared.response.Response.TheVariants.{Refused, Server
 use Rattle.mt_types.specs.declared.refusal.Refusal.TheVariants.{NoSuchView}
 use Rattle.mt_wire.specs.declared.server.Role.{Role}
 use Rattle.mt_wire.specs.declared.server.Role.TheVariants.{Read, Write, All}
-use Rattle.mt_wire.specs.declared.server.ServerRefusal.TheVariants.{NotAllowed}
+use Rattle.mt_wire.specs.declared.server.ServerRefusal.{ServerRefusal}
+use Rattle.mt_wire.specs.declared.server.ServerRefusal.TheVariants.{InMemory, NotAllowed}
 use Rattle.mt_wire.specs.declared.server.Awaited.{Awaited}
-use Rattle.mt_wire.specs.declared.server.Awaited.TheVariants.{Commits, View}
+use Rattle.mt_wire.specs.declared.server.Awaited.TheVariants.{Commits, View, Durable}
 use Rattle.mt_wire.specs.declared.server.Count.{Count}
 use Rattle.mt_wire.specs.declared.server.ListedView.{ListedView}
 use Rattle.mt_wire.specs.declared.server.ServerQuery.{ServerQuery}
@@ -48,11 +49,28 @@ may All query = true
 abbrev pub may_all : Role → List Query → Bool
 may_all role queries = not (list_any (λ query. not (may role query)) queries)
 
+-- ---- while rows can't be changed
+
+-- puts and removes
+abbrev pub changes_row : Query → Bool
+changes_row (Call (Put key sets)) = true
+changes_row (Call (PutIf key sets version)) = true
+changes_row (Call (Remove key)) = true
+changes_row _ = false
+
+abbrev pub changes_rows : List Query → Bool
+changes_rows queries = list_any changes_row queries
+
+-- why these queries are refused: since one of them changes a row, and rows can't be changed now
+abbrev pub hindered : Option ServerRefusal → List Query → Option ServerRefusal
+hindered None queries = None
+hindered (Some refusal) queries = if changes_rows queries then Some refusal else None
+
 -- ---- what is answered
 
--- each query is refused, whatever it is
-abbrev pub refusals : List Query → List Response
-refusals queries = map (λ (query : Query). Served (OfServer NotAllowed)) queries
+-- each query is refused so, whatever it is
+abbrev pub refusals : ServerRefusal → List Query → List Response
+refusals refusal queries = map (λ (query : Query). Served (OfServer refusal)) queries
 
 -- the version up to which both know the wire
 abbrev pub common_version : ℕ → ℕ
@@ -66,16 +84,23 @@ greeting facts newest role =
 abbrev pub numbers : Facts → List ℕ
 numbers facts =
     facts.commits ∷ facts.nodes ∷ facts.standing ∷ facts.logged ∷ facts.connections ∷ facts.accepted ∷ facts.turned_away
-    ∷ facts.frames ∷ facts.queries ∷ facts.faults ∷ facts.input_bytes ∷ facts.output_bytes ∷ facts.milliseconds ∷ []
+    ∷ facts.frames ∷ facts.queries ∷ facts.faults ∷ facts.input_bytes ∷ facts.output_bytes ∷ unwrap_or facts.durable 0
+    ∷ facts.milliseconds ∷ []
 
 -- the end of a wait for this number: whether the commits have reached it, or the view
 abbrev pub reached : ℕ → ℕ → Option ℕ → Response
 reached number commits None = Refused NoSuchView
 reached number commits (Some at) = Served (Waited (nat_le number at) commits at)
 
+-- the end of a wait until this number is durable
+abbrev pub settled : ℕ → ℕ → Option ℕ → Response
+settled number commits None = Served (OfServer InMemory)
+settled number commits (Some at) = Served (Waited (nat_le number at) commits at)
+
 abbrev pub waited : Facts → Awaited → ℕ → Response
 waited facts Commits number = Served (Waited (nat_le number facts.commits) facts.commits 0)
 waited facts (View view) number = reached number facts.commits facts.watched
+waited facts Durable number = settled number facts.commits facts.durable
 
 -- the server's answer to one of its queries (a hello doesn't come here)
 abbrev pub IsTold : Facts → ServerQuery → Response → Type 0
@@ -104,10 +129,11 @@ pub record Becomes (k : Keeper) (role : Option Role) (stop : Option Bool) (l : K
   pub stop_is : l.stop ≡ stop
   pub facts : l.facts ≡ k.facts
   pub tokens : l.tokens.items ≡ k.tokens.items
+  pub read_only : l.read_only ≡ k.read_only
 
 -- each query is refused, and nothing changes
 abbrev pub TurnsAway : Keeper → List Query → Option (List Response) → Keeper → Type 0
-TurnsAway k queries answered l = (answered ≡ Some (refusals queries)) × Becomes k k.role k.stop l
+TurnsAway k queries answered l = (answered ≡ Some (refusals NotAllowed queries)) × Becomes k k.role k.stop l
 
 -- a hello: its secret gives a role, or it is refused
 abbrev pub Greets : Keeper → List Query → ℕ → List ℕ → Option (List Response) → Keeper → Type 0
@@ -116,17 +142,22 @@ Greets k queries newest secret answered l =
     × MatchOption found (TurnsAway k queries answered l)
     (λ role. (answered ≡ Some (greeting k.facts newest role ∷ [])) × Becomes k (Some role) k.stop l)
 
+-- queries of the index are left to what is inside; or each is refused, since one changes a row and rows can't be changed
+abbrev pub leaves : Option ServerRefusal → List Query → Option (List Response)
+leaves None queries = None
+leaves (Some refusal) queries = Some (refusals refusal queries)
+
 -- queries that the client may ask: one of the server is answered, others are left to what is inside
-abbrev pub Allows : Keeper → Option ServerQuery → Option (List Response) → Keeper → Type 0
-Allows k None answered l = (answered ≡ None) × Becomes k k.role k.stop l
-Allows k (Some query) answered l =
+abbrev pub Allows : Keeper → List Query → Option ServerQuery → Option (List Response) → Keeper → Type 0
+Allows k queries None answered l = (answered ≡ leaves (hindered k.read_only queries) queries) × Becomes k k.role k.stop l
+Allows k queries (Some query) answered l =
     (response : Response) × IsTold k.facts query response × (answered ≡ Some (response ∷ []))
     × Becomes k k.role (stop_of query k.stop) l
 
 abbrev pub Within : Keeper → List Query → Option ServerQuery → Option (List Response) → Keeper → Type 0
 Within k queries query answered l =
     MatchOption k.role (TurnsAway k queries answered l) (λ role.
-    MatchBool (may_all role queries) (Allows k query answered l) (TurnsAway k queries answered l))
+    MatchBool (may_all role queries) (Allows k queries query answered l) (TurnsAway k queries answered l))
 
 abbrev pub KeepsAlone : Keeper → List Query → Option ServerQuery → Option (List Response) → Keeper → Type 0
 KeepsAlone k queries (Some (Hello newest secret name)) answered l = Greets k queries newest secret answered l

@@ -41,6 +41,8 @@ pub struct Facts {
     pub views: Option<Listing>,
     /// The number of commits at which the view is that a client waits for, if there is such a view.
     pub watched: Option<u64>,
+    /// The number of the last commit that no crash undoes, if the server keeps a log on a disk.
+    pub durable: Option<u64>,
 }
 
 // A number under its name.
@@ -75,6 +77,7 @@ impl Facts {
             count(b"faults", self.faults),
             count(b"input_bytes", self.input_bytes),
             count(b"output_bytes", self.output_bytes),
+            count(b"durable", self.durable.unwrap_or(0)),
             count(b"uptime_ms", self.milliseconds),
         ]?)
     }

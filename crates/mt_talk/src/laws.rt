@@ -1,7 +1,7 @@
 //! Laws of sessions as bytes in and bytes out, and of servers. Their bodies do nothing.
 
 ghost use Rattle.mt_talk.specs.Laws.{TalksAreStreams};
-ghost use Rattle.mt_talk.specs.Frames.{ClosedIsBlind, ReadersRead};
+ghost use Rattle.mt_talk.specs.Frames.{ClosedIsBlind, HinderedKeepRows, ReadersRead};
 
 use crate::talk::Answers;
 
@@ -21,4 +21,9 @@ pub fn closed_servers_are_blind<S, P, A: Answers<S, P>>()
 /// If a client may read, a frame comes to what is inside only if it has gets, ranges and pages of views alone.
 pub fn readers_read<S, P, A: Answers<S, P>>()
     ensures { ReadersRead A.answers }
+{}
+
+/// While rows can't be changed, a frame comes to what is inside only if none of its queries changes a row.
+pub fn hindered_servers_keep_rows<S, P, A: Answers<S, P>>()
+    ensures { HinderedKeepRows A.answers }
 {}

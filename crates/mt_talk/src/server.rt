@@ -1,13 +1,17 @@
 //! What a server answers without its index: its own queries, and refusals of what a client may not ask.
 
 ghost use Rattle.std.specs.Prelude.{◌≡◌, ◌≤◌, ◌<◌, ◌∷◌, [], None, Some, length, IfOk, IfSome, OnErr};
+ghost use Rattle.std.specs.List.{list_any};
 ghost use Rattle.std.specs.Option.{option_map, option_copied};
 ghost use Rattle.mt_types.specs.declared.limits.TheConstants.{MAX_QUERIES};
 ghost use Rattle.mt_wire.specs.Limited.{ResponseIsLimited};
+ghost use Rattle.mt_wire.specs.declared.server.ServerRefusal.TheVariants.{NotAllowed};
 ghost use Rattle.mt_wire.specs.Frames.{Holds};
+ghost use Rattle.mt_wire.specs.declared.response.Response.TheVariants.{Server as Served};
+ghost use Rattle.mt_wire.specs.declared.server.ServerResponse.TheVariants.{Refused as OfServer};
 ghost use Rattle.sha2.specs.Sha256.{sha256};
 ghost use Rattle.mt_talk.specs.Tokens.{first_role};
-ghost use Rattle.mt_talk.specs.Serving.{reads, writes, may, may_all, refusals, common_version, greeting, waited, alone, IsTold, Greets, Allows, Within, Keeps};
+ghost use Rattle.mt_talk.specs.Serving.{reads, writes, may, may_all, changes_row, changes_rows, hindered, leaves, refusals, common_version, greeting, waited, alone, IsTold, Greets, Allows, Within, Keeps};
 
 use crate::facts::Facts;
 use crate::tokens::{Token, admit};
@@ -27,6 +31,8 @@ pub struct Keeper {
     pub role: Option<Role>,
     /// Whether a client has asked that the server ends, and then whether at once.
     pub stop: Option<bool>,
+    /// Why rows can't be changed now, if they can't.
+    pub read_only: Option<ServerRefusal>,
     /// What is answered of the server.
     pub facts: Facts,
     tokens: Vec<Token>,
@@ -88,16 +94,51 @@ fn alone(queries: &[Query]) -> Option<&ServerQuery>
     }
 }
 
-// Each of these queries is refused.
-fn refuse_all(alloc: Global, queries: &[Query]) -> Result<Vec<Response>, AllocError>
+// Puts and removes.
+fn changes_row(query: &Query) -> bool
+    ensures { result ≡ changes_row query.now }
+{
+    matches!(
+        query,
+        Query::Call(Request::Put { .. } | Request::PutIf { .. } | Request::Remove { .. })
+    )
+}
+
+fn changes_rows(queries: &[Query]) -> bool
+    ensures { result ≡ changes_rows queries.now }
+{
+    for query in queries {
+        if changes_row(query) {
+            return true;
+        }
+    }
+    false
+}
+
+// Why these queries are refused while rows can't be changed.
+fn hindered(read_only: Option<ServerRefusal>, queries: &[Query]) -> Option<ServerRefusal>
+    ensures { result ≡ hindered read_only queries.now }
+{
+    match read_only {
+        Some(refusal) if changes_rows(queries) => Some(refusal),
+        _ => None,
+    }
+}
+
+// Each of these queries is refused so.
+fn refuse_all(
+    alloc: Global,
+    refusal: ServerRefusal,
+    queries: &[Query],
+) -> Result<Vec<Response>, AllocError>
     requires some { 0 < length queries.now }
     requires few { length queries.now ≤ MAX_QUERIES }
-    ensures value { IfOk result (λ responses. responses.items ≡ refusals queries.now) }
+    ensures value { IfOk result (λ responses. responses.items ≡ refusals refusal queries.now) }
     ensures holds { IfOk result (λ responses. Holds ResponseIsLimited responses.items) }
 {
     let mut responses = Vec::new(alloc);
     for _query in queries {
-        responses.push(Response::Server(ServerResponse::Refused(ServerRefusal::NotAllowed)))?;
+        responses.push(refused(refusal))?;
     }
     Ok(responses)
 }
@@ -123,25 +164,34 @@ fn greeting(facts: &Facts, newest: u8, role: Role) -> Response
     })
 }
 
+fn refused(refusal: ServerRefusal) -> Response
+    ensures value { result ≡ Served (OfServer refusal) }
+    ensures limited { ResponseIsLimited result }
+{
+    Response::Server(ServerResponse::Refused(refusal))
+}
+
 // The end of a wait.
 fn waited(facts: &Facts, of: Awaited, number: u64) -> Response
     ensures value { result ≡ waited facts.now of number }
     ensures limited { ResponseIsLimited result }
 {
-    let at = match of {
-        Awaited::Commits => Some(facts.commits),
-        Awaited::View(_) => facts.watched,
-    };
-    let Some(at) = at else {
-        return Response::Refused(Refusal::NoSuchView);
+    let commits = facts.commits;
+    let (at, view) = match of {
+        Awaited::Commits => (commits, 0),
+        Awaited::View(_) => match facts.watched {
+            Some(at) => (at, at),
+            None => return Response::Refused(Refusal::NoSuchView),
+        },
+        Awaited::Durable => match facts.durable {
+            Some(at) => (at, at),
+            None => return refused(ServerRefusal::InMemory),
+        },
     };
     Response::Server(ServerResponse::Waited {
         is_reached: number <= at,
-        commits: facts.commits,
-        view: match of {
-            Awaited::Commits => 0,
-            Awaited::View(_) => at,
-        },
+        commits,
+        view,
     })
 }
 
@@ -150,11 +200,13 @@ impl Keeper {
     pub fn new(alloc: Global, tokens: Vec<Token>) -> Keeper
         ensures role { result.role ≡ None }
         ensures stop { result.stop ≡ None }
+        ensures read_only { result.read_only ≡ None }
         ensures tokens { result.tokens ≡ tokens }
     {
         Keeper {
             role: None,
             stop: None,
+            read_only: None,
             facts: Facts::default(),
             tokens,
             alloc,
@@ -176,10 +228,24 @@ impl Keeper {
     fn turn_away(&self, queries: &[Query]) -> Result<Option<Vec<Response>>, AllocError>
         requires some { 0 < length queries.now }
         requires few { length queries.now ≤ MAX_QUERIES }
-        ensures value { IfOk result (λ answered. option_map (λ responses. responses.items) answered ≡ Some (refusals queries.now)) }
+        ensures value { IfOk result (λ answered. option_map (λ responses. responses.items) answered ≡ Some (refusals NotAllowed queries.now)) }
         ensures holds { IfOk result (λ answered. IfSome answered (λ responses. Holds ResponseIsLimited responses.items)) }
     {
-        Ok(Some(refuse_all(self.alloc, queries)?))
+        Ok(Some(refuse_all(self.alloc, ServerRefusal::NotAllowed, queries)?))
+    }
+
+    // Leaves these queries to what is inside, unless one changes a row and rows can't be changed now: then each is refused.
+    fn leave(&self, queries: &[Query]) -> Result<Option<Vec<Response>>, AllocError>
+        requires some { 0 < length queries.now }
+        requires few { length queries.now ≤ MAX_QUERIES }
+        ensures value { IfOk result (λ answered. option_map (λ responses. responses.items) answered
+            ≡ leaves (hindered self.now.read_only queries.now) queries.now) }
+        ensures holds { IfOk result (λ answered. IfSome answered (λ responses. Holds ResponseIsLimited responses.items)) }
+    {
+        match hindered(self.read_only, queries) {
+            Some(refusal) => Ok(Some(refuse_all(self.alloc, refusal, queries)?)),
+            None => Ok(None),
+        }
     }
 
     // One answer.
@@ -251,14 +317,20 @@ impl Keeper {
     }
 
     // Answers queries that the client may ask: one of the server. Others are left to what is inside.
-    fn allow(&mut self, query: Option<&ServerQuery>) -> Result<Option<Vec<Response>>, AllocError>
-        ensures value { IfOk result (λ answered. Allows self.old (option_copied query.entry)
+    fn allow(
+        &mut self,
+        queries: &[Query],
+        query: Option<&ServerQuery>,
+    ) -> Result<Option<Vec<Response>>, AllocError>
+        requires some { 0 < length queries.now }
+        requires few { length queries.now ≤ MAX_QUERIES }
+        ensures value { IfOk result (λ answered. Allows self.old queries.now (option_copied query.entry)
             (option_map (λ responses. responses.items) answered) self.new) }
         ensures holds { IfOk result (λ answered. IfSome answered (λ responses. Holds ResponseIsLimited responses.items)) }
         ensures err { OnErr result (self.new ≡ self.old) }
     {
         let Some(query) = query else {
-            return Ok(None);
+            return self.leave(queries);
         };
         let answered = self.tell(self.response(query)?)?;
         if let ServerQuery::Stop { is_at_once } = query {
@@ -284,7 +356,7 @@ impl Keeper {
             return self.turn_away(queries);
         };
         if may_all(role, queries) {
-            self.allow(query)
+            self.allow(queries, query)
         } else {
             self.turn_away(queries)
         }

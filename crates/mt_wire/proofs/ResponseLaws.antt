@@ -16,16 +16,16 @@ use Rattle.mt_types.specs.RefusalNumbers.{refusal_number, refusal_detail, refusa
 use Rattle.mt_wire.specs.declared.response.Response.{Response}
 use Rattle.mt_wire.specs.declared.response.Response.TheVariants.{Refused, Done, View, Dropped, Server as Served}
 use Rattle.mt_wire.specs.declared.server.ServerRefusal.{ServerRefusal}
-use Rattle.mt_wire.specs.declared.server.ServerRefusal.TheVariants.{NotAllowed, TooMuchAtOnce}
+use Rattle.mt_wire.specs.declared.server.ServerRefusal.TheVariants.{DiskFailed, DiskFull, InMemory, NotAllowed, TooMuchAtOnce}
 use Rattle.mt_wire.specs.declared.server.Role.{Role}
 use Rattle.mt_wire.specs.declared.server.Role.TheVariants.{Read, Write, All}
 use Rattle.mt_wire.specs.declared.server.ServerResponse.{ServerResponse}
 use Rattle.mt_wire.specs.declared.server.ServerResponse.TheVariants.{Refused as OfServer, Hello, Ping, Info, Views, Waited, Stopped}
-use Rattle.mt_wire.specs.ServerNumbers.{role_number, server_refusal_number}
+use Rattle.mt_wire.specs.ServerNumbers.{role_number, server_refusal_detail, server_refusal_number}
 use Rattle.mt_wire.specs.declared.response.End.TheVariants.{Absent, Found, Committed, Rows, Tidied, Built}
 use Rattle.mt_wire.specs.Spelling.{key_spelling, sum_spelling, row_spelling, pair_spelling, pairs_spelling, refusal_spelling, rule_spelling, span_spelling, served_spelling, response_spelling}
-use Rattle.mt_wire.specs.Fits.{RowLengths, RefusalNumbers, ServedLengths, ServedNumbers, PairNumbers, ResponseFits}
-use Rattle.mt_wire.specs.Reading.{◌>>=◌, both, made, byte_at, number_at, key_at, kind_at}
+use Rattle.mt_wire.specs.Fits.{RowLengths, RefusalNumbers, ServerRefusalNumbers, ServedLengths, ServedNumbers, PairNumbers, ResponseFits}
+use Rattle.mt_wire.specs.Reading.{Reader, ◌>>=◌, both, made, byte_at, number_at, key_at, kind_at}
 use Rattle.mt_wire.proofs.ResponseReading.{counted16_at, sum_at, row_at, index_key_at, pair_at, refusal_rest, rule_rest, ended_rest, response_rest, zero_at, turned_rest, refused_rest, role_rest, hello_at, ping_at, info_at, views_at, waited_at, stopped_at, served_rest, span_at, absent_at, found_at, committed_at, rows_at, tidied_at, built_at, view_at}
 use Rattle.mt_wire.proofs.ServerLaws.{TakesAt, flag_exact, kind_or}
 use Rattle.mt_wire.proofs.ServedLists.{count_exact, counts_parts, counts_whole, listed_exact, listed_parts, listed_whole}
@@ -203,21 +203,30 @@ zero_exact : IsExact (Unit {0}) (λ _. Unit {0}) (λ _. to_be_bytes w64 0) zero_
 zero_exact = record { takes = zero_takes; again = zero_again }
 
 abbrev server_refusal_spelling : ServerRefusal → List ℕ
-server_refusal_spelling turned = server_refusal_number turned ∷ to_be_bytes w64 0
+server_refusal_spelling turned = server_refusal_number turned ∷ to_be_bytes w64 (server_refusal_detail turned)
 
-no_turned : (kind : ℕ) → TakesAt (λ _. Unit {0}) server_refusal_spelling kind (λ bytes. None)
+no_turned : (kind : ℕ) → TakesAt ServerRefusalNumbers server_refusal_spelling kind (λ bytes. None)
 no_turned kind bytes y fits e = absurd cc
 
-turned_takes : (kind : ℕ) → TakesAt (λ _. Unit {0}) server_refusal_spelling kind (turned_rest kind)
+abbrev turned_or : (kind n : ℕ) (here there : Reader ServerRefusal) → TakesAt ServerRefusalNumbers server_refusal_spelling n here → TakesAt ServerRefusalNumbers server_refusal_spelling kind there → TakesAt ServerRefusalNumbers server_refusal_spelling kind (cond (eqb kind n) here there)
+turned_or = kind_or ServerRefusalNumbers server_refusal_spelling
+
+turned_takes : (kind : ℕ) → TakesAt ServerRefusalNumbers server_refusal_spelling kind (turned_rest kind)
 unfolding turned_rest
 turned_takes kind =
-    kind_or (λ _. Unit {0}) server_refusal_spelling kind 24 _ _ (made_takes (λ _. NotAllowed) server_refusal_spelling (λ _. Unit {0}) 24 zero_exact (λ x. refl) (λ x h. tt))
-    (kind_or (λ _. Unit {0}) server_refusal_spelling kind 25 _ _ (made_takes (λ _. TooMuchAtOnce) server_refusal_spelling (λ _. Unit {0}) 25 zero_exact (λ x. refl) (λ x h. tt)) (no_turned kind))
+    turned_or kind 19 _ _ (made_takes (λ x. DiskFailed x) server_refusal_spelling ServerRefusalNumbers 19 n64 (λ x. refl) (λ x h. h))
+    (turned_or kind 20 _ _ (made_takes (λ _. DiskFull) server_refusal_spelling ServerRefusalNumbers 20 zero_exact (λ x. refl) (λ x h. tt))
+    (turned_or kind 21 _ _ (made_takes (λ _. InMemory) server_refusal_spelling ServerRefusalNumbers 21 zero_exact (λ x. refl) (λ x h. tt))
+    (turned_or kind 24 _ _ (made_takes (λ _. NotAllowed) server_refusal_spelling ServerRefusalNumbers 24 zero_exact (λ x. refl) (λ x h. tt))
+    (turned_or kind 25 _ _ (made_takes (λ _. TooMuchAtOnce) server_refusal_spelling ServerRefusalNumbers 25 zero_exact (λ x. refl) (λ x h. tt)) (no_turned kind)))))
 
-turned_again : (x : ServerRefusal) (rest : List ℕ) → turned_rest (server_refusal_number x) (to_be_bytes w64 0 ++ rest) ≡ Some (x, rest)
+turned_again : (x : ServerRefusal) (rest : List ℕ) → ServerRefusalNumbers x → turned_rest (server_refusal_number x) (to_be_bytes w64 (server_refusal_detail x) ++ rest) ≡ Some (x, rest)
 unfolding turned_rest
-turned_again NotAllowed rest = made_again (λ _. NotAllowed) zero_exact tt rest tt
-turned_again TooMuchAtOnce rest = made_again (λ _. TooMuchAtOnce) zero_exact tt rest tt
+turned_again (DiskFailed durable) rest h = made_again (λ x. DiskFailed x) n64 durable rest h
+turned_again DiskFull rest h = made_again (λ _. DiskFull) zero_exact tt rest tt
+turned_again InMemory rest h = made_again (λ _. InMemory) zero_exact tt rest tt
+turned_again NotAllowed rest h = made_again (λ _. NotAllowed) zero_exact tt rest tt
+turned_again TooMuchAtOnce rest h = made_again (λ _. TooMuchAtOnce) zero_exact tt rest tt
 
 -- a refusal, of the index or of the server
 index_refused : (kind : ℕ) (bytes : List ℕ) (y : Response × List ℕ) → IsBytes bytes → made (λ x. Refused x) (refusal_rest kind) bytes ≡ Some y → Takes (0 ∷ kind ∷ bytes) (response_spelling y.0) y.1 × ResponseFits y.0
@@ -230,7 +239,7 @@ server_refused : (kind : ℕ) (bytes : List ℕ) (y : Response × List ℕ) → 
 server_refused kind bytes y fits e =
     let p = bind_some (turned_rest kind bytes) (λ x. Some (Served (OfServer x.0), x.1)) y e in
     let t = turned_takes kind bytes p.0 fits p.1 in
-    subst (λ (z : Response × List ℕ). Takes (0 ∷ kind ∷ bytes) (response_spelling z.0) z.1 × ResponseFits z.0) (some_is (Served (OfServer p.0.0), p.0.1) y p.2) (Takes-after 0 (kind ∷ bytes) (server_refusal_spelling p.0.0) p.0.1 t.0, (tt, tt))
+    subst (λ (z : Response × List ℕ). Takes (0 ∷ kind ∷ bytes) (response_spelling z.0) z.1 × ResponseFits z.0) (some_is (Served (OfServer p.0.0), p.0.1) y p.2) (Takes-after 0 (kind ∷ bytes) (server_refusal_spelling p.0.0) p.0.1 t.0, (tt, t.1))
 
 either_refused : (is_low : Bool) (kind : ℕ) (bytes : List ℕ) (y : Response × List ℕ) → IsBytes bytes → cond is_low (made (λ x. Refused x) (refusal_rest kind)) (made (λ x. Served (OfServer x)) (turned_rest kind)) bytes ≡ Some y
     → Takes (0 ∷ kind ∷ bytes) (response_spelling y.0) y.1 × ResponseFits y.0
@@ -240,10 +249,10 @@ either_refused false = server_refused
 refused_takes : TakesAt ResponseFits response_spelling 0 (kind_at refused_rest)
 unfolding kind_at byte_at refused_rest
 refused_takes [] y fits e = absurd cc
-refused_takes (kind ∷ bytes) y fits e = either_refused (ltb kind 24) kind bytes y (IsBytes-rest kind bytes fits) e
+refused_takes (kind ∷ bytes) y fits e = either_refused (ltb kind 19) kind bytes y (IsBytes-rest kind bytes fits) e
 
 -- the index's refusals have lower numbers
-refusal_is_low : (refusal : Refusal) → ltb (refusal_number refusal) 24 ≡ true
+refusal_is_low : (refusal : Refusal) → ltb (refusal_number refusal) 19 ≡ true
 refusal_is_low refusals.NoMemory = refl
 refusal_is_low refusals.KeyTooLong = refl
 refusal_is_low refusals.BadColumn = refl
@@ -355,10 +364,13 @@ unfolding hello_at
 hello_again version role columns run commits logged rest h =
     made_again (λ x. Hello x.0.0.0.0.0 x.0.0.0.0.1 x.0.0.0.1 x.0.0.1 x.0.1 x.1) hello_parts (((((version, role), columns), run), commits), logged) rest (((((tt, tt), tt), h.1.0), h.1.1), h.1.2)
 
-turned_served : (turned : ServerRefusal) (rest : List ℕ) → kind_at refused_rest (server_refusal_spelling turned ++ rest) ≡ Some (Served (OfServer turned), rest)
+turned_served : (turned : ServerRefusal) (rest : List ℕ) → ServerRefusalNumbers turned → kind_at refused_rest (server_refusal_spelling turned ++ rest) ≡ Some (Served (OfServer turned), rest)
 unfolding kind_at byte_at refused_rest
-turned_served NotAllowed rest = rw (turned_again NotAllowed rest) refl
-turned_served TooMuchAtOnce rest = rw (turned_again TooMuchAtOnce rest) refl
+turned_served (DiskFailed durable) rest h = rw (turned_again (DiskFailed durable) rest h) refl
+turned_served DiskFull rest h = rw (turned_again DiskFull rest h) refl
+turned_served InMemory rest h = rw (turned_again InMemory rest h) refl
+turned_served NotAllowed rest h = rw (turned_again NotAllowed rest h) refl
+turned_served TooMuchAtOnce rest h = rw (turned_again TooMuchAtOnce rest h) refl
 
 abbrev IsServedBack : ServerResponse → List ℕ → Type 0
 IsServedBack (OfServer turned) rest = Unit {0}
@@ -388,7 +400,7 @@ response_again (View page) rest h =
     made_again (λ x. View (record { at = x.0.0.0; count = x.0.0.1; sums = x.0.1; rows = x.1 })) (both_exact (both_exact (both_exact n64 n64) (counted_exact sum_exact)) pairs_exact)
     (((page.at, page.count), page.sums), page.rows) rest (((h.1.0, h.1.1), (h.0.0, h.1.2)), (h.0.1.0, pairs_whole page.rows h.0.1.1 h.1.3))
 response_again Dropped rest h = refl
-response_again (Served (OfServer turned)) rest h = turned_served turned rest
+response_again (Served (OfServer turned)) rest h = turned_served turned rest h.1
 response_again (Served (Hello version role columns run commits logged)) rest h = served_again 16 _ (Hello version role columns run commits logged) rest (served_back (Hello version role columns run commits logged) rest h)
 response_again (Served (Ping number commits)) rest h = served_again 17 _ (Ping number commits) rest (served_back (Ping number commits) rest h)
 response_again (Served (Info counts)) rest h = served_again 18 _ (Info counts) rest (served_back (Info counts) rest h)

@@ -10,7 +10,7 @@ use Rattle.mt_types.specs.RefusalNumbers.{refusal_of}
 use Rattle.mt_wire.specs.declared.response.Response.{Response}
 use Rattle.mt_wire.specs.declared.response.Response.TheVariants.{Refused, Done, View, Dropped, Server as Served}
 use Rattle.mt_wire.specs.declared.server.ServerRefusal.{ServerRefusal}
-use Rattle.mt_wire.specs.declared.server.ServerRefusal.TheVariants.{NotAllowed, TooMuchAtOnce}
+use Rattle.mt_wire.specs.declared.server.ServerRefusal.TheVariants.{DiskFailed, DiskFull, InMemory, NotAllowed, TooMuchAtOnce}
 use Rattle.mt_wire.specs.declared.server.Role.{Role}
 use Rattle.mt_wire.specs.declared.server.Role.TheVariants.{Read, Write, All}
 use Rattle.mt_wire.specs.declared.server.Count.{Count}
@@ -102,14 +102,17 @@ zero_at bytes = do
 
 unfoldable pub turned_rest : ℕ → Reader ServerRefusal
 turned_rest kind =
-    if kind == 24 then made (λ _. NotAllowed) zero_at
+    if kind == 19 then made (λ x. DiskFailed x) (number_at w64)
+    else if kind == 20 then made (λ _. DiskFull) zero_at
+    else if kind == 21 then made (λ _. InMemory) zero_at
+    else if kind == 24 then made (λ _. NotAllowed) zero_at
     else if kind == 25 then made (λ _. TooMuchAtOnce) zero_at
     else λ bytes. None
 
--- a refusal: from 24 on it is the server's
+-- a refusal: from 19 on it is the server's
 unfoldable pub refused_rest : ℕ → Reader Response
 refused_rest kind =
-    if nat_lt kind 24 then made (λ x. Refused x) (refusal_rest kind)
+    if nat_lt kind 19 then made (λ x. Refused x) (refusal_rest kind)
     else made (λ x. Served (OfServer x)) (turned_rest kind)
 
 -- a role, without more bytes

@@ -36,12 +36,14 @@ awaited_takes : (kind : ℕ) (bytes : List ℕ) (y : Awaited × List ℕ) → Is
 unfolding awaited_rest
 awaited_takes zero = made_takes (λ _. awaits.Commits) awaited_spelling AwaitedNumbers 0 nothing_exact (λ x. refl) (λ x h. tt)
 awaited_takes (suc zero) = made_takes (λ x. awaits.View (record { 0 = x })) awaited_spelling AwaitedNumbers 1 n64 (λ x. refl) (λ x h. h)
-awaited_takes (suc (suc kind)) = λ bytes y fits e. absurd cc
+awaited_takes (suc (suc zero)) = made_takes (λ _. awaits.Durable) awaited_spelling AwaitedNumbers 2 nothing_exact (λ x. refl) (λ x h. tt)
+awaited_takes (suc (suc (suc kind))) = λ bytes y fits e. absurd cc
 
 awaited_again : (x : Awaited) (rest : List ℕ) → AwaitedNumbers x → kind_at awaited_rest (awaited_spelling x ++ rest) ≡ Some (x, rest)
 unfolding kind_at byte_at awaited_rest
 awaited_again awaits.Commits rest h = refl
 awaited_again (awaits.View view) rest h = made_again (λ x. awaits.View (record { 0 = x })) n64 view.0 rest h
+awaited_again awaits.Durable rest h = refl
 
 awaited_exact : IsExact Awaited AwaitedNumbers awaited_spelling (kind_at awaited_rest)
 awaited_exact = kind_exact awaited_takes awaited_again

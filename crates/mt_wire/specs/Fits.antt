@@ -17,6 +17,8 @@ use Rattle.mt_wire.specs.declared.response.Response.{Response}
 use Rattle.mt_wire.specs.declared.response.Response.TheVariants.{Refused, Done, View, Dropped, Server as Served}
 use Rattle.mt_wire.specs.declared.server.Awaited.{Awaited}
 use Rattle.mt_wire.specs.declared.server.Awaited.TheVariants as awaits
+use Rattle.mt_wire.specs.declared.server.ServerRefusal.{ServerRefusal}
+use Rattle.mt_wire.specs.declared.server.ServerRefusal.TheVariants.{DiskFailed}
 use Rattle.mt_wire.specs.declared.server.ListedView.{ListedView}
 use Rattle.mt_wire.specs.declared.server.ServerQuery.{ServerQuery}
 use Rattle.mt_wire.specs.declared.server.ServerQuery.TheVariants as asks
@@ -103,6 +105,7 @@ SpecNumbers (PrefixOf key test) = TestNumbers test
 abbrev pub AwaitedNumbers : Awaited → Type 0
 AwaitedNumbers awaits.Commits = Unit {0}
 AwaitedNumbers (awaits.View view) = view.0 < 2 ^ 64
+AwaitedNumbers awaits.Durable = Unit {0}
 
 abbrev pub ServerNumbers : ServerQuery → Type 0
 ServerNumbers (asks.Ping number) = number < 2 ^ 64
@@ -143,8 +146,12 @@ abbrev pub ListedNumbers : ListedView → Type 0
 ListedNumbers view =
     (view.number.0 < 2 ^ 64) × (view.at < 2 ^ 64) × (view.rows < 2 ^ 64) × SpecNumbers view.spec
 
+abbrev pub ServerRefusalNumbers : ServerRefusal → Type 0
+ServerRefusalNumbers (DiskFailed durable) = durable < 2 ^ 64
+ServerRefusalNumbers _ = Unit {0}
+
 abbrev pub ServedNumbers : ServerResponse → Type 0
-ServedNumbers (OfServer refusal) = Unit {0}
+ServedNumbers (OfServer refusal) = ServerRefusalNumbers refusal
 ServedNumbers (Hello version role columns run commits logged) =
     (run < 2 ^ 128) × (commits < 2 ^ 64) × (logged < 2 ^ 64)
 ServedNumbers (Ping number commits) = (number < 2 ^ 64) × (commits < 2 ^ 64)

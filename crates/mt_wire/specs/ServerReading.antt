@@ -21,7 +21,8 @@ ping_at = made (λ x. Ping x) (number_at w64)
 unfoldable pub awaited_rest : ℕ → Reader Awaited
 awaited_rest zero = made (λ _. awaits.Commits) nothing_at
 awaited_rest (suc zero) = made (λ x. awaits.View (record { 0 = x })) (number_at w64)
-awaited_rest (suc (suc kind)) = λ bytes. None
+awaited_rest (suc (suc zero)) = made (λ _. awaits.Durable) nothing_at
+awaited_rest (suc (suc (suc kind))) = λ bytes. None
 
 unfoldable pub wait_at : Reader ServerQuery
 wait_at = made (λ x. Wait x.0.0 x.0.1 x.1) (both (both (kind_at awaited_rest) (number_at w64)) (number_at w32))

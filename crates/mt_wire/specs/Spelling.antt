@@ -26,7 +26,7 @@ use Rattle.mt_wire.specs.declared.server.Awaited.{Awaited}
 use Rattle.mt_wire.specs.declared.server.Awaited.TheVariants as awaits
 use Rattle.mt_wire.specs.declared.server.Count.{Count}
 use Rattle.mt_wire.specs.declared.server.ListedView.{ListedView}
-use Rattle.mt_wire.specs.ServerNumbers.{role_number, server_refusal_number}
+use Rattle.mt_wire.specs.ServerNumbers.{role_number, server_refusal_detail, server_refusal_number}
 use Rattle.mt_wire.specs.declared.version.WireVersion.{WireVersion}
 use Rattle.mt_wire.specs.declared.frame.Frame.{Frame}
 use Rattle.mt_wire.specs.Versions.{version_byte}
@@ -69,6 +69,7 @@ flag_spelling true = 1 ∷ []
 abbrev pub awaited_spelling : Awaited → List ℕ
 awaited_spelling awaits.Commits = 0 ∷ []
 awaited_spelling (awaits.View view) = 1 ∷ to_be_bytes w64 view.0
+awaited_spelling awaits.Durable = 2 ∷ []
 
 abbrev pub server_spelling : ServerQuery → List ℕ
 server_spelling (asks.Hello newest secret name) = 16 ∷ newest ∷ (key_spelling secret ++ key_spelling name)
@@ -134,7 +135,7 @@ listed_spelling view =
     to_be_bytes w64 view.number.0 ++ to_be_bytes w64 view.at ++ to_be_bytes w64 view.rows ++ spec_spelling view.spec
 
 abbrev pub served_spelling : ServerResponse → List ℕ
-served_spelling (OfServer refusal) = 0 ∷ server_refusal_number refusal ∷ to_be_bytes w64 0
+served_spelling (OfServer refusal) = 0 ∷ server_refusal_number refusal ∷ to_be_bytes w64 (server_refusal_detail refusal)
 served_spelling (Hello version role columns run commits logged) =
     16 ∷ version ∷ role_number role ∷ columns
     ∷ (sum_spelling run ++ to_be_bytes w64 commits ++ to_be_bytes w64 logged)

@@ -1,7 +1,7 @@
 //! What a client asks of the server itself, and what it answers. In version 3.
 
 ghost use Rattle.std.specs.Prelude.{◌≡◌};
-ghost use Rattle.mt_wire.specs.ServerNumbers.{role_number, server_refusal_number};
+ghost use Rattle.mt_wire.specs.ServerNumbers.{role_number, server_refusal_detail, server_refusal_number};
 
 use bytes::Bytes;
 use mt_types::copying::TryCopy;
@@ -47,6 +47,8 @@ pub enum Awaited {
     Commits,
     /// The number of commits at which a view is.
     View(ViewNo),
+    /// The number of commits that no crash undoes.
+    Durable,
 }
 
 /// What a client may do.
@@ -106,6 +108,15 @@ impl TryCopy for ListedView {
 /// Why a server refuses a query.
 #[derive(Clone, Copy, Debug, PartialEq, Eq)]
 pub enum ServerRefusal {
+    /// The disk has failed, so that no row can be changed any more.
+    DiskFailed {
+        /// The number of the last commit that no crash undoes.
+        durable: u64,
+    },
+    /// The disk is full, so that no row can be changed until it has room.
+    DiskFull,
+    /// The server has its rows in memory alone, so that no commit is ever durable.
+    InMemory,
     /// The client may not ask it.
     NotAllowed,
     /// A query of the server isn't alone in its frame.
@@ -118,8 +129,21 @@ impl ServerRefusal {
         ensures { result ≡ server_refusal_number self }
     {
         match self {
+            ServerRefusal::DiskFailed { .. } => 19,
+            ServerRefusal::DiskFull => 20,
+            ServerRefusal::InMemory => 21,
             ServerRefusal::NotAllowed => 24,
             ServerRefusal::TooMuchAtOnce => 25,
+        }
+    }
+
+    /// Returns the number that is spelled with the refusal, or 0 if it has none.
+    pub fn detail(self) -> u64
+        ensures { result ≡ server_refusal_detail self }
+    {
+        match self {
+            ServerRefusal::DiskFailed { durable } => durable,
+            _ => 0,
         }
     }
 }
@@ -158,7 +182,7 @@ pub enum ServerResponse {
     Waited {
         is_reached: bool,
         commits: u64,
-        /// The number of commits at which the view is, or 0 if the wait was for commits.
+        /// The number of commits at which the view is, or that are durable, or 0 if the wait was for commits.
         view: u64,
     },
     /// The server ends.

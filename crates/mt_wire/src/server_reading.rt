@@ -49,6 +49,7 @@ fn awaited_of_kind(input: &mut Bytes, kind: u8) -> Result<Awaited, ReadError>
     match kind {
         0 => Ok(Awaited::Commits),
         1 => Ok(Awaited::View(ViewNo(number64(input)?))),
+        2 => Ok(Awaited::Durable),
         _ => Err(ReadError::Misspelled),
     }
 }

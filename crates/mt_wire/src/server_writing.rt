@@ -20,6 +20,7 @@ fn write_awaited(out: &mut Vec<u8>, of: Awaited) -> Result<(), AllocError>
             out.push(1)?;
             number64(out, view.0)
         }
+        Awaited::Durable => Ok(out.push(2)?),
     }
 }
 
@@ -124,7 +125,7 @@ impl Writable for ServerResponse {
         match self {
             ServerResponse::Refused(turned) => {
                 out.extend_from_slice(&[0, turned.number()])?;
-                number64(out, 0)
+                number64(out, turned.detail())
             }
             ServerResponse::Hello {
                 version,

@@ -4,7 +4,8 @@ use Rattle.mt_map.specs.Tidies.{MapView}
 use Rattle.mt_replay.specs.Replay.{change_again}
 use Rattle.mt_store.specs.Extending.{Adds}
 use Rattle.mt_store.proofs.ExtendLemmas.{adds_none}
-use Rattle.mt_store.proofs.MakingLemmas.{all_entries, entry_more, of_commits, of_others}
+use Rattle.mt_replay.proofs.EntryLemmas.{of_commits, of_others}
+use Rattle.mt_store.proofs.MakingLemmas.{all_entries, entry_more}
 use Rattle.mt_store.proofs.replaying.replay.Goals.{in-Commits+in_ok-make_all, in_default}
 use Rattle.mt_store.proofs.replaying.replay.Goals as goal
 

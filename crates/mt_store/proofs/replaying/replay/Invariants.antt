@@ -1,7 +1,6 @@
 use Rattle.std.proofs.Common.{map, take}
-use Rattle.mt_replay.specs.Replay.{change_again}
+use Rattle.mt_replay.specs.Replay.{change_again, records_in}
 use Rattle.mt_store.specs.Extending.{Adds}
-use Rattle.mt_store.specs.Stored.{records_in}
 use Rattle.mt_store.proofs.replaying.replay.Given as goal
 
 -- the commits of the entries so far are made

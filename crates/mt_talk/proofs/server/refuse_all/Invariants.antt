@@ -5,4 +5,4 @@ use Rattle.mt_talk.specs.Serving.{refusals}
 use Rattle.mt_talk.proofs.server.refuse_all.Given as goal
 
 abbrev pub invariant-loop-query : goal.invariant-loop-query
-invariant-loop-query l = (l.responses.items ≡ refusals (take l._query-index l.queries)) × AllByRecursion ResponseIsLimited l.responses.items
+invariant-loop-query l = (l.responses.items ≡ refusals l.refusal (take l._query-index l.queries)) × AllByRecursion ResponseIsLimited l.responses.items

@@ -1,8 +1,7 @@
 use Rattle.std.proofs.Common.{◌∙◌, List, map, subst}
 use Rattle.mt_frame.specs.declared.entry.Entry.{Entry}
-use Rattle.mt_replay.specs.Replay.{change_again}
+use Rattle.mt_replay.specs.Replay.{change_again, records_in}
 use Rattle.mt_store.specs.Extending.{Adds}
-use Rattle.mt_store.specs.Stored.{records_in}
 use Rattle.mt_store.proofs.OpenLemmas.{opens_again}
 use Rattle.mt_store.proofs.store.Store.open.Goals as goal
 

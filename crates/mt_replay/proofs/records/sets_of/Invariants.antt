@@ -1,7 +1,7 @@
 use Rattle.std.proofs.Common.{◌≡◌, take}
 use Rattle.mt_asked.specs.Borrowed.{sets_of}
 use Rattle.mt_replay.specs.Replay.{numbered}
-use Rattle.mt_store.proofs.replaying.sets_of.Given as goal
+use Rattle.mt_replay.proofs.records.sets_of.Given as goal
 
 -- the columns so far are numbered
 abbrev pub invariant-loop-number : goal.invariant-loop-number

@@ -1,7 +1,7 @@
 use Rattle.std.proofs.Common.{◌∙◌, arith, ap}
 use Rattle.mt_asked.specs.Borrowed.{sets_of}
-use Rattle.mt_store.proofs.NumberedLemmas.{set_more}
-use Rattle.mt_store.proofs.replaying.sets_of.Goals as goal
+use Rattle.mt_replay.proofs.NumberedLemmas.{set_more}
+use Rattle.mt_replay.proofs.records.sets_of.Goals as goal
 
 pub loop-number-preserved : goal.loop-number-preserved
 loop-number-preserved c =
