@@ -59,6 +59,11 @@ impl Acceptor {
         })
     }
 
+    /// Returns by what it waits.
+    pub fn poll(&self) -> &Poll {
+        &self.poll
+    }
+
     /// Watches standard input, which must be a pipe, a socket or a terminal.
     pub fn watch_input(&self) -> io::Result<()> {
         self.poll

@@ -9,10 +9,9 @@ use mt_serve::answerer::Answerer;
 use mt_serve::fault::SessionFault;
 use mt_shared::driving::Shared;
 use mt_shared::pass::Pass;
-use mt_talk::facts::Facts;
 use mt_talk::serving::Server;
 use mt_talk::talk::Talk;
-use mt_wire::server::{Awaited, Role, ServerQuery};
+use mt_wire::server::{Role, ServerQuery};
 use std::alloc::Global;
 use std::io::{ErrorKind, Read, Write};
 use std::mem;
@@ -35,28 +34,32 @@ pub enum Front {
 #[derive(Drop)]
 pub struct Connection {
     pub stream: Stream,
-    talk: Talk,
+    pub(crate) talk: Talk,
     /// What the frame at the front asks for, as `find` has found.
     pub front: Front,
     /// Whether it is in the list of a round.
     pub is_listed: bool,
     /// Under what it is among the connections of the worker that wait, if it is.
     pub parked: Option<Parked>,
+    // How many commits are to be durable before its answers go.
+    pub(crate) held: Option<u64>,
+    // Whether a frame that may have changed rows was answered in this round.
+    pub(crate) has_changed: bool,
     // What the frame at the front waits for, since it was looked at.
-    awaited: Option<Parked>,
+    pub(crate) awaited: Option<Parked>,
     // Whether that has come, or can't come any more.
-    is_woken: bool,
+    pub(crate) is_woken: bool,
     // How many bytes were read and written since they were counted.
     moved: (usize, usize),
     // What its client may do, if it was admitted.
-    role: Option<Role>,
+    pub(crate) role: Option<Role>,
     // What that frame weighs, what may still be asked for in this round, and whether more frames may be there.
     weight: usize,
     budget: usize,
     has_more: bool,
     // Whether bytes may be there that weren't read, and whether the peer has ended its stream after them.
     is_unread: bool,
-    is_hung_up: bool,
+    pub(crate) is_hung_up: bool,
     // Whether all bytes were read.
     has_ended: bool,
     fault: Option<ConnectionFault>,
@@ -77,6 +80,8 @@ impl Connection {
             front: Front::Nothing,
             is_listed: false,
             parked: None,
+            held: None,
+            has_changed: false,
             awaited: None,
             is_woken: false,
             moved: (0, 0),
@@ -102,25 +107,6 @@ impl Connection {
         self.is_woken = self.is_woken || is_hung_up;
     }
 
-    /// Notes that what it waits for has come, or its time.
-    pub fn end_wait(&mut self) {
-        self.is_woken = true;
-    }
-
-    // Whether the frame at the front waits.
-    fn is_waiting(&self) -> bool {
-        self.awaited.is_some() && !self.is_woken
-    }
-
-    /// Returns what the frame at the front waits for, if it waits.
-    pub fn awaited(&self) -> Option<Parked> {
-        if self.is_waiting() {
-            self.awaited
-        } else {
-            None
-        }
-    }
-
     /// Returns the query of the server that is alone in the frame at the front.
     pub fn server_query(&self) -> Option<&ServerQuery> {
         match self.talk.front() {
@@ -129,57 +115,13 @@ impl Connection {
         }
     }
 
-    // What the frame at the front waits for, up to which number, and for how many milliseconds, if it is a wait.
-    fn wait_asked(&self) -> Option<(Awaited, u64, u64)> {
-        match self.server_query() {
-            Some(
-                ServerQuery::Wait {
-                    of,
-                    number,
-                    milliseconds,
-                },
-            ) => Some((*of, *number, u64::from(*milliseconds))),
-            _ => None,
-        }
-    }
-
-    /// Returns whether the frame at the front is a wait whose end hasn't come. Then it is answered later.
-    pub fn waits(&mut self, facts: &Facts, now: u64) -> bool {
-        let Some((of, number, lasts)) = self.wait_asked() else {
-            return false;
-        };
-        let (view, at) = match of {
-            Awaited::Commits => (0, Some(facts.commits)),
-            Awaited::View(view) => (view.0, facts.watched),
-        };
-        let is_reached = match at {
-            Some(at) => number <= at,
-            None => true,
-        };
-        let until = match self.awaited {
-            Some(awaited) => awaited.until,
-            None => now.saturating_add(lasts),
-        };
-        if is_reached || until <= now || self.is_hung_up || self.role.is_none() {
-            return false;
-        }
-        self.awaited = Some(Parked {
-            view,
-            number,
-            until,
-        });
-        self.is_woken = false;
-        self.front = Front::Nothing;
-        true
-    }
-
     /// Returns how many bytes were read and written since the last call.
     pub fn take_moved(&mut self) -> (usize, usize) {
         mem::replace(&mut self.moved, (0, 0))
     }
 
     // The session ends with this fault, unless it has met another one before.
-    fn fail(&mut self, fault: ConnectionFault) {
+    pub(crate) fn fail(&mut self, fault: ConnectionFault) {
         if self.fault.is_none() {
             self.fault = Some(fault);
         }
@@ -221,7 +163,8 @@ impl Connection {
     pub fn begin(&mut self, piece: &mut [u8], now: u64) {
         self.is_listed = false;
         self.budget = TURN;
-        if !self.talk.output().is_empty() {
+        self.has_changed = false;
+        if self.may_write() {
             self.flush(now);
         }
         self.find();
@@ -273,6 +216,7 @@ impl Connection {
         shared: &mut S,
         pass: &mut Pass,
     ) {
+        self.has_changed = self.has_changed || self.front == Front::Others;
         self.front = Front::Nothing;
         self.awaited = None;
         self.is_woken = false;
@@ -286,6 +230,11 @@ impl Connection {
         if self.role.is_none() {
             self.fail(ConnectionFault::NoHello);
         }
+    }
+
+    // Whether bytes are to go, and may go.
+    fn may_write(&self) -> bool {
+        self.held.is_none() && !self.talk.output().is_empty()
     }
 
     // Writes what is to go, as much as the system takes. Returns how much that was.
@@ -331,10 +280,10 @@ impl Connection {
 
     /// Ends a round: writes what is to go, and notes whether a frame has begun.
     pub fn end(&mut self, now: u64) {
-        if self.talk.output().is_empty() {
-            self.went = now;
-        } else {
+        if self.may_write() {
             self.flush(now);
+        } else {
+            self.went = now;
         }
         if self.talk.is_between_frames() || self.awaited.is_some() {
             self.began = None;
@@ -370,6 +319,9 @@ impl Connection {
     /// If one of the limits is over, breaks the session off, and returns whether one is. A session that waits between
     /// frames ends without a fault.
     pub fn is_late(&mut self, limits: Limits, now: u64) -> bool {
+        if self.held.is_some() {
+            return false;
+        }
         if self.has_output() {
             if is_over(limits.write, self.went, now) {
                 self.fail(ConnectionFault::from(SessionFault::Write));

@@ -13,6 +13,9 @@ pub enum ConnectionFault {
     /// It has said no hello with a secret of the server.
     #[error("no hello with a secret of the server")]
     NoHello,
+    /// The disk failed before its changes were durable.
+    #[error("the disk failed before its changes were durable")]
+    NotDurable,
 }
 
 impl ConnectionFault {
@@ -21,6 +24,7 @@ impl ConnectionFault {
         match self {
             ConnectionFault::Session(fault) => fault.number(),
             ConnectionFault::NoHello => 8,
+            ConnectionFault::NotDurable => 12,
         }
     }
 }

@@ -5,7 +5,8 @@ ghost use Rattle.mt_shared.specs.Moments.{machine_of};
 ghost use Rattle.mt_loop.specs.Listing.{listed, ListsSomewhere};
 
 use crate::desk::Desk;
-use crate::parking::Parking;
+use crate::durability::{DiskState, Durability};
+use crate::parking::{DURABLE, Parking};
 use mt_shared::door::Door;
 use mt_shared::map::SharedMap;
 use mt_shared::moment::Moment;
@@ -15,7 +16,7 @@ use mt_types::copying::TryCopy;
 use mt_types::limits::MAX_VIEWS;
 use mt_types::numbers::ViewNo;
 use mt_types::refusal::Refusal;
-use mt_wire::server::{Awaited, ListedView, ServerQuery};
+use mt_wire::server::{Awaited, ListedView, ServerQuery, ServerRefusal};
 use std::alloc::Global;
 use std::sync::Wait;
 use std::sync::atomic::{AtomicUsize, Ordering};
@@ -86,6 +87,8 @@ pub struct Gauge<'a, R> {
     pub desks: &'a [Desk],
     pub tally: &'a Tally,
     pub start: Instant,
+    /// What is known of the log, if commits go to one.
+    pub durability: Option<&'a Durability>,
 }
 
 /// Returns how many connections are open.
@@ -157,19 +160,69 @@ impl<'a, R: Wait + Clock> Gauge<'a, R> {
         }
     }
 
-    /// Returns how many commits there are, under the number 0, and at which commit each view is, under its number, of those
-    /// that connections wait for. A view that isn't there has the greatest number.
+    /// Returns how many commits there are.
+    pub fn commits(&self) -> u64 {
+        Door::new(self.index, self.rt, 1).moment().commits()
+    }
+
+    /// Returns the number of the last commit that no crash undoes, if commits go to a log.
+    pub fn durable(&self) -> Option<u64> {
+        self.durability.map(|durability| durability.durable())
+    }
+
+    /// Returns whether the disk of the log has failed.
+    pub fn has_lost_log(&self) -> bool {
+        match self.durability {
+            Some(durability) => durability.disk() == DiskState::Failed,
+            None => false,
+        }
+    }
+
+    /// Returns why rows can't be changed now, if they can't.
+    pub fn hindrance(&self) -> Option<ServerRefusal> {
+        let durability = self.durability?;
+        match durability.disk() {
+            DiskState::Usable => None,
+            DiskState::Full => Some(ServerRefusal::DiskFull),
+            DiskState::Failed => Some(ServerRefusal::DiskFailed {
+                durable: durability.durable(),
+            }),
+        }
+    }
+
+    /// Returns whether so many commits wait for the log that changes are put off.
+    pub fn is_behind(&self) -> bool {
+        match self.durability {
+            Some(durability) => durability.is_behind() && durability.disk() == DiskState::Usable,
+            None => false,
+        }
+    }
+
+    /// After changes: notes how many commits there are, and calls the thread of the log. Returns the number of commits up to
+    /// which they are durable when they may be answered, if they aren't yet.
+    pub fn log_changes(&self) -> Option<u64> {
+        let durability = self.durability?;
+        let newest = self.commits();
+        durability.note_newest(newest);
+        durability.call(self.rt);
+        (durability.is_waited_for() && newest > durability.durable()).then_some(newest)
+    }
+
+    /// Returns how many commits there are, under the number 0, at which commit each view is, under its number, and how many
+    /// commits are durable, under `DURABLE`, of those that connections wait for. A view that isn't there has the greatest
+    /// number.
     pub fn reached(&self, alloc: Global, parking: &Parking) -> Vec<(u64, u64)> {
         let door = Door::new(self.index, self.rt, 1);
         let moment = door.moment();
         let mut reached = Vec::new(alloc);
         let mut next = parking.next_view(0);
-        for _ in 0..=MAX_VIEWS {
+        for _ in 0..=MAX_VIEWS.saturating_add(1) {
             let Some(view) = next else {
                 break;
             };
             let at = match (view, moment.view(ViewNo(view))) {
                 (0, _) => moment.commits(),
+                (DURABLE, _) => self.durable().unwrap_or(0),
                 (_, Some(state)) => state.at(),
                 (_, None) => u64::MAX,
             };
@@ -213,6 +266,7 @@ impl<'a, R: Wait + Clock> Gauge<'a, R> {
             milliseconds: self.now(),
             views: None,
             watched: None,
+            durable: self.durable(),
         };
         self.read_index(alloc, query, &mut facts);
         facts

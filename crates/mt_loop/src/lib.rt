@@ -4,10 +4,13 @@
 pub mod accepting;
 pub mod address;
 pub mod connection;
+mod delaying;
 pub mod desk;
+pub mod durability;
 mod fault;
 mod gauge;
 pub mod limits;
+pub mod logging;
 mod parking;
 pub mod serving;
 pub mod stop;

@@ -3,10 +3,13 @@
 use std::alloc::{AllocError, Global};
 use std::collections::{BTreeMap, BTreeSet};
 
+/// The number under which commits that are durable are waited for. No view has it.
+pub const DURABLE: u64 = u64::MAX;
+
 /// What a connection waits for, and until when.
 #[derive(Clone, Copy, Debug, PartialEq, Eq)]
 pub struct Parked {
-    /// The number of the view whose commits are waited for, or 0 for those of the index.
+    /// The number of the view whose commits are waited for, or 0 for those of the index, or `DURABLE`.
     pub view: u64,
     /// The number of commits.
     pub number: u64,
@@ -68,7 +71,8 @@ impl Parking {
         }
     }
 
-    /// Returns the first number, from `view` on, of a view that is waited for. The index has the number 0.
+    /// Returns the first number, from `view` on, of a view that is waited for. The index has the number 0, and what is
+    /// durable has `DURABLE`.
     pub fn next_view(&self, view: u64) -> Option<u64> {
         match self.numbers.range((view, 0, 0)..).next() {
             Some(((next, _, _), _)) => Some(*next),

@@ -3,8 +3,10 @@
 use crate::accepting::Acceptor;
 use crate::address::{Address, Listener, remove_sockets};
 use crate::desk::Desk;
+use crate::durability::Durability;
 use crate::gauge::{Gauge, Tally};
 use crate::limits::Limits;
+use crate::logging::{Log, keep_log};
 use crate::stop::Stop;
 use crate::worker::{Worker, work};
 use mio::Poll;
@@ -12,6 +14,7 @@ use mt_shared::holding::HoldingDoor;
 use mt_shared::map::SharedMap;
 use mt_shared::pass::Pass;
 use mt_talk::tokens::Token;
+use sqlite_disk::Disk;
 use std::alloc::Global;
 use std::net::Net;
 use std::random::RandomSource;
@@ -131,6 +134,14 @@ fn run_name<R: RandomSource>(rt: &R) -> io::Result<u128> {
     Ok(u128::from_be_bytes(bytes))
 }
 
+// What is known of a log before commits go to it.
+fn durability_of<D: Disk + Drop>(log: &Option<Log<D>>) -> Option<Durability> {
+    match log {
+        Some(log) => Some(Durability::new(log.syncing, log.logger.position().newest)),
+        None => None,
+    }
+}
+
 // Listens at these addresses.
 fn listen_all<R: Net + Files>(
     rt: &R,
@@ -144,43 +155,91 @@ fn listen_all<R: Net + Files>(
     Ok(listeners)
 }
 
-/// Serves an index at these addresses to clients with these secrets (to all if there are none), by a worker for each pass.
-/// When it has begun it prints a line for each address: `listening PORT` or `listening unix:PATH`. Returns the passes when
-/// all sessions have ended.
+// Runs the threads of a server and that of its log, if it has one. The log is kept until no more commits are made. Returns the
+// passes, and whether all commits are in the log.
+fn run_logged<R, D>(
+    alloc: Global,
+    gauge: &Gauge<'_, R>,
+    acceptor: &mut Acceptor,
+    addresses: &[Address<'_>],
+    workers: Vec<Worker>,
+    log: Option<Log<D>>,
+) -> io::Result<Ended>
+where
+    R: Threads + Wait + Clock + Sync + Eprint,
+    D: Disk + Drop + Send,
+{
+    let rt = gauge.rt;
+    let stop = Stop::new(acceptor.poll())?;
+    let (Some(log), Some(durability)) = (log, gauge.durability) else {
+        let passes = run(alloc, gauge, acceptor, addresses, workers, &stop)?;
+        let is_logged = true;
+        return Ok(Ended { passes, is_logged });
+    };
+    thread::scope(thread::scope_env(), rt, |scope| -> io::Result<Ended> {
+        let keeper = scope.spawn(move || keep_log(gauge, durability, log))?;
+        let ended = run(alloc, gauge, acceptor, addresses, workers, &stop);
+        durability.end(rt);
+        let is_logged = keeper.join(rt);
+        let passes = ended?;
+        Ok(Ended { passes, is_logged })
+    })
+}
+
+/// Where a server listens, and for which clients.
+#[derive(Clone, Copy)]
+pub struct Access<'a> {
+    pub addresses: &'a [Address<'a>],
+    /// The secrets of its clients. If there are none, all may do all.
+    pub tokens: &'a [Token],
+}
+
+/// How the serving of an index has ended.
+#[derive(Drop)]
+pub struct Ended {
+    pub passes: Vec<Pass>,
+    /// Whether all commits are in the log, if there is one.
+    pub is_logged: bool,
+}
+
+/// Serves an index by a worker for each pass. When it has begun it prints a line for each address: `listening PORT` or
+/// `listening unix:PATH`. If there is a log, commits go to it. Returns when all sessions have ended.
 ///
 /// # Errors
 ///
 /// If listening, a thread, a wait or the print failed, or if out of memory at the start.
-pub fn serve<R>(
+pub fn serve<R, D>(
     rt: &R,
     alloc: Global,
     index: &SharedMap,
     passes: Vec<Pass>,
-    addresses: &[Address<'_>],
+    access: Access<'_>,
     plan: Plan,
-    tokens: &[Token],
-) -> io::Result<Vec<Pass>>
+    log: Option<Log<D>>,
+) -> io::Result<Ended>
 where
     R: Net + Files + Threads + Wait + Clock + RandomSource + Sync + Eprint,
+    D: Disk + Drop + Send,
 {
+    let addresses = access.addresses;
     let listeners = listen_all(rt, alloc, addresses)?;
-    let poll = Poll::new(rt)?;
-    let stop = Stop::new(&poll)?;
     let most = plan.limits.connections;
-    let mut acceptor = Acceptor::new(alloc, poll, listeners, most, plan.sessions)?;
+    let mut acceptor = Acceptor::new(alloc, Poll::new(rt)?, listeners, most, plan.sessions)?;
     if plan.watches_input {
         acceptor.watch_input()?;
     }
-    let (desks, workers) = make_workers(rt, alloc, passes, plan.limits, tokens)?;
+    let (desks, workers) = make_workers(rt, alloc, passes, plan.limits, access.tokens)?;
     let tally = Tally::new(run_name(rt)?);
+    let durability = durability_of(&log);
     let gauge = Gauge {
         rt,
         index,
         desks: &desks,
         tally: &tally,
         start: Instant::now(rt)?,
+        durability: durability.as_ref(),
     };
-    let ended = run(alloc, &gauge, &mut acceptor, addresses, workers, &stop);
+    let ended = run_logged(alloc, &gauge, &mut acceptor, addresses, workers, log);
     remove_sockets(rt, addresses);
     ended
 }

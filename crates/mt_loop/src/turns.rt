@@ -74,9 +74,21 @@ impl Turns {
         }
         shared.hold(Hold::Nothing);
         let facts = gauge.facts(self.alloc, query);
-        let waits = !self.is_stopping && connection.waits(&facts, gauge.now());
+        let is_lost = gauge.has_lost_log();
+        let waits = !self.is_stopping && connection.waits(&facts, gauge.now(), is_lost);
         self.server.keeper.facts = facts;
         waits
+    }
+
+    // Before a frame that may change rows is answered: notes why it can't, if it can't, or puts it off while the log lacks
+    // too many commits. Returns whether it is put off.
+    fn puts_off<R: Wait + Clock>(&mut self, gauge: &Gauge<'_, R>, connection: &mut Connection) -> bool {
+        self.server.keeper.read_only = gauge.hindrance();
+        let is_behind = !self.is_stopping && gauge.is_behind();
+        if is_behind {
+            connection.put_off(gauge.now());
+        }
+        is_behind
     }
 
     /// Returns what a client may do that has said no hello.
@@ -118,7 +130,9 @@ impl Turns {
             if connection.front != front {
                 continue;
             }
-            if self.prepare(gauge, shared, connection) {
+            if front == Front::Others && self.puts_off(gauge, connection)
+                || self.prepare(gauge, shared, connection)
+            {
                 continue;
             }
             self.has_changed = self.has_changed || front == Front::Others;
@@ -130,6 +144,7 @@ impl Turns {
             self.queries = self.queries.saturating_add(count);
             if held >= HELD {
                 shared.hold(Hold::Nothing);
+                let _number = gauge.log_changes();
                 held = 0;
             }
         }

@@ -2,6 +2,7 @@
 
 use crate::desk::Desk;
 use crate::gauge::Gauge;
+use crate::parking::DURABLE;
 use crate::worker::Worker;
 use std::sync::Wait;
 use std::time::Clock;
@@ -45,6 +46,7 @@ impl Worker {
         self.unpark(key, desk);
         if let Some(connection) = self.connections.get_mut(key) {
             connection.end_wait();
+            connection.let_go();
             if !connection.is_listed {
                 connection.is_listed = true;
                 let _ = self.again.push(key);
@@ -76,6 +78,22 @@ impl Worker {
         }
         for (view, at) in gauge.reached(self.alloc, &self.parking) {
             self.release_reached(view, at, desk);
+        }
+        if gauge.has_lost_log() {
+            self.lose_all(desk);
+        }
+    }
+
+    // The disk of the log has failed: the connections whose changes wait for it are broken off, and no wait for it lasts.
+    fn lose_all(&mut self, desk: &Desk) {
+        for _ in 0..=self.connections.len() {
+            let Some(key) = self.parking.reached(DURABLE, u64::MAX) else {
+                break;
+            };
+            if let Some(connection) = self.connections.get_mut(key) {
+                connection.lose();
+            }
+            self.release(key, desk);
         }
     }
 }

@@ -248,6 +248,18 @@ impl Worker {
         }
     }
 
+    // After changes: calls the thread of the log. Answers to changes wait until these are durable, if they are to.
+    fn hold_all<R: Wait + Clock>(&mut self, gauge: &Gauge<'_, R>, keys: &[usize]) {
+        let Some(number) = gauge.log_changes() else {
+            return;
+        };
+        for key in keys {
+            if let Some(connection) = self.connections.get_mut(*key) {
+                connection.hold(number);
+            }
+        }
+    }
+
     // One round: waits, reads, answers and writes.
     fn round<R: Wait + Clock + Eprint, S: Shared>(
         &mut self,
@@ -268,6 +280,7 @@ impl Worker {
         self.turns
             .answer_all(gauge, shared, &mut self.connections, &keys);
         if self.turns.take_change() {
+            self.hold_all(gauge, &keys);
             gauge.wake_waiting();
         }
         self.obey(gauge, stop);

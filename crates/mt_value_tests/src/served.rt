@@ -6,7 +6,7 @@ use mt_types::items::Items;
 use mt_wire::fault::WireFault;
 use mt_wire::query::Query;
 use mt_wire::response::Response;
-use mt_wire::server::{Count, Role, ServerQuery, ServerRefusal, ServerResponse};
+use mt_wire::server::{Awaited, Count, Role, ServerQuery, ServerRefusal, ServerResponse};
 use mt_wire::version::WireVersion;
 use std::alloc::Global;
 use std::test::Fail;
@@ -32,6 +32,13 @@ fn queries_of_a_server(rt: HostRuntime) -> Result<(), Fail> {
     let ping = ServerQuery::Ping(258);
     assert!(rt; asks(alloc, ping, b"\0\0\0\x0b\x03\x01\x11\0\0\0\0\0\0\x01\x02")?);
     assert!(rt; asks(alloc, ServerQuery::Info, b"\0\0\0\x03\x03\x01\x12")?);
+    let wait = ServerQuery::Wait {
+        of: Awaited::Durable,
+        number: 258,
+        milliseconds: 5,
+    };
+    let frame = b"\0\0\0\x10\x03\x01\x14\x02\0\0\0\0\0\0\x01\x02\0\0\0\x05";
+    assert!(rt; asks(alloc, wait, frame)?);
     let stop = ServerQuery::Stop { is_at_once: true };
     assert!(rt; asks(alloc, stop, b"\0\0\0\x04\x03\x01\x15\x01")?);
     Ok(())
@@ -70,6 +77,12 @@ fn answers_of_a_server(rt: HostRuntime) -> Result<(), Fail> {
 #[test]
 fn refusals_of_a_server(rt: HostRuntime) -> Result<(), Fail> {
     let alloc = rt.alloc();
+    let failed = ServerResponse::Refused(ServerRefusal::DiskFailed { durable: 258 });
+    assert!(rt; answers(alloc, failed, b"\0\0\0\x0c\x03\x01\0\x13\0\0\0\0\0\0\x01\x02")?);
+    let full = ServerResponse::Refused(ServerRefusal::DiskFull);
+    assert!(rt; answers(alloc, full, b"\0\0\0\x0c\x03\x01\0\x14\0\0\0\0\0\0\0\0")?);
+    let unkept = ServerResponse::Refused(ServerRefusal::InMemory);
+    assert!(rt; answers(alloc, unkept, b"\0\0\0\x0c\x03\x01\0\x15\0\0\0\0\0\0\0\0")?);
     let refused = ServerResponse::Refused(ServerRefusal::NotAllowed);
     assert!(rt; answers(alloc, refused, b"\0\0\0\x0c\x03\x01\0\x18\0\0\0\0\0\0\0\0")?);
     let refused = ServerResponse::Refused(ServerRefusal::TooMuchAtOnce);

@@ -39,6 +39,10 @@ with_access_rules app =
     (number_rule (codes "hello-timeout") 0 86400))
     (flag_rule (codes "open"))
 
+-- the options of rows that survive
+abbrev pub with_data_rules : App → App
+with_data_rules app = with_rule (with_rule app (text_rule (codes "data"))) (text_rule (codes "sync"))
+
 -- the limits of time
 abbrev pub with_limit_rules : App → App
 with_limit_rules app =
@@ -59,7 +63,7 @@ with_flag_rules app =
 
 -- the options of mtserve
 abbrev pub mtserve_app : App
-mtserve_app = with_index_rules (with_flag_rules (with_limit_rules (with_access_rules (with_socket_rules (new_app (codes "mtserve"))))))
+mtserve_app = with_index_rules (with_flag_rules (with_limit_rules (with_data_rules (with_access_rules (with_socket_rules (new_app (codes "mtserve")))))))
 
 -- what was found on a command line
 pub record AreFound (matches : ArgMatches) (settings : Settings) : Type 0 where
@@ -69,6 +73,8 @@ pub record AreFound (matches : ArgMatches) (settings : Settings) : Type 0 where
   pub connections : IsNumber 64 (one_text (found_of matches) (codes "connections")) 10000 settings.connections
   pub listen : option_map (λ text. text.now) settings.listen ≡ first_value (found_of matches) (codes "listen")
   pub token_file : option_map (λ text. text.now) settings.token_file ≡ first_value (found_of matches) (codes "token-file")
+  pub data : option_map (λ text. text.now) settings.data ≡ first_value (found_of matches) (codes "data")
+  pub sync : option_map (λ text. text.now) settings.sync ≡ first_value (found_of matches) (codes "sync")
   pub hello : IsNumber 64 (one_text (found_of matches) (codes "hello-timeout")) 10 settings.hello
   pub idle : IsNumber 64 (one_text (found_of matches) (codes "idle-timeout")) 0 settings.idle
   pub frame : IsNumber 64 (one_text (found_of matches) (codes "frame-timeout")) 30 settings.frame

@@ -2,7 +2,7 @@
 
 ghost use Rattle.std.specs.Prelude.{◌≡◌, false, map, string_bytes, codes, IfOk};
 ghost use Rattle.clap.specs.Words.{app_of, new_app, rule_of};
-ghost use Rattle.mtserve.specs.CommandLine.{flag_rule, text_rule, with_socket_rules, with_access_rules, with_limit_rules, with_flag_rules, mtserve_app, AreFound, AreSaid};
+ghost use Rattle.mtserve.specs.CommandLine.{flag_rule, text_rule, with_socket_rules, with_access_rules, with_data_rules, with_limit_rules, with_flag_rules, mtserve_app, AreFound, AreSaid};
 
 use clap::{Arg, ArgAction, ArgMatches, Command, Error};
 use mt_command_line::numbers::{number, number_option};
@@ -10,7 +10,7 @@ use mt_command_line::opening::{columns, index_options, log_capacity, log_retenti
 use mt_index::options::Options;
 use std::alloc::{AllocError, Global};
 
-const ABOUT: &str = "Serves an empty index over TCP";
+const ABOUT: &str = "Serves an index over TCP: an empty one, or the rows of a folder";
 
 const MORE: &str = "\
 Each connection is a session: frames of queries come in, and each is answered by a frame (docs/WIRE.md). Each worker is
@@ -18,7 +18,8 @@ a thread that serves many connections. Standard error says where it listens, as 
 broken off, as `session fault N: REASON`. When all sessions have ended, standard output says `events E commits C`.
 
 The status is 0; 2 for a bad command line; 3 if listening, a thread, a wait or the first line failed, if memory was
-refused at the start, or if the counts at the end don't add up.";
+refused at the start, if the rows of the folder can't be read or the last commits not be written, or if the counts at the
+end don't add up.";
 
 /// The number of sessions that stands for no end. `--sessions` takes less.
 pub const WITHOUT_END: u64 = 65_536;
@@ -41,6 +42,10 @@ pub struct Settings<'a> {
     pub listen: Option<&'a str>,
     /// The file of secrets, if there are to be some.
     pub token_file: Option<&'a str>,
+    /// The folder in which rows survive, if they are to.
+    pub data: Option<&'a str>,
+    /// When its log is synced, if that is said.
+    pub sync: Option<&'a str>,
     /// The most seconds until a client has said hello, on a server with secrets; 0 is no limit.
     pub hello: u64,
     /// Whether all may do all wherever the server listens.
@@ -113,6 +118,20 @@ fn socket_options<'a>(command: Command<'a>, alloc: Global) -> Result<Command<'a>
         .arg(number_option(alloc, "connections", 1, 1000000, connections))
 }
 
+// The options of rows that survive.
+fn data_options<'a>(command: Command<'a>, alloc: Global) -> Result<Command<'a>, AllocError>
+    ensures { IfOk result (λ r. app_of r ≡ with_data_rules (app_of command.entry)) }
+{
+    let data =
+        "A folder that keeps the rows: they are there again after the next start [default: rows are in memory alone]";
+    let sync = "\
+When commits are made durable, with --data: always (a change is answered after that), a number of milliseconds (at least so
+often), or never (at the end alone) [default: always]";
+    command
+        .arg(text_option(alloc, "data", "FOLDER", data))?
+        .arg(text_option(alloc, "sync", "WHEN", sync))
+}
+
 // The limits of time, in seconds.
 fn limit_options<'a>(command: Command<'a>, alloc: Global) -> Result<Command<'a>, AllocError>
     ensures { IfOk result (λ r. app_of r ≡ with_limit_rules (app_of command.entry)) }
@@ -153,7 +172,8 @@ fn command<'a>(alloc: Global) -> Result<Command<'a>, AllocError>
 {
     let of_sockets = socket_options(named(alloc), alloc)?;
     let of_access = access_options(of_sockets, alloc)?;
-    let limited = limit_options(of_access, alloc)?;
+    let of_data = data_options(of_access, alloc)?;
+    let limited = limit_options(of_data, alloc)?;
     let flagged = flag_options(limited, alloc)?;
     index_options(flagged, alloc)
 }
@@ -175,6 +195,8 @@ fn settings_of<'a>(matches: &ArgMatches<'a>) -> Settings<'a>
         connections: number(matches, "connections", 10_000),
         listen: matches.get_str("listen"),
         token_file: matches.get_str("token-file"),
+        data: matches.get_str("data"),
+        sync: matches.get_str("sync"),
         hello: number(matches, "hello-timeout", 10),
         is_open: matches.get_flag("open"),
         idle: number(matches, "idle-timeout", 0),

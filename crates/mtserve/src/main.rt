@@ -2,15 +2,24 @@
 #![tactic(auto)]
 
 mod command_line;
+mod data;
 mod serving;
 mod tokens;
 
 use crate::command_line::{Settings, settings_given};
+use crate::data::read_syncing;
 use crate::serving::{ServeError, serve_all};
 use mt_command_line::ending::{exit_code, status_without_run, words};
+use mt_loop::durability::Syncing;
 use mt_shared::settling::Totals;
 use std::io;
+use std::net::Net;
 use std::process::ExitCode;
+use std::random::RandomSource;
+use std::rt::Files;
+use std::sync::Wait;
+use std::thread::Threads;
+use std::time::Clock;
 
 // What the command line asks for, or the status if a text was printed instead of a run. A command line without any
 // option is a bad one: it says neither how many sessions there are to be nor that they are without end.
@@ -25,6 +34,32 @@ fn read_settings<'a>(
     match settings_given(rt.alloc(), words) {
         Ok(settings) => Ok(Ok(settings)),
         Err(fault) => Ok(Err(status_without_run(rt, fault)?)),
+    }
+}
+
+// When the log is synced, or why that can't be.
+fn syncing_of(settings: Settings<'_>) -> Result<Syncing, &'static str> {
+    let Some(text) = settings.sync else {
+        return Ok(Syncing::Always);
+    };
+    if settings.data.is_none() {
+        return Err("--sync is for a server with --data");
+    }
+    read_syncing(text)
+        .ok_or("--sync takes always, never or a number of milliseconds from 1 to 86400000")
+}
+
+// Serves what the command line asks for, and returns the status.
+fn run<R>(host: &HostRuntime, rt: &R, settings: Settings<'_>) -> io::Result<u8>
+where
+    R: Net + Threads + Wait + Clock + Files + RandomSource + AllocGlobal + Sync + Eprint,
+{
+    match syncing_of(settings) {
+        Ok(syncing) => tell(host, serve_all(host, rt, settings, syncing)),
+        Err(fault) => {
+            eprintln!(host; "mtserve: {fault}")?;
+            Ok(2)
+        }
     }
 }
 
@@ -45,7 +80,7 @@ fn tell(rt: &HostRuntime, served: Result<Totals, ServeError>) -> io::Result<u8> 
 fn main(rt: HostRuntime) -> ExitCode {
     let ended = match words(&rt) {
         Ok(words) => match read_settings(&rt, words.as_slice()) {
-            Ok(Ok(settings)) => tell(&rt, serve_all(&rt, rt.alloc(), settings)),
+            Ok(Ok(settings)) => run(&rt, &rt, settings),
             Ok(Err(status)) => Ok(status),
             Err(error) => Err(error),
         },

@@ -3,13 +3,20 @@
 ghost use Rattle.std.specs.Prelude.{◌≡◌, ◌||◌};
 
 use crate::command_line::{Settings, WITHOUT_END};
+use crate::data::{DataError, open_log};
 use crate::tokens::{TokenError, read_tokens};
 use mt_loop::address::Address;
+use mt_index::options::Options;
+use mt_loop::durability::Syncing;
 use mt_loop::limits::Limits;
-use mt_loop::serving::{Plan, serve};
+use mt_loop::logging::Log;
+use mt_loop::serving::{Access, Ended, Plan, serve};
 use mt_shared::map::SharedMap;
+use mt_shared::pass::Pass;
 use mt_shared::settling::Totals;
+use mt_types::limits::MAX_LOG_RETENTION;
 use mt_types::refusal::Refusal;
+use sqlite_std_file::{FileFrom, Unknown};
 use std::alloc::Global;
 use std::net::{Ipv4Addr, Net, SocketAddr};
 use std::random::RandomSource;
@@ -38,6 +45,12 @@ pub enum ServeError {
     /// All could do all.
     #[error("an address that others reach wants --token-file, or --open")]
     Open,
+    /// The rows of the folder can't be served.
+    #[error("{0}")]
+    Data(#[from] DataError),
+    /// The last commits are not in the log.
+    #[error("the last commits are not in the log")]
+    Unlogged,
     /// The index wasn't opened, or its end didn't add up.
     #[error("{0}")]
     Index(#[from] Refusal),
@@ -109,17 +122,59 @@ fn may_listen(is_local: bool, has_secrets: bool, is_open: bool) -> bool
     is_local || is_open || has_secrets
 }
 
-/// Opens an empty index, and serves it as the settings ask. Returns how many events and commits were made.
+// The options of an index whose commits go to a log: its own log keeps those that are to be written.
+fn logged_options(options: Options) -> Options
+    ensures columns { result.columns ≡ options.columns }
+{
+    Options {
+        log_retention: MAX_LOG_RETENTION,
+        ..options
+    }
+}
+
+type FileLog = Log<FileFrom<Unknown>>;
+
+// Opens the index: with the rows of the folder, and the log to which its commits go, or an empty one.
+fn open_index<R: Threads + Wait>(
+    host: &HostRuntime,
+    rt: &R,
+    settings: Settings<'_>,
+    syncing: Syncing,
+) -> Result<(SharedMap, Vec<Pass>, Option<FileLog>), ServeError> {
+    let (alloc, workers) = (host.alloc(), worker_count(rt, settings));
+    let Some(folder) = settings.data else {
+        let (index, passes) = SharedMap::start(alloc, settings.options, workers)?;
+        return Ok((index, passes, None));
+    };
+    let (index, passes) = SharedMap::start(alloc, logged_options(settings.options), workers)?;
+    let opened = open_log(host, folder, index.columns())?;
+    let mut passes = passes;
+    let Some(pass) = passes.pop() else {
+        return Ok((index, passes, None));
+    };
+    let (pass, log) = opened.restore(rt, alloc, &index, pass, syncing)?;
+    passes.push(pass).map_err(io::Error::from)?;
+    Ok((index, passes, Some(log)))
+}
+
+/// Opens an index, with the rows of a folder if there is one, and serves it as the settings ask. Returns how many events and
+/// commits were made, with those by which the rows of the folder were made again.
 ///
 /// # Errors
 ///
 /// If the secrets couldn't be read; if the address is none, or all could do all from elsewhere; if listening, a thread,
-/// a wait or the first line failed; if the index can't be opened with these options; or if the counts at its end don't
-/// add up.
-pub fn serve_all<R>(rt: &R, alloc: Global, settings: Settings<'_>) -> Result<Totals, ServeError>
+/// a wait or the first line failed; if the index can't be opened with these options, or the rows of the folder not be read;
+/// if the last commits could not be written; or if the counts at its end don't add up. (`host` opens the files of the folder.)
+pub fn serve_all<R>(
+    host: &HostRuntime,
+    rt: &R,
+    settings: Settings<'_>,
+    syncing: Syncing,
+) -> Result<Totals, ServeError>
 where
     R: Net + Threads + Wait + Clock + Files + RandomSource + AllocGlobal + Sync + Eprint,
 {
+    let alloc = host.alloc();
     let tokens = match settings.token_file {
         Some(path) => read_tokens(rt, alloc, path)?,
         None => Vec::new(alloc),
@@ -129,15 +184,17 @@ where
     if !may_listen(is_local, !tokens.is_empty(), settings.is_open) {
         return Err(ServeError::Open);
     }
-    let (index, passes) = SharedMap::start(alloc, settings.options, worker_count(rt, settings))?;
-    let passes = serve(
-        rt,
-        alloc,
-        &index,
-        passes,
-        &addresses,
-        plan_of(settings),
-        &tokens,
-    )?;
-    Ok(index.close(passes)?)
+    let (index, passes, log) = open_index(host, rt, settings, syncing)?;
+    let access = Access {
+        addresses: &addresses,
+        tokens: &tokens,
+    };
+    let Ended { passes, is_logged } =
+        serve(rt, alloc, &index, passes, access, plan_of(settings), log)?;
+    let totals = index.close(passes)?;
+    if is_logged {
+        Ok(totals)
+    } else {
+        Err(ServeError::Unlogged)
+    }
 }

@@ -1,0 +1,1 @@
+-- What a write has left of a log.

@@ -1,0 +1,197 @@
+//! The thread of the log: it writes the commits of all workers, and syncs them in groups.
+
+use crate::durability::{DiskState, Durability, Syncing};
+use crate::gauge::Gauge;
+use mt_journal::error::JournalError;
+use mt_logger::error::LoggerError;
+use mt_logger::logger::Logger;
+use mt_shared::door::Door;
+use mt_types::refusal::Refusal;
+use sqlite_disk::Disk;
+use std::sync::Wait;
+use std::thread;
+use std::time::{Clock, Duration, Instant};
+
+// How many milliseconds the thread waits at most until it looks for new commits, if it isn't called.
+const LONGEST: u64 = 1000;
+
+// How many milliseconds it lets commits gather if nobody waits for them.
+const GATHERING: u64 = 5;
+
+// After how many milliseconds it tries again, out of memory or on a full disk.
+const PAUSE: u64 = 20;
+
+// How many groups of commits it writes between two syncs at most.
+const GROUPS: u32 = 64;
+
+// How often it tries at most when no more commits are made.
+const LAST_TRIES: u32 = 500;
+
+/// A log to which the commits of a server go, and when it is synced.
+#[derive(Drop)]
+pub struct Log<D: Disk + Drop> {
+    pub logger: Logger<D>,
+    pub syncing: Syncing,
+}
+
+// What comes of an attempt to write.
+enum Written {
+    // All commits are written, or as many as one sync is for.
+    All,
+    // The next attempt may succeed.
+    Later,
+    // No attempt will.
+    Never,
+}
+
+// What an error comes to. Says so if the disk is full, or if no attempt will succeed.
+fn judge<R: Eprint>(rt: &R, durability: &Durability, error: &LoggerError) -> Written {
+    match error {
+        LoggerError::Fed(Refusal::NoMemory) | LoggerError::Journal(JournalError::NoMemory) => {
+            Written::Later
+        }
+        LoggerError::Journal(JournalError::DiskFull) => {
+            if durability.disk() == DiskState::Usable {
+                let _ = eprintln!(rt; "log: the disk is full, and rows can't be changed");
+            }
+            durability.note_full(true);
+            Written::Later
+        }
+        _ => {
+            let _ = eprintln!(rt; "log: {error}");
+            Written::Never
+        }
+    }
+}
+
+// Writes the commits that the log lacks.
+fn write_all<R: Wait + Eprint, D: Disk + Drop>(
+    rt: &R,
+    door: &Door<'_, R>,
+    durability: &Durability,
+    logger: &mut Logger<D>,
+) -> Written {
+    for _ in 0..GROUPS {
+        match logger.write(door) {
+            Ok(count) => {
+                durability.note_full(false);
+                durability.note_written(logger.position().newest);
+                if count == 0 {
+                    break;
+                }
+            }
+            Err(error) => return judge(rt, durability, &error),
+        }
+    }
+    Written::All
+}
+
+// Whether commits are to be synced now that were written and aren't durable.
+fn is_due<R: Clock>(rt: &R, durability: &Durability, last: Instant) -> bool {
+    match durability.syncing() {
+        Syncing::Always => true,
+        Syncing::Every(milliseconds) => match last.elapsed(rt) {
+            Ok(elapsed) => elapsed >= Duration::from_millis(milliseconds),
+            Err(_) => true,
+        },
+        Syncing::Never => durability.is_ending(),
+    }
+}
+
+// Makes what was written durable. Returns whether it is.
+fn sync<R: Eprint, D: Disk + Drop>(
+    rt: &R,
+    durability: &Durability,
+    logger: &mut Logger<D>,
+) -> bool {
+    match logger.sync() {
+        Ok(number) => {
+            durability.note_durable(number);
+            true
+        }
+        Err(error) => {
+            let _ = eprintln!(rt; "log: {error}");
+            false
+        }
+    }
+}
+
+// For how long to wait until the next round.
+fn pause<R: Wait + Clock>(rt: &R, durability: &Durability, has_unsynced: bool) {
+    let longest = match durability.syncing() {
+        Syncing::Always => LONGEST,
+        Syncing::Every(milliseconds) => {
+            thread::sleep(rt, Duration::from_millis(GATHERING));
+            if has_unsynced {
+                milliseconds.min(LONGEST)
+            } else {
+                LONGEST
+            }
+        }
+        Syncing::Never => {
+            thread::sleep(rt, Duration::from_millis(GATHERING));
+            LONGEST
+        }
+    };
+    durability.wait(rt, Duration::from_millis(longest));
+}
+
+// Writes commits and syncs them until no more are made, or the disk fails.
+fn keep<R: Wait + Clock + Eprint, D: Disk + Drop>(
+    gauge: &Gauge<'_, R>,
+    durability: &Durability,
+    logger: &mut Logger<D>,
+) -> bool {
+    let rt = gauge.rt;
+    let door = Door::new(gauge.index, rt, 1);
+    let mut last = gauge.start;
+    let mut tries = 0u32;
+    for _ in rt.forever() {
+        let is_ending = durability.is_ending();
+        match write_all(rt, &door, durability, logger) {
+            Written::All => {}
+            Written::Later => thread::sleep(rt, Duration::from_millis(PAUSE)),
+            Written::Never => return false,
+        }
+        tries = if is_ending { tries.saturating_add(1) } else { 0 };
+        if tries > LAST_TRIES {
+            let _ = eprintln!(rt; "log: the last commits could not be written");
+            return false;
+        }
+        let at = logger.position();
+        if at.durable < at.newest && (is_ending || is_due(rt, durability, last)) {
+            if !sync(rt, durability, logger) {
+                return false;
+            }
+            last = match Instant::now(rt) {
+                Ok(now) => now,
+                Err(_) => last,
+            };
+            gauge.wake_waiting();
+        }
+        let at = logger.position();
+        if is_ending && at.durable >= gauge.commits() {
+            return true;
+        }
+        if !is_ending {
+            pause(rt, durability, at.durable < at.newest);
+        }
+    }
+    true
+}
+
+/// Keeps a log until no more commits are made, and returns whether all are durable then. If the disk fails, changes are
+/// refused from then on, and those that wait for it are woken.
+pub fn keep_log<R: Wait + Clock + Eprint, D: Disk + Drop>(
+    gauge: &Gauge<'_, R>,
+    durability: &Durability,
+    log: Log<D>,
+) -> bool {
+    let mut log = log;
+    let is_kept = keep(gauge, durability, &mut log.logger);
+    if !is_kept {
+        durability.note_failed();
+        gauge.wake_waiting();
+    }
+    is_kept
+}
