@@ -105,4 +105,12 @@ impl<D: Disk + Drop> Logger<D> {
     {
         self.journal.sync()
     }
+
+    /// Returns the disk, and ends the use of the log.
+    pub fn into_disk(self) -> D
+        ensures { result ≡ self.journal.disk }
+    {
+        let Logger { alloc: _, journal } = self;
+        journal.into_disk()
+    }
 }

@@ -49,9 +49,7 @@ fn remove_again<S: Shared>(
     ensures turns { client.new.turns ≡ client.old.turns }
 {
     match client.remove(key.as_slice()) {
-        Ok(removed) => removed
-            .value
-            .ok_or(ReplayError::Damaged { commit: number }),
+        Ok(removed) => removed.value.ok_or(ReplayError::Damaged { commit: number }),
         Err(refusal) => Err(ReplayError::Refused(refusal)),
     }
 }

@@ -9,6 +9,7 @@ use mt_serve::answerer::Answerer;
 use mt_serve::fault::SessionFault;
 use mt_shared::driving::Shared;
 use mt_shared::pass::Pass;
+use mt_talk::server::changes_rows;
 use mt_talk::serving::Server;
 use mt_talk::talk::Talk;
 use mt_wire::server::{Role, ServerQuery};
@@ -43,7 +44,7 @@ pub struct Connection {
     pub parked: Option<Parked>,
     // How many commits are to be durable before its answers go.
     pub(crate) held: Option<u64>,
-    // Whether a frame that may have changed rows was answered in this round.
+    // Whether a put or a remove was answered in this round that wasn't refused for the disk.
     pub(crate) has_changed: bool,
     // What the frame at the front waits for, since it was looked at.
     pub(crate) awaited: Option<Parked>,
@@ -53,6 +54,8 @@ pub struct Connection {
     moved: (usize, usize),
     // What its client may do, if it was admitted.
     pub(crate) role: Option<Role>,
+    /// Whether that frame has a put or a remove.
+    pub changes: bool,
     // What that frame weighs, what may still be asked for in this round, and whether more frames may be there.
     weight: usize,
     budget: usize,
@@ -86,6 +89,7 @@ impl Connection {
             is_woken: false,
             moved: (0, 0),
             role,
+            changes: false,
             weight: 0,
             budget: 0,
             has_more: false,
@@ -200,6 +204,7 @@ impl Connection {
     fn look(&mut self) {
         if let Some(frame) = self.talk.front() {
             self.weight = weight_of(frame);
+            self.changes = changes_rows(frame.messages.as_slice());
             self.front = if only_reads(frame) {
                 Front::Reads
             } else {
@@ -216,7 +221,7 @@ impl Connection {
         shared: &mut S,
         pass: &mut Pass,
     ) {
-        self.has_changed = self.has_changed || self.front == Front::Others;
+        self.has_changed = self.has_changed || self.changes && server.keeper.read_only.is_none();
         self.front = Front::Nothing;
         self.awaited = None;
         self.is_woken = false;

@@ -37,7 +37,7 @@ impl Connection {
         }
     }
 
-    /// If it has changed rows in this round, its answers wait until as many commits are durable.
+    /// If it may have changed rows in this round, its answers wait until as many commits are durable.
     pub fn hold(&mut self, number: u64) {
         if mem::replace(&mut self.has_changed, false) && !self.talk.output().is_empty() {
             self.held = Some(number);

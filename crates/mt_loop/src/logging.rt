@@ -153,7 +153,11 @@ fn keep<R: Wait + Clock + Eprint, D: Disk + Drop>(
             Written::Later => thread::sleep(rt, Duration::from_millis(PAUSE)),
             Written::Never => return false,
         }
-        tries = if is_ending { tries.saturating_add(1) } else { 0 };
+        tries = if is_ending {
+            tries.saturating_add(1)
+        } else {
+            0
+        };
         if tries > LAST_TRIES {
             let _ = eprintln!(rt; "log: the last commits could not be written");
             return false;

@@ -80,9 +80,16 @@ impl Turns {
         waits
     }
 
-    // Before a frame that may change rows is answered: notes why it can't, if it can't, or puts it off while the log lacks
-    // too many commits. Returns whether it is put off.
-    fn puts_off<R: Wait + Clock>(&mut self, gauge: &Gauge<'_, R>, connection: &mut Connection) -> bool {
+    // Before a frame with a put or a remove is answered: notes why rows can't be changed, if they can't, or puts it off while
+    // the log lacks too many commits. Returns whether it is put off.
+    fn puts_off<R: Wait + Clock>(
+        &mut self,
+        gauge: &Gauge<'_, R>,
+        connection: &mut Connection,
+    ) -> bool {
+        if !connection.changes {
+            return false;
+        }
         self.server.keeper.read_only = gauge.hindrance();
         let is_behind = !self.is_stopping && gauge.is_behind();
         if is_behind {
@@ -130,9 +137,7 @@ impl Turns {
             if connection.front != front {
                 continue;
             }
-            if front == Front::Others && self.puts_off(gauge, connection)
-                || self.prepare(gauge, shared, connection)
-            {
+            if self.puts_off(gauge, connection) || self.prepare(gauge, shared, connection) {
                 continue;
             }
             self.has_changed = self.has_changed || front == Front::Others;

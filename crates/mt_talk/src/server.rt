@@ -104,7 +104,8 @@ fn changes_row(query: &Query) -> bool
     )
 }
 
-fn changes_rows(queries: &[Query]) -> bool
+/// Returns whether one of these queries is a put or a remove.
+pub fn changes_rows(queries: &[Query]) -> bool
     ensures { result ≡ changes_rows queries.now }
 {
     for query in queries {

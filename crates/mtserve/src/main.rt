@@ -45,8 +45,9 @@ fn syncing_of(settings: Settings<'_>) -> Result<Syncing, &'static str> {
     if settings.data.is_none() {
         return Err("--sync is for a server with --data");
     }
-    read_syncing(text)
-        .ok_or("--sync takes always, never or a number of milliseconds from 1 to 86400000")
+    read_syncing(text).ok_or(
+        "--sync takes always, never or a number of milliseconds from 1 to 86400000",
+    )
 }
 
 // Serves what the command line asks for, and returns the status.

@@ -5,8 +5,8 @@ ghost use Rattle.std.specs.Prelude.{◌≡◌, ◌||◌};
 use crate::command_line::{Settings, WITHOUT_END};
 use crate::data::{DataError, open_log};
 use crate::tokens::{TokenError, read_tokens};
-use mt_loop::address::Address;
 use mt_index::options::Options;
+use mt_loop::address::Address;
 use mt_loop::durability::Syncing;
 use mt_loop::limits::Limits;
 use mt_loop::logging::Log;
@@ -189,8 +189,15 @@ where
         addresses: &addresses,
         tokens: &tokens,
     };
-    let Ended { passes, is_logged } =
-        serve(rt, alloc, &index, passes, access, plan_of(settings), log)?;
+    let Ended { passes, is_logged } = serve(
+        rt,
+        alloc,
+        &index,
+        passes,
+        access,
+        plan_of(settings),
+        log,
+    )?;
     let totals = index.close(passes)?;
     if is_logged {
         Ok(totals)
