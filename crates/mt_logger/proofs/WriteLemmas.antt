@@ -1,5 +1,8 @@
 -- What a write has left of a log.
-use Rattle.std.proofs.Common.{◌≡◌, ℕ, ◌∷◌, List, [], map, Ok, subst, sym, refl, inl, inr}
+use Rattle.std.proofs.Common.{◌≡◌, ℕ, ◌∷◌, ◌∙◌, Bool, true, false, eqb, List, [], length, map, Ok, Err, arith, ap, subst, sym, refl, inl, inr}
+use Rattle.std.specs.Prelude.{◌==◌, Result}
+use Rattle.std.proofs.lemmas.Bool.{eqb-true}
+use Rattle.std.proofs.lemmas.List.{length-map}
 use Rattle.std.specs.Global.{Vec}
 use Rattle.mt_types.specs.declared.limits.TheConstants.{MAX_RANGE}
 use Rattle.mt_types.specs.declared.row.Delta.{Delta}
@@ -11,7 +14,11 @@ use Rattle.mt_journal.specs.Appending.{with_commits}
 use Rattle.mt_journal.specs.Keeping.{AllSurvive}
 use Rattle.mt_replay.specs.Replay.{record_of}
 use Rattle.mt_shared.specs.Feeds.{FeedsSomewhere}
-use Rattle.mt_logger.specs.Writing.{AreFed, Leaves, Writes, entries_with}
+use Rattle.mt_journal.specs.Causes.{AppendHasCause}
+use Rattle.mt_journal.specs.declared.error.JournalError.{JournalError}
+use Rattle.mt_journal.specs.declared.error.JournalError.TheVariants.{NoLog, NotALog, UnknownFormat, OtherColumns, Damaged, DiskFull, Disk, GivenUp, TooLong, NoMemory}
+use Rattle.mt_logger.specs.declared.error.LoggerError.TheVariants.{Journal}
+use Rattle.mt_logger.specs.Writing.{AreFed, AreTooLong, Leaves, WriteFails, Writes, entries_with}
 
 entries_some : (at : Position) (deltas : List Delta) (entries : List Entry) → (deltas ≡ [] → ⊥) → entries_with at (map record_of deltas) entries ≡ with_commits at (map record_of deltas) entries
 entries_some at [] entries some = absurd (some refl)
@@ -43,3 +50,42 @@ writes_none at before after list fed none kept = record {
   many = refl;
   kept = kept;
 }
+
+pub writes_some : (at : Position) (before after : LogHeader → List Entry → Type 0) (list : Vec Delta) (records : List Record) (count : ℕ) → FeedsSomewhere at.newest MAX_RANGE (Ok list) → (list.items ≡ [] → ⊥) → records ≡ map record_of list.items → count ≡ length records
+    → ((header : LogHeader) (entries : List Entry) → before header entries → after header (with_commits at records entries)) → Writes at before after count
+writes_some at before after list records count fed some is many kept = record {
+  deltas = list.items;
+  fed = are_fed at.newest list fed;
+  many = many ∙ (ap (λ (rs : List Record). length rs) is ∙ length-map list.items record_of);
+  kept = λ header entries has. subst (λ (es : List Entry). after header es) (sym (entries_some at list.items entries some))
+      (subst (λ (rs : List Record). after header (with_commits at rs entries)) is (kept header entries has));
+}
+
+-- ---- whether something was fed
+items_none : (items : List Delta) → (length items == 0) ≡ true → items ≡ []
+items_none [] none = refl
+items_none (delta ∷ items) none = let zero = eqb-true (length (delta ∷ items)) 0 none in absurd (omega (arith, zero))
+
+items_some : (items : List Delta) → (length items == 0) ≡ false → items ≡ [] → ⊥
+items_some [] some is = absurd cc
+items_some (delta ∷ items) some is = absurd cc
+
+pub are_empty : (list : Vec Delta) (items : List Delta) → items ≡ list.items → (length items == 0) ≡ true → list.items ≡ []
+are_empty list items is none = sym is ∙ items_none items none
+
+pub are_some : (list : Vec Delta) (items : List Delta) → items ≡ list.items → (length items == 0) ≡ false → list.items ≡ [] → ⊥
+are_some list items is some none = items_some items some (is ∙ none)
+
+-- ---- why nothing was written
+pub fails : (at : Position) (asks : Bool) (old new : ℕ) (list : Vec Delta) (records : List Record) (error : JournalError) → FeedsSomewhere at.newest MAX_RANGE (Ok list) → records ≡ map record_of list.items
+    → AppendHasCause {T = ℕ} (Err error) asks (AreTooLong at records) old new → WriteFails at asks old new (Journal error)
+fails at asks old new list records NoMemory fed is cause = cause.1
+fails at asks old new list records TooLong fed is cause = (list.items, are_fed at.newest list fed, subst (λ (rs : List Record). AppendHasCause {T = List Delta} (Err TooLong) asks (AreTooLong at rs) old new) is cause)
+fails at asks old new list records GivenUp fed is cause = (list.items, are_fed at.newest list fed, cause)
+fails at asks old new list records DiskFull fed is cause = (list.items, are_fed at.newest list fed, cause)
+fails at asks old new list records (Disk error) fed is cause = (list.items, are_fed at.newest list fed, cause)
+fails at asks old new list records NoLog fed is cause = absurd cause
+fails at asks old new list records NotALog fed is cause = absurd cause
+fails at asks old new list records UnknownFormat fed is cause = absurd cause
+fails at asks old new list records (OtherColumns found) fed is cause = absurd cause
+fails at asks old new list records (Damaged place damage) fed is cause = absurd cause

@@ -23,7 +23,7 @@ AreFed from deltas = (list : Vec Delta) × (list.items ≡ deltas) × FeedsSomew
 -- the entries of a log, and one more of these commits, if there are some
 abbrev pub entries_with : Position → List Record → List Entry → List Entry
 entries_with at [] entries = entries
-entries_with at (record ∷ records) entries = with_commits at (record ∷ records) entries
+entries_with at (first ∷ more) entries = with_commits at (first ∷ more) entries
 
 -- THE NEXT COMMITS of the index are written: a log that had some entries has what they left after them
 pub record Writes (at : Position) (before after : LogHeader → List Entry → Type 0) (count : ℕ) : Type 0 where
@@ -51,4 +51,4 @@ WriteFails at asks old new (Fed refusal) = FeedsSomewhere at.newest MAX_RANGE (E
 WriteFails at asks old new (Journal NoMemory) = new ≡ old
 WriteFails at asks old new (Journal error) =
     (deltas : List Delta) × AreFed at.newest deltas
-    × AppendHasCause {List Delta} (Err error) asks (AreTooLong at (map record_of deltas)) old new
+    × AppendHasCause {T = List Delta} (Err error) asks (AreTooLong at (map record_of deltas)) old new

@@ -72,14 +72,15 @@ impl<D: Disk + Drop> Logger<D> {
             Ok(deltas) => deltas,
             Err(refusal) => return Err(LoggerError::Fed(refusal)),
         };
-        if deltas.is_empty() {
+        if deltas.as_slice().is_empty() {
             return Ok(0);
         }
         let Ok(records) = records_of(self.alloc, &deltas) else {
             return Err(LoggerError::Journal(JournalError::NoMemory));
         };
+        let count = records.len();
         match self.journal.append(self.alloc, records) {
-            Ok(_) => Ok(deltas.len()),
+            Ok(_) => Ok(count),
             Err(error) => Err(LoggerError::Journal(error)),
         }
     }

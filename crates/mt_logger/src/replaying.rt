@@ -1,11 +1,8 @@
 //! The commits of a log, made again in a shared index by a client.
 
-ghost use Rattle.std.specs.Prelude.{◌≡◌, ◌+◌, OnOk, IfOk, Ok, length};
-ghost use Rattle.mt_types.specs.declared.event.Reply.{Reply};
-ghost use Rattle.mt_types.specs.declared.event.Answer.TheVariants.{Stored, Removed as Gone};
-ghost use Rattle.mt_types.specs.declared.event.Request.TheVariants.{Put, Remove};
-ghost use Rattle.mt_replay.specs.Replay.{numbered, records_in};
-ghost use Rattle.mt_shared.specs.Clients.{Changes};
+ghost use Rattle.std.specs.Prelude.{◌≡◌, ◌+◌, OnOk, IfOk, length};
+ghost use Rattle.mt_frame.specs.declared.entry.Record.TheVariants.{Row, Removed};
+ghost use Rattle.mt_replay.specs.Replay.{records_in};
 ghost use Rattle.mt_logger.specs.Replaying.{AreMadeAgain, IsMadeAgain};
 
 use crate::error::ReplayError;
@@ -18,38 +15,43 @@ use mt_types::refusal::Refusal;
 use mt_types::row::Columns;
 use std::alloc::Global;
 
-// Puts all columns of a row. Returns the number of the commit.
+// Puts all columns of a row, as the commit of this number.
 fn put_again<S: Shared>(
     alloc: Global,
     client: &mut Client<S>,
     key: &Key,
     columns: &Columns,
-) -> Result<u64, ReplayError>
-    ensures made { IfOk result (λ number. (reply : Reply) × Changes S.does S.looks (S.columns client.old.shared) client.old.shared client.old.pass
-        (Put key.now (numbered 0 columns.now)) client.old.turns (Ok reply) client.new.shared client.new.pass × (reply.answer ≡ Stored number)) }
+    number: u64,
+) -> Result<(), ReplayError>
+    ensures made { OnOk result (IsMadeAgain S.does S.looks S.columns client.old.turns client.old.shared client.old.pass
+        (Row key.now columns.now) number client.new.shared client.new.pass) }
     ensures turns { client.new.turns ≡ client.old.turns }
 {
     let Ok(sets) = sets_of(alloc, columns) else {
         return Err(ReplayError::Refused(Refusal::NoMemory));
     };
     match client.put(key.as_slice(), &sets) {
-        Ok(commit) => Ok(commit.value),
+        Ok(commit) if commit.value == number => Ok(()),
+        Ok(_) => Err(ReplayError::Damaged { commit: number }),
         Err(refusal) => Err(ReplayError::Refused(refusal)),
     }
 }
 
-// Removes a row. Returns the number of the commit; `number` is what it should be.
+// Removes a row, as the commit of this number.
 fn remove_again<S: Shared>(
     client: &mut Client<S>,
     key: &Key,
     number: u64,
-) -> Result<u64, ReplayError>
-    ensures made { IfOk result (λ number. (reply : Reply) × Changes S.does S.looks (S.columns client.old.shared) client.old.shared client.old.pass
-        (Remove key.now) client.old.turns (Ok reply) client.new.shared client.new.pass × (reply.answer ≡ Gone number)) }
+) -> Result<(), ReplayError>
+    ensures made { OnOk result (IsMadeAgain S.does S.looks S.columns client.old.turns client.old.shared client.old.pass
+        (Removed key.now) number client.new.shared client.new.pass) }
     ensures turns { client.new.turns ≡ client.old.turns }
 {
     match client.remove(key.as_slice()) {
-        Ok(removed) => removed.value.ok_or(ReplayError::Damaged { commit: number }),
+        Ok(removed) => match removed.value {
+            Some(commit) if commit == number => Ok(()),
+            _ => Err(ReplayError::Damaged { commit: number }),
+        },
         Err(refusal) => Err(ReplayError::Refused(refusal)),
     }
 }
@@ -65,14 +67,10 @@ fn make_again<S: Shared>(
         kept.now number client.new.shared client.new.pass) }
     ensures turns { client.new.turns ≡ client.old.turns }
 {
-    let commit = match kept {
-        Record::Row(key, columns) => put_again(alloc, client, key, columns)?,
-        Record::Removed(key) => remove_again(client, key, number)?,
-    };
-    if commit != number {
-        return Err(ReplayError::Damaged { commit: number });
+    match kept {
+        Record::Row(key, columns) => put_again(alloc, client, key, columns, number),
+        Record::Removed(key) => remove_again(client, key, number),
     }
-    Ok(())
 }
 
 // Makes the commits of records again, as those after the first `newest`.
