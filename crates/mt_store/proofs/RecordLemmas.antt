@@ -1,6 +1,6 @@
 -- The records of a log's entries: of its first entries, and with one entry more.
 use Rattle.std.proofs.Common.{◌≡◌, ℕ, zero, suc, ◌≤◌, ◌+◌, ◌∙◌, ◌++◌, ◌∷◌, List, [], length, map, take, drop, ap, sym, refl, subst, arith}
-use Rattle.std.proofs.lemmas.List.{append_assoc, append-nil, length-append, length-drop, length-map, take-append-drop}
+use Rattle.std.proofs.lemmas.List.{append-nil, length-append, length-drop, length-map, take-append-drop}
 use Rattle.std.specs.List.{drop-map, take-map}
 use Rattle.mt_types.specs.declared.row.Change.{Change}
 use Rattle.mt_commit.specs.Logged.{deltas_of}
