@@ -4,3 +4,6 @@ pub mod StoreLemmas
 pub mod OpenLemmas
 pub mod MakingLemmas
 pub mod WrittenLemmas
+pub mod CauseLemmas
+pub mod RemoveLemmas
+pub mod AgainLemmas

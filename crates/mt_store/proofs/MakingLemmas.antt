@@ -1,6 +1,6 @@
 -- Commits made again, one more of them.
-use Rattle.std.proofs.Common.{◌≡◌, ℕ, ◌<◌, ◌≤◌, ◌+◌, ◌∙◌, ◌++◌, ◌∷◌, List, [], length, map, take, get_or, ap, sym, refl, subst}
-use Rattle.std.proofs.lemmas.List.{append-nil, map-append, take_all, take_more}
+use Rattle.std.proofs.Common.{◌≡◌, ℕ, ◌<◌, ◌≤◌, ◌+◌, ◌∙◌, ◌++◌, ◌∷◌, List, [], length, map, take, get_or, ap, sym, subst}
+use Rattle.std.proofs.lemmas.List.{map-append, take_all}
 use Rattle.mt_types.specs.declared.row.Change.{Change}
 use Rattle.mt_index.specs.Stands.{MachineView}
 use Rattle.mt_frame.specs.declared.entry.Entry.{Entry}

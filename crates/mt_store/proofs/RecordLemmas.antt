@@ -1,6 +1,6 @@
 -- The records of a log's entries: of its first entries, and with one entry more.
 use Rattle.std.proofs.Common.{◌≡◌, ℕ, zero, suc, ◌≤◌, ◌+◌, ◌∙◌, ◌++◌, ◌∷◌, List, [], length, map, take, drop, ap, sym, refl, subst, arith}
-use Rattle.std.proofs.lemmas.List.{append_assoc, append-nil, length-append, length-drop, length-map, take-append-drop}
+use Rattle.std.proofs.lemmas.List.{append-nil, length-append, length-drop, length-map, take-append-drop}
 use Rattle.std.specs.List.{drop-map, take-map}
 use Rattle.mt_types.specs.declared.row.Change.{Change}
 use Rattle.mt_commit.specs.Logged.{deltas_of}
@@ -41,7 +41,7 @@ take_more_of (suc n) m (x ∷ xs) within =
     let same : suc n + length (take m (drop n xs)) ≡ suc (n + length (take m (drop n xs))) = omega arith in
     ap (λ ys. x ∷ ys) (take_more_of n m xs (omega (arith, within))) ∙ sym (ap (λ (k : ℕ). take k (x ∷ xs)) same)
 
-few_taken : {A : Type 0} (n : ℕ) (xs : List A) → length (take n xs) ≤ length xs
+pub few_taken : {A : Type 0} (n : ℕ) (xs : List A) → length (take n xs) ≤ length xs
 few_taken zero xs = omega arith
 few_taken (suc n) [] = omega arith
 few_taken (suc n) (x ∷ xs) = let less = few_taken n xs in omega (arith, less)
@@ -83,14 +83,22 @@ recovers C changes header entries durable n left base columns within written lon
       records = front_records s.count entries ∙ (ap (take (length front)) written ∙ take_twice (length front) n (records_of C changes) (omega (arith, few, long)));
     }
 
+pub records_of-length : (C : ℕ) (changes : List Change) → length (records_of C changes) ≡ length changes
+records_of-length C changes = length-map (deltas_of C changes) record_of ∙ deltas_of-length C changes
+
+-- the records of the next deltas are the next records
+pub next_records : (C : ℕ) (commits : List Change) (limit n : ℕ) (deltas : List Delta) (records : List Record) → deltas ≡ take limit (drop n (deltas_of C commits)) → records ≡ map record_of deltas → records ≡ take limit (drop n (records_of C commits))
+next_records C commits limit n deltas records fed made =
+    made ∙ (ap (map record_of) fed ∙ (sym (take-map record_of limit (drop n (deltas_of C commits))) ∙ ap (take limit) (sym (drop-map record_of n (deltas_of C commits)))))
+
 -- ---- the log with the next commits
 module _ (C : ℕ) (changes : List Change) (header : LogHeader) (entries : List Entry) (at : Position) (limit : ℕ) (deltas : List Delta) (base : header.base ≡ 0) (newest : at.newest ≡ last_number header.base entries) (within : at.newest ≤ length changes) (written : records_in entries ≡ take at.newest (records_of C changes))
     (fed : deltas ≡ take limit (drop at.newest (deltas_of C changes))) (records : List Record) (made : records ≡ map record_of deltas) where
   as_many : length (records_of C changes) ≡ length changes
-  as_many = length-map (deltas_of C changes) record_of ∙ deltas_of-length C changes
+  as_many = records_of-length C changes
 
   next : records ≡ take limit (drop at.newest (records_of C changes))
-  next = made ∙ (ap (map record_of) fed ∙ (sym (take-map record_of limit (drop at.newest (deltas_of C changes))) ∙ ap (take limit) (sym (drop-map record_of at.newest (deltas_of C changes)))))
+  next = next_records C changes limit at.newest deltas records fed made
 
   pub longer : records_in (with_commits at records entries) ≡ take (at.newest + length records) (records_of C changes)
   longer =

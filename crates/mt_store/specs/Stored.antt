@@ -1,5 +1,5 @@
 -- A map and the log of its commits: what the log has, and what is found after a crash.
-use Rattle.std.specs.Prelude.{◌≡◌, ℕ, ◌≤◌, List, [], ◌∷◌, ◌++◌, length, take}
+use Rattle.std.specs.Prelude.{◌≡◌, ℕ, ◌≤◌, List, length, take}
 use Rattle.mt_types.specs.declared.row.Change.{Change}
 use Rattle.mt_types.specs.Rows.{after}
 use Rattle.mt_promise.specs.History.{History, moment}

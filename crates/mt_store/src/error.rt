@@ -17,7 +17,7 @@ pub enum StoreError {
     /// is there.
     #[error("commit {commit} is not in the log: {error}")]
     NotWritten { commit: u64, error: JournalError },
-    /// A call of the log failed.
+    /// A call of the log failed. Nothing has changed in memory.
     #[error("{0}")]
     Journal(JournalError),
     /// The log's commit of this number can't be made again: it is a remove of a key that has no row.

@@ -1,8 +1,9 @@
 //! The commits of a log, made again in a map.
 
-ghost use Rattle.std.specs.Prelude.{[], ◌∷◌, OnOk, map};
+ghost use Rattle.std.specs.Prelude.{[], ◌∷◌, OnOk, IfErr, map};
 ghost use Rattle.mt_frame.specs.declared.entry.Record.TheVariants.{Row as RowOf, Removed as RemovedOf};
 ghost use Rattle.mt_replay.specs.Replay.{change_again, records_in};
+ghost use Rattle.mt_store.specs.Again.{EndsAt, NextFails};
 ghost use Rattle.mt_store.specs.Extending.{Adds};
 
 use crate::error::StoreError;
@@ -16,7 +17,8 @@ use std::alloc::Global;
 
 // Puts all columns of a row.
 fn put_again(alloc: Global, index: &mut Map, key: &Key, columns: &Columns) -> Result<(), StoreError>
-    ensures { OnOk result (Adds index.old.machine (change_again (RowOf key.now columns.now) ∷ []) index.new.machine) }
+    ensures adds { OnOk result (Adds index.old.machine (change_again (RowOf key.now columns.now) ∷ []) index.new.machine) }
+    ensures fails { IfErr result (λ error. NextFails error index.old.machine (RowOf key.now columns.now)) }
 {
     let Ok(sets) = sets_of(alloc, columns) else {
         return Err(StoreError::Refused(Refusal::NoMemory));
@@ -29,7 +31,8 @@ fn put_again(alloc: Global, index: &mut Map, key: &Key, columns: &Columns) -> Re
 
 // Removes a row.
 fn remove_again(index: &mut Map, key: &Key) -> Result<(), StoreError>
-    ensures { OnOk result (Adds index.old.machine (change_again (RemovedOf key.now) ∷ []) index.new.machine) }
+    ensures adds { OnOk result (Adds index.old.machine (change_again (RemovedOf key.now) ∷ []) index.new.machine) }
+    ensures fails { IfErr result (λ error. NextFails error index.old.machine (RemovedOf key.now)) }
 {
     let commit = index.commits().saturating_add(1);
     match index.remove(key.as_slice()) {
@@ -41,7 +44,8 @@ fn remove_again(index: &mut Map, key: &Key) -> Result<(), StoreError>
 
 // Makes the commit of a record again.
 fn make_again(alloc: Global, index: &mut Map, kept: &Record) -> Result<(), StoreError>
-    ensures { OnOk result (Adds index.old.machine (change_again kept.now ∷ []) index.new.machine) }
+    ensures adds { OnOk result (Adds index.old.machine (change_again kept.now ∷ []) index.new.machine) }
+    ensures fails { IfErr result (λ error. NextFails error index.old.machine kept.now) }
 {
     match kept {
         Record::Row(key, columns) => put_again(alloc, index, key, columns),
@@ -51,7 +55,8 @@ fn make_again(alloc: Global, index: &mut Map, kept: &Record) -> Result<(), Store
 
 // Makes the commits of records again.
 fn make_all(alloc: Global, index: &mut Map, records: &[Record]) -> Result<(), StoreError>
-    ensures { OnOk result (Adds index.old.machine (map change_again records.now) index.new.machine) }
+    ensures adds { OnOk result (Adds index.old.machine (map change_again records.now) index.new.machine) }
+    ensures fails { IfErr result (λ error. EndsAt index.old.machine records.now error) }
 {
     for kept in records {
         make_again(alloc, index, kept)?;
@@ -61,7 +66,8 @@ fn make_all(alloc: Global, index: &mut Map, records: &[Record]) -> Result<(), St
 
 /// Makes the commits of a log's entries again, in their order, each as the next commit of the map.
 pub fn replay(alloc: Global, index: &mut Map, entries: &[Entry]) -> Result<(), StoreError>
-    ensures { OnOk result (Adds index.old.machine (map change_again (records_in entries.now)) index.new.machine) }
+    ensures adds { OnOk result (Adds index.old.machine (map change_again (records_in entries.now)) index.new.machine) }
+    ensures fails { IfErr result (λ error. EndsAt index.old.machine (records_in entries.now) error) }
 {
     for entry in entries {
         if let Entry::Commits(commits) = entry {

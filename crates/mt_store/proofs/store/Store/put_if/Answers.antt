@@ -1,3 +1,4 @@
+use Rattle.std.specs.Prelude.{OnErr}
 use Rattle.std.proofs.Common.{◌++◌, List, Ok, Err, subst, sym}
 use Rattle.std.proofs.lemmas.List.{append-nil}
 use Rattle.mt_types.specs.declared.event.Answer.TheVariants.{Stored}
@@ -34,3 +35,12 @@ pub returns-then-is_behind-clause-found : goal.returns-then-is_behind-clause-fou
 returns-then-is_behind-clause-found g c = λ changes st mixing.
     subst (λ (cs : List Change). AllRecover cs c.args.self.now.map.machine c.args.self.now.journal.at.durable (g.D.Disk.may_leave c.args.self.now.journal.disk)) (sym (append-nil changes))
     (c.is_behind.ensures.found changes st)
+
+pub returns-in-Ok-clause-stays : goal.returns-in-Ok-clause-stays
+returns-in-Ok-clause-stays g c = λ changes st asks.
+    subst (λ (made : List Change). OnErr c.logged.result (IsStored (changes ++ made) c.logged.new.self.map.machine c.logged.new.self.journal.at (g.D.Disk.seen c.logged.new.self.journal.disk) (g.D.Disk.may_leave c.logged.new.self.journal.disk)))
+    (sym (made_is (change_of (PutIf c.args.key.now (sets_of c.args.sets.now) c.args.version)) c.in-Ok.commit c.logged.result c.logged.ensures.commit))
+    (c.logged.ensures.stays _ (stored_more c.args.self.now.map.machine c.put_if.new.self.machine changes _ c.args.self.now.journal.at (g.D.Disk.seen c.args.self.now.journal.disk) (g.D.Disk.may_leave c.args.self.now.journal.disk) (comes c.args.self.now.map c.put_if.new.self (PutIf c.args.key.now (sets_of c.args.sets.now) c.args.version) (Ok (Stored c.in-Ok.commit)) c.in-Ok.ensures) st) asks)
+
+pub returns-in-Err-clause-stays : goal.returns-in-Err-clause-stays
+returns-in-Err-clause-stays g c = λ changes st asks. stored_more c.args.self.now.map.machine c.put_if.new.self.machine changes _ c.args.self.now.journal.at (g.D.Disk.seen c.args.self.now.journal.disk) (g.D.Disk.may_leave c.args.self.now.journal.disk) (comes c.args.self.now.map c.put_if.new.self (PutIf c.args.key.now (sets_of c.args.sets.now) c.args.version) (Err c.in-Err.refusal) c.in-Err.ensures) st
