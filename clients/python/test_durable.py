@@ -6,12 +6,10 @@ import asyncio
 import errno
 import pickle
 import socket
-import tempfile
 import threading
 import time
 import unittest
-from pathlib import Path
-from typing import Any, Callable, Coroutine, Optional, Type
+from typing import Any, Callable, Coroutine, Optional
 
 import rowanspan
 from rowanspan import (Build, Client, ConnectionLost, DiskFailed, DiskFull, Get, GetInfo, InMemory, ListViews,
@@ -19,7 +17,7 @@ from rowanspan import (Build, Client, ConnectionLost, DiskFailed, DiskFull, Get,
                        ViewRead, Wait, WaitDurable, aio)
 from server_cases import OWNER, SECONDS, TOKENS, later
 from stand_in import Options, StandIn
-from stand_in_log import BadLog, FileLog, Log, Policy
+from stand_in_log import Log, Policy
 
 NEVER = Policy(False)
 
@@ -332,62 +330,3 @@ class AioTest(DurableTest):
         with StandIn(Options(workers=2)) as server:
             self.run_with(in_memory, server.port)
         self.run_with(full)
-
-
-class FileLogTest(unittest.TestCase):
-    """The stand-in's own log, which scripts/durable_test is tried on."""
-
-    def setUp(self) -> None:
-        made = tempfile.TemporaryDirectory()
-        self.addCleanup(made.cleanup)
-        self.folder = Path(made.name) / "data"
-
-    def puts(self, count: int, columns: int = 1) -> int:
-        """Puts so many rows, and removes the first; returns the number of commits that were there before."""
-        log = FileLog(self.folder, Policy(), columns)
-        with StandIn(Options(workers=1, columns=columns, log=log)) as server:
-            with Client(server.port, timeout=SECONDS) as index:
-                before = index.ping()
-                for number in range(count):
-                    index.put(b"%d" % number, {0: b"v"})
-                index.remove(b"0")
-            server.stop()
-            server.join()
-        log.close()
-        return before
-
-    def want_bad(self, kind: Type[Exception], columns: int = 1) -> str:
-        with self.assertRaises(kind) as met:
-            FileLog(self.folder, Policy(), columns)
-        return str(met.exception)
-
-    def test_one_at_a_time(self) -> None:
-        log = FileLog(self.folder, Policy(), 1)
-        self.want_bad(BlockingIOError)
-        log.close()
-        self.assertEqual(self.puts(1), 0)
-
-    def test_again(self) -> None:
-        self.assertEqual([self.puts(count) for count in (3, 0, 5)], [0, 4, 4])
-        self.assertEqual(self.puts(1), 10)
-
-    def test_what_is_no_log(self) -> None:
-        self.puts(3)
-        self.assertIn("columns 1", self.want_bad(BadLog, columns=2))
-        wal = self.folder / "even-wal"
-        whole = wal.read_bytes().rstrip(b"\0")
-        wal.write_bytes(whole[:40] + bytes((whole[40] ^ 1,)) + whole[41:])
-        self.assertRegex(self.want_bad(BadLog), "the line at byte [0-9]+ is damaged$")
-        wal.write_bytes(whole[:-1])
-        self.assertEqual(self.puts(1), 3)
-
-    def test_policies(self) -> None:
-        self.assertEqual([Policy.read(word) for word in ("always", "never", "50")],
-                         [Policy(), NEVER, Policy(False, 50)])
-        for word in ("", "0", "-1", "x", "1.5"):
-            with self.assertRaises(ValueError):
-                Policy.read(word)
-
-
-if __name__ == "__main__":
-    unittest.main()
