@@ -10,13 +10,13 @@ import shutil
 import stat
 import subprocess
 from dataclasses import dataclass
-from typing import Any, Callable, Dict, List
+from typing import Any, Callable, Dict, List, Sequence, Tuple
 
 from histories import History
 from running import LOG, Setting, Skipped, files_of, want, want_same
 
-# how many places of a file are tried
-PLACES = 12
+# how many places of a file are tried, and how many bytes of a frame are its length (crates/mt_frame/README.md)
+PLACES, LENGTH = 12, 5
 
 
 # ---- a torn tail
@@ -102,12 +102,26 @@ def places_in(said: str, setting: Setting) -> List[int]:
 
 def changed_bytes(setting: Setting) -> str:
     """A byte in the middle of the log is another, and no zero: it isn't opened, and the place is said."""
-    log, chance, wrong, opened = written(setting, 60), random.Random(setting.seed), [], []
-    whole, ends = log.whole, log.ends
-    # (each place of a frame, the first byte of a frame, and places by chance)
-    places = {*range(ends[20], ends[21]), *ends[25:35], *chance.sample(range(ends[0], ends[50]), PLACES)}
-    for at in sorted(places):
-        other = chance.choice([byte for byte in range(1, 256) if byte != whole[at]])
+    log, chance = written(setting, 60), random.Random(setting.seed)
+    # (each place of a frame, and places by chance, but for the length of a frame)
+    places = {*range(log.ends[20], log.ends[21]), *chance.sample(range(log.ends[0], log.ends[50]), 4 * PLACES)}
+    changes = [(at, chance.choice([byte for byte in range(1, 256) if byte != log.whole[at]])) for at in sorted(places)
+               if at - log.ends[log.commits_before(at)] >= LENGTH]
+    return want_each_refused(setting, log, changes)
+
+
+def changed_lengths(setting: Setting) -> str:
+    """The same, of the bytes that say how long a frame is."""
+    log = written(setting, 60)
+    return want_each_refused(setting, log, [(begin + at, other) for begin in log.ends[20:24] for at in range(LENGTH)
+                                            for other in (0x01, 0x7f, 0x81, 0x84, 0xb4, 0xff)
+                                            if log.whole[begin + at] != other])
+
+
+def want_each_refused(setting: Setting, log: Written, changes: Sequence[Tuple[int, int]]) -> str:
+    """With each of these changes of a byte the log isn't opened, its place is said, and it stays as it is."""
+    whole, ends, wrong, opened = log.whole, log.ends, [], []
+    for at, other in changes:
         setting.log.write_bytes(whole[:at] + bytes((other,)) + whole[at + 1:])
         before = log.commits_before(at)
         try:
@@ -118,12 +132,12 @@ def changed_bytes(setting: Setting) -> str:
             continue
         if not any(ends[before] <= place <= at for place in places_in(said, setting)):
             wrong.append(f"byte {at} of a frame from byte {ends[before]} on: {said!r}")
-    want(not opened, f"of {len(places)} places {len(opened)} aren't refused: {'; '.join(opened)[:1500]}")
-    want(not wrong, f"of {len(places)} places {len(wrong)} aren't named: {'; '.join(wrong)[:600]}")
+    want(not opened, f"of {len(changes)} changes {len(opened)} aren't refused: {'; '.join(opened)[:1500]}")
+    want(not wrong, f"of {len(changes)} changes {len(wrong)} aren't named: {'; '.join(wrong)[:600]}")
     setting.log.write_bytes(whole)
     with setting.server() as server, server.index() as index:
         log.history.want_all(index)
-    return f"{len(places)} places"
+    return f"{len(changes)} changes"
 
 
 def changed_heads(setting: Setting) -> None:
@@ -256,5 +270,5 @@ def options_that_are_told(setting: Setting) -> None:
         want(word in done.stdout, f"--help doesn't say {word.decode()}")
 
 
-CASES = (tails_that_are_zero, tails_that_are_cut, changed_bytes, changed_heads, other_columns, one_server_at_a_time, folders_that_are_none,
+CASES = (tails_that_are_zero, tails_that_are_cut, changed_bytes, changed_lengths, changed_heads, other_columns, one_server_at_a_time, folders_that_are_none,
          folders_that_are_read_only, a_copied_folder, bad_command_lines, options_that_are_told)

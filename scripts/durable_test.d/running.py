@@ -91,7 +91,8 @@ class Setting:
     def refused(self, status: int, *words: str, **given: Any) -> str:
         """What a server writes on standard error that ends at once, with these options, by this status."""
         try:
-            done = subprocess.run([self.serve, *options(*words), STOPS], stdin=subprocess.DEVNULL, capture_output=True,
+            # (one that would start ends at once, by status 0)
+            done = subprocess.run([self.serve, *options(*words), STOPS], input=b"", capture_output=True,
                                   timeout=SECONDS, check=False, **given)
         except subprocess.TimeoutExpired:
             raise Failed(f"it runs on with {' '.join(words)}") from None
