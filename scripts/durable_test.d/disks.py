@@ -21,7 +21,7 @@ MIB = 1 << 20
 FRAMES, PUTS = 1000, 60
 # in seconds: how long the frame may wait that meets a full disk. Its changes are made then, and aren't answered before
 # there is room for them
-WAITS = 2.0
+WAITS = 5.0
 
 
 def fill(server: Server, history: History) -> Union[Refused, ConnectionLost]:

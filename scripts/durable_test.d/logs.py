@@ -103,8 +103,8 @@ def places_in(said: str, setting: Setting) -> List[int]:
 def changed_bytes(setting: Setting) -> str:
     """A byte in the middle of the log is another, and no zero: it isn't opened, and the place is said."""
     log, chance = written(setting, 60), random.Random(setting.seed)
-    # (each place of a frame, and places by chance, but for the length of a frame)
-    places = {*range(log.ends[20], log.ends[21]), *chance.sample(range(log.ends[0], log.ends[50]), 4 * PLACES)}
+    # (places of a frame, and places by chance, but for the length of a frame)
+    places = {*range(log.ends[20], log.ends[21], 5), *chance.sample(range(log.ends[0], log.ends[50]), 2 * PLACES)}
     changes = [(at, chance.choice([byte for byte in range(1, 256) if byte != log.whole[at]])) for at in sorted(places)
                if at - log.ends[log.commits_before(at)] >= LENGTH]
     return want_each_refused(setting, log, changes)
@@ -113,8 +113,8 @@ def changed_bytes(setting: Setting) -> str:
 def changed_lengths(setting: Setting) -> str:
     """The same, of the bytes that say how long a frame is."""
     log = written(setting, 60)
-    return want_each_refused(setting, log, [(begin + at, other) for begin in log.ends[20:24] for at in range(LENGTH)
-                                            for other in (0x01, 0x7f, 0x81, 0x84, 0xb4, 0xff)
+    return want_each_refused(setting, log, [(begin + at, other) for begin in log.ends[20:22] for at in range(LENGTH)
+                                            for other in (0x01, 0x81, 0x84, 0xb4, 0xff)
                                             if log.whole[begin + at] != other])
 
 

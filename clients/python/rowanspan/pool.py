@@ -104,6 +104,8 @@ class Pool(Asker):
             self._give_back(client)
 
     def settle(self, timeout: Optional[float] = None) -> bool:
+        """Waits until all commits are durable that any thread was shown, as `Client.settle`. Raises `ConnectionLost`,
+        once, if a connection has ended that had shown commits which aren't known to be durable."""
         commit = self._shown()
         is_settled = super().settle(timeout)
         if is_settled:
