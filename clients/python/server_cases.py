@@ -11,10 +11,10 @@ import time
 from contextlib import ExitStack
 from typing import Any, Callable, ContextManager, Dict, List, Mapping, Sequence
 
-from rowanspan import (AnyRow, AtLeast, Build, Client, ConnectionLost, Equals, Get, GetInfo, GetRange, Hello, ListViews,
-                       NoSuchView, NotAllowed, Outcome, Ping, Prefix, Put, PutIf, Query, Range, Remove, Reply,
-                       Role, Row, StandingView, Stop, Tidy, TooMuchAtOnce, ViewDrop, ViewRead, Wait, read_replies,
-                       receive_body, request_frame)
+from rowanspan import (AnyRow, AtLeast, Build, Client, ConnectionLost, Equals, Get, GetInfo, GetRange, Hello, InMemory,
+                       ListViews, NoSuchView, NotAllowed, Outcome, Ping, Prefix, Put, PutIf, Query, Range, Refused,
+                       Remove, Reply, Role, Row, StandingView, Stop, Tidy, TooMuchAtOnce, ViewDrop, ViewRead, Wait,
+                       WaitDurable, read_replies, receive_body, request_frame)
 
 # a token of each role
 READER, WRITER, OWNER = b"reader-0123456789", b"writer-0123456789", b"owner-0123456789a"
@@ -288,6 +288,22 @@ def waits_of_many(start: Start) -> None:
         want_same("what they found", found, [True] * count)
 
 
+def nothing_is_durable(start: Start) -> None:
+    """A server without a folder refuses at once to wait for a durable commit."""
+    with start(TOKENS) as port, client(port, token=WRITER) as index, client(port, token=READER) as reader:
+        index.put(b"a", b"v")
+        for asker in (index, reader):
+            for call in (asker.durable, asker.settle, lambda: asker.wait(1, durable=True)):
+                try:
+                    raise AssertionError(f"{call()} is answered")
+                except InMemory as refusal:
+                    want_same("its detail", refusal.detail, None)
+        want_same("what info says", index.info()["durable"], 0)
+        both = index.call_all([WaitDurable(), Get(b"a")])
+        want_refused("a wait beside a get", both[0], TooMuchAtOnce)
+        want(not isinstance(both[1], Refused), f"a get beside a wait: {both[1]}")
+
+
 # ---- the end
 
 def want_ended(port: int) -> None:
@@ -318,4 +334,4 @@ def stops(start: Start) -> None:
 CASES: List[Case] = [
     hello_without_tokens, hello_with_tokens, nothing_before_hello, what_a_reader_may, what_a_writer_may, hello_again,
     versions_after_hello, alone_in_its_frame, pings, info, lists_by_role, views, wait_for_commits, wait_for_a_view,
-    waits_of_many, stops]
+    waits_of_many, nothing_is_durable, stops]

@@ -4,237 +4,27 @@ alone, and takes the command line of `mtserve`, so that the tests of the server 
 from __future__ import annotations
 
 import argparse
+import os
 import socket
 import sys
 import threading
+import time
 from dataclasses import dataclass, field
 from pathlib import Path
 from types import TracebackType
-from typing import Any, Callable, Dict, List, Mapping, Optional, Sequence, Tuple, Type
+from typing import Callable, Dict, List, Mapping, Optional, Type
 
 import rowanspan as wire
-from rowanspan import (AnswerKind, AnyRow, AtLeast, Equals, Get, GetRange, Listing, Page, Pairs, Prefix, Put, PutIf,
-                       Query, Refused, Remove, Role, Row, RowTest, StandingView, Tidied, Tidy, ViewDrop, ViewNo,
-                       ViewRead, ViewSpec, Wait, Waited, set_pairs, spelled_number)
+from rowanspan import Role
+from stand_in_index import PlainIndex
 from stand_in_keeper import Keeper
-from stand_in_wire import (NO_HELLO, WRITE_FAILED, SessionFault, next_body, read_queries, reply_frame, spelled_done,
-                           spelled_page, spelled_pairs, spelled_refusal, spelled_row)
+from stand_in_log import BadLog, FileLog, Log, Policy
+from stand_in_wire import NO_HELLO, WRITE_FAILED, SessionFault, next_body, read_queries, reply_frame
 
-MAX_COLUMN_BYTES = 64
-MAX_VIEWS = 64
+__all__ = ["Options", "PlainIndex", "StandIn"]
+
 # how many connections it serves at once, if it isn't told how many there are
 CONNECTIONS = 32
-
-
-# ---- the index
-
-def amount(column: bytes) -> int:
-    return int.from_bytes(column, "big") if len(column) <= 8 else 0
-
-
-def passes(test: RowTest, row: Row) -> bool:
-    if isinstance(test, Equals):
-        return row.columns[test.column] == test.value
-    return not isinstance(test, AtLeast) or amount(row.columns[test.column]) >= test.least
-
-
-def belongs(spec: ViewSpec, key: bytes, row: Row) -> bool:
-    if isinstance(spec, Prefix):
-        return key.startswith(spec.key) and passes(spec.test, row)
-    return spec.lo <= key and (spec.hi is None or key < spec.hi) and passes(spec.test, row)
-
-
-def shown(row: Row, columns: Sequence[int]) -> Row:
-    return Row(row.version, tuple(row.columns[column] for column in columns)) if columns else row
-
-
-class PlainIndex:
-    """The rows and the views, under one lock. Each answer is its bytes."""
-
-    def __init__(self, columns: int) -> None:
-        self._lock = threading.Lock()
-        # says that there is another commit, that a view was dropped, or that the server ends
-        self._changed = threading.Condition(self._lock)
-        self.is_ending = False
-        self._columns = columns
-        self._rows: Dict[bytes, Row] = {}
-        self._views: Dict[int, ViewSpec] = {}
-        self._built = 0
-        self.commits = 0
-        self.asked: List[Query[Any]] = []
-
-    @property
-    def events(self) -> int:
-        """How many queries were asked."""
-        return len(self.asked)
-
-    def answer(self, query: Query[Any]) -> bytes:
-        with self._changed:
-            self.asked.append(query)
-            try:
-                return self._answer(query)
-            except Refused as refusal:
-                return spelled_refusal(refusal)
-            finally:
-                self._changed.notify_all()
-
-    def listing(self) -> Listing:
-        """All views: each is up to date at once."""
-        with self._lock:
-            return Listing(self.commits, [StandingView(ViewNo(number), self.commits, len(self._members(spec)), spec)
-                                          for number, spec in self._views.items()])
-
-    def waited(self, query: Wait) -> Waited:
-        """Waits until there are `commit` commits, at most the query's time. Raises `NoSuchView`."""
-        with self._changed:
-            self._changed.wait_for(lambda: self.is_ending or self.commits >= query.commit
-                                   or query.view not in (None, *self._views), query.patience())
-            if query.view is not None and query.view not in self._views:
-                raise wire.NoSuchView()
-            return Waited(self.commits >= query.commit, self.commits, 0 if query.view is None else self.commits)
-
-    def end(self) -> None:
-        """Nobody waits any longer."""
-        with self._changed:
-            self.is_ending = True
-            self._changed.notify_all()
-
-    def _answer(self, query: Query[Any]) -> bytes:
-        if isinstance(query, Get):
-            return self._get(query)
-        if isinstance(query, Put):
-            return self._put(query.key, set_pairs(query.sets))
-        if isinstance(query, PutIf):
-            return self._put_if(query)
-        if isinstance(query, Remove):
-            return self._remove(query)
-        if isinstance(query, GetRange):
-            return self._range(query)
-        if isinstance(query, Tidy):
-            self._check_key(query.key)
-            return self._done(AnswerKind.TIDIED, self.commits, spelled_number(Tidied.NOTHING, 1))
-        return self._answer_of_view(query)
-
-    def _answer_of_view(self, query: Query[Any]) -> bytes:
-        if isinstance(query, wire.Build):
-            return self._build(query.spec)
-        if isinstance(query, ViewRead):
-            return self._view(query)
-        assert isinstance(query, ViewDrop)
-        if self._views.pop(query.view, None) is None:
-            raise wire.NoSuchView()
-        return spelled_number(AnswerKind.DROPPED, 1)
-
-    def _done(self, kind: AnswerKind, from_: int, rest: bytes = b"") -> bytes:
-        return spelled_done(kind, from_, self.commits, rest)
-
-    def _commit(self) -> int:
-        self.commits += 1
-        return self.commits
-
-    def _check_key(self, key: bytes) -> None:
-        if len(key) > wire.MAX_KEY_BYTES:
-            raise wire.KeyTooLong()
-
-    def _check_columns(self, columns: Sequence[int]) -> None:
-        if len(set(columns)) < len(columns) or any(column >= self._columns for column in columns):
-            raise wire.BadColumn()
-
-    def _check_bytes(self, value: bytes) -> None:
-        if len(value) > MAX_COLUMN_BYTES:
-            raise wire.ColumnTooLong()
-
-    def _check_sets(self, key: bytes, sets: List[Tuple[int, bytes]]) -> None:
-        self._check_key(key)
-        self._check_columns([column for column, _ in sets])
-        for _, value in sets:
-            self._check_bytes(value)
-
-    def _check_limit(self, limit: int) -> None:
-        if not 1 <= limit <= wire.MAX_LIMIT:
-            raise wire.BadLimit()
-
-    def _check_test(self, test: RowTest) -> None:
-        if not isinstance(test, AnyRow):
-            self._check_columns([test.column])
-        if isinstance(test, Equals):
-            self._check_bytes(test.value)
-
-    def _check_spec(self, spec: ViewSpec) -> None:
-        if isinstance(spec, Prefix):
-            self._check_key(spec.key)
-            return self._check_test(spec.test)
-        self._check_key(spec.lo)
-        self._check_key(spec.hi or b"")
-        self._check_test(spec.test)
-        if spec.hi is not None and spec.hi <= spec.lo:
-            raise wire.BadRange()
-
-    def _get(self, query: Get) -> bytes:
-        self._check_key(query.key)
-        self._check_columns(query.columns)
-        row = self._rows.get(query.key)
-        if row is None:
-            return self._done(AnswerKind.ABSENT, self.commits)
-        return self._done(AnswerKind.ROW, self.commits, spelled_row(shown(row, query.columns)))
-
-    def _put(self, key: bytes, sets: List[Tuple[int, bytes]]) -> bytes:
-        self._check_sets(key, sets)
-        before = self._rows.get(key)
-        columns = list(before.columns) if before else [b""] * self._columns
-        for column, value in sets:
-            columns[column] = value
-        commit = self._commit()
-        self._rows[key] = Row(commit, tuple(columns))
-        return self._done(AnswerKind.COMMITTED, commit - 1, spelled_number(commit, 8))
-
-    def _put_if(self, query: PutIf) -> bytes:
-        sets = set_pairs(query.sets)
-        self._check_sets(query.key, sets)
-        before = self._rows.get(query.key)
-        found = before.version if before else 0
-        if found != query.version:
-            raise wire.OtherVersion(found)
-        return self._put(query.key, sets)
-
-    def _remove(self, query: Remove) -> bytes:
-        self._check_key(query.key)
-        if self._rows.pop(query.key, None) is None:
-            return self._done(AnswerKind.ABSENT, self.commits)
-        commit = self._commit()
-        return self._done(AnswerKind.COMMITTED, commit - 1, spelled_number(commit, 8))
-
-    def _range(self, query: GetRange) -> bytes:
-        self._check_key(query.start)
-        self._check_columns(query.columns)
-        self._check_limit(query.limit)
-        keys = sorted(key for key in self._rows if key >= query.start)[:query.limit]
-        pairs = [(key, shown(self._rows[key], query.columns)) for key in keys]
-        return self._done(AnswerKind.ROWS, self.commits, spelled_pairs(pairs))
-
-    def _build(self, spec: ViewSpec) -> bytes:
-        self._check_spec(spec)
-        if len(self._views) == MAX_VIEWS:
-            raise wire.TooManyViews()
-        self._built += 1
-        self._views[self._built] = spec
-        return self._done(AnswerKind.BUILT, self.commits, spelled_number(self._built, 8))
-
-    def _members(self, spec: ViewSpec) -> Pairs:
-        return [(key, row) for key, row in sorted(self._rows.items()) if belongs(spec, key, row)]
-
-    def _view(self, query: ViewRead) -> bytes:
-        self._check_key(query.start)
-        self._check_limit(query.limit)
-        spec = self._views.get(query.view)
-        if spec is None:
-            raise wire.NoSuchView()
-        if self.commits < query.floor:
-            raise wire.Behind(self.commits)
-        pairs = self._members(spec)
-        sums = tuple(sum(amount(row.columns[place]) for _, row in pairs) for place in range(self._columns))
-        rows = [pair for pair in pairs if pair[0] >= query.start][:query.limit]
-        return spelled_page(Page(self.commits, len(pairs), sums, rows))
 
 
 # ---- sessions
@@ -258,7 +48,8 @@ def serve(connection: socket.socket, index: PlainIndex, keeper: Keeper, newest: 
 @dataclass(frozen=True)
 class Options:
     """Those of the server's command line; `sessions` is None for a server that serves until it is killed. With a path
-    it listens there, at a Unix socket. `newest` is the greatest version of the wire that it knows."""
+    it listens there, at a Unix socket. `newest` is the greatest version of the wire that it knows. Without a log it
+    keeps its rows in memory alone."""
 
     port: int = 0
     workers: int = 1
@@ -267,6 +58,7 @@ class Options:
     tokens: Mapping[bytes, Role] = field(default_factory=dict)
     path: Optional[str] = None
     newest: int = wire.SERVER_VERSION
+    log: Optional[Log] = None
 
 
 def listening(options: Options) -> socket.socket:
@@ -279,9 +71,9 @@ class StandIn:
     """A server in threads of this process, at `port` of this machine, or at the path that it was given."""
 
     def __init__(self, options: Options = Options(), tell: Callable[[str], None] = lambda line: None) -> None:
-        self.index = PlainIndex(options.columns)
+        self.index = PlainIndex(options.columns, options.log)
         self.keeper = Keeper(self.index, options.tokens, options.columns)
-        self.keeper.stop = self._stop
+        self.keeper.stop = lambda at_once: self.stop()
         self.faults: List[int] = []
         self._tell, self._newest, self._sessions = tell, options.newest, options.sessions
         self._listener = listening(options)
@@ -298,7 +90,7 @@ class StandIn:
                  trace: Optional[TracebackType]) -> None:
         self._listener.close()
 
-    def _stop(self, at_once: bool) -> None:
+    def stop(self) -> None:
         """Nothing is accepted or read any more."""
         self.index.end()
         self._listener.shutdown(socket.SHUT_RDWR)
@@ -359,6 +151,9 @@ def parser() -> argparse.ArgumentParser:
     made.add_argument("--forever", action="store_true")
     made.add_argument("--columns", type=bounded(1, 16), default=1)
     made.add_argument("--token-file", type=read_tokens, default={})
+    made.add_argument("--data", type=Path)
+    made.add_argument("--sync", type=Policy.read)
+    made.add_argument("--stop-at-end-of-input", action="store_true")
     made.add_argument("--log-capacity", "--feed", type=bounded(1, 65_536), default=4096)
     made.add_argument("--log-retention", "--keep", type=bounded(0, 65_536), default=0)
     return made
@@ -368,19 +163,58 @@ def tell(line: str) -> None:
     print(line, file=sys.stderr, flush=True)
 
 
-def main() -> int:
-    given = parser().parse_args()
+def parsed() -> argparse.Namespace:
+    made = parser()
+    given = made.parse_args()
+    if given.sync is not None and given.data is None:
+        made.error("--sync is for --data")
+    return given
+
+
+def in_a_thread(work: Callable[[], None]) -> None:
+    threading.Thread(target=work, daemon=True).start()
+
+
+def sync_again(server: StandIn, milliseconds: int) -> None:
+    while True:
+        time.sleep(milliseconds / 1000)
+        server.index.sync()
+
+
+def stop_at_end(server: StandIn) -> None:
+    """Stops it when standard input ends."""
+    while os.read(0, 4096):
+        pass
+    server.stop()
+
+
+def started(given: argparse.Namespace) -> StandIn:
+    """Raises `BadLog` and OSError."""
     sessions = None if given.forever else given.sessions
+    # (a worker has one connection at a time here)
+    workers = given.workers if sessions is not None else max(given.workers, CONNECTIONS)
+    policy = given.sync or Policy()
+    log = None if given.data is None else FileLog(given.data, policy, given.columns)
+    server = StandIn(Options(given.port, workers, sessions, given.columns, given.token_file, log=log), tell)
+    if log is not None and policy.milliseconds is not None:
+        in_a_thread(lambda: sync_again(server, policy.milliseconds or 1))
+    if given.stop_at_end_of_input:
+        in_a_thread(lambda: stop_at_end(server))
+    return server
+
+
+def main() -> int:
+    given = parsed()
     try:
-        # (a worker has one connection at a time here)
-        workers = given.workers if sessions is not None else max(given.workers, CONNECTIONS)
-        server = StandIn(Options(given.port, workers, sessions, given.columns, given.token_file), tell)
-    except OSError as fault:
+        server = started(given)
+    except (BadLog, OSError) as fault:
         tell(f"stand_in: {fault}")
         return 3
     with server:
         tell(f"listening {server.port}")
         server.join()
+    if server.index.log is not None:
+        server.index.log.close()
     print(f"events {server.index.events} commits {server.index.commits}")
     return 0
 

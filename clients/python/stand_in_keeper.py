@@ -6,18 +6,19 @@ import os
 import threading
 import time
 from dataclasses import dataclass
-from typing import TYPE_CHECKING, Any, Callable, Dict, List, Mapping, Optional, Sequence
+from typing import TYPE_CHECKING, Any, Callable, Dict, List, Mapping, Optional, Sequence, Union
 
-from rowanspan import (Get, GetInfo, GetRange, Greeting, Hello, ListViews, NotAllowed, Ping, Pong, Query, Refused, Role,
-                       Stop, TooMuchAtOnce, ViewRead, Wait)
-from stand_in_wire import (spelled_greeting, spelled_info, spelled_listing, spelled_pong, spelled_refusal,
-                           spelled_stopped, spelled_waited)
+from rowanspan import (DiskFailed, Get, GetInfo, GetRange, Greeting, Hello, ListViews, NotAllowed, Ping, Pong, Put,
+                       PutIf, Query, Refused, Remove, Role, Stop, TooMuchAtOnce, ViewRead, Wait, WaitDurable)
+from stand_in_wire import (DISK_FAILED, SessionFault, spelled_greeting, spelled_info, spelled_listing, spelled_pong,
+                           spelled_refusal, spelled_settled, spelled_stopped, spelled_waited)
 
 if TYPE_CHECKING:
-    from stand_in import PlainIndex
+    from stand_in_index import PlainIndex
 
 RUN_BYTES = 16
-READS = (Get, GetRange, ViewRead, Ping, GetInfo, ListViews, Wait)
+READS = (Get, GetRange, ViewRead, Ping, GetInfo, ListViews, Wait, WaitDurable)
+CHANGES = (Put, PutIf, Remove)
 
 
 def may(role: Role, query: Query[Any]) -> bool:
@@ -56,7 +57,7 @@ class Keeper:
         return session
 
     def answers(self, session: Session, queries: Sequence[Query[Any]]) -> List[bytes]:
-        """The answers to a frame."""
+        """The answers to a frame. Raises `SessionFault` if its changes can't become durable any more."""
         query = queries[0]
         if len(queries) == 1 and isinstance(query, Hello):
             return [self._greet(session, query)]
@@ -64,7 +65,21 @@ class Keeper:
             return [spelled_refusal(NotAllowed()) for _ in queries]
         if len(queries) == 1 and query.is_alone:
             return [self._answer(query)]
-        return [spelled_refusal(TooMuchAtOnce()) if one.is_alone else self._index.answer(one) for one in queries]
+        changes = any(isinstance(one, CHANGES) for one in queries)
+        hindrance = self._index.hindrance() if changes else None
+        if hindrance is not None:
+            return [spelled_refusal(hindrance) for _ in queries]
+        answers = [spelled_refusal(TooMuchAtOnce()) if one.is_alone else self._index.answer(one) for one in queries]
+        if changes:
+            self._make_durable()
+        return answers
+
+    def _make_durable(self) -> None:
+        log = self._index.log
+        if log is not None and log.policy.is_always:
+            self._index.sync()
+            if isinstance(log.refusal, DiskFailed):
+                raise SessionFault(DISK_FAILED)
 
     def _greet(self, session: Session, hello: Hello) -> bytes:
         token, session.name = bytes_of(hello.token), bytes_of(hello.name)
@@ -82,19 +97,25 @@ class Keeper:
             return spelled_info(self._counts())
         if isinstance(query, ListViews):
             return spelled_listing(self._index.listing())
-        if isinstance(query, Wait):
-            try:
-                return spelled_waited(self._index.waited(query))
-            except Refused as refusal:
-                return spelled_refusal(refusal)
+        if isinstance(query, (Wait, WaitDurable)):
+            return self._wait(query)
         assert isinstance(query, Stop)
         self.stop(query.at_once)
         return spelled_stopped(self._index.commits)
+
+    def _wait(self, query: Union[Wait, WaitDurable]) -> bytes:
+        try:
+            if isinstance(query, Wait):
+                return spelled_waited(self._index.waited(query))
+            return spelled_settled(self._index.settled(query))
+        except Refused as refusal:
+            return spelled_refusal(refusal)
 
     def _counts(self) -> Dict[str, int]:
         return {"commits": self._index.commits, "nodes": 1, "feed_from": self._index.commits,
                 "connections": self.open_connections, "connections_all": len(self.sessions), "turned_away": 0,
                 "queries": self._index.events, "faults": self.faults, "views": len(self._index.listing().views),
+                "durable": 0 if self._index.log is None else self._index.log.durable,
                 "uptime_ms": int(1000 * (time.monotonic() - self._began))}
 
 

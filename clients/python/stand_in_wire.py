@@ -7,12 +7,12 @@ from typing import Any, Callable, Dict, List, Mapping, Optional, Sequence, Tuple
 
 from rowanspan import (MAX_QUERIES, MAX_REQUEST_BODY, SERVER_VERSION, AnswerKind, Build, Get, GetInfo, GetRange,
                        Greeting, Hello, Listing, ListViews, Page, Pairs, Ping, Pong, Put, PutIf, Query, Reader, Refused,
-                       Remove, Row, StandingView, Stop, Tidy, ViewDrop, ViewRead, Wait, Waited, spelled_bytes,
-                       spelled_key, spelled_number)
+                       Remove, Row, Settled, StandingView, Stop, Tidy, ViewDrop, ViewRead, Wait, Waited, WaitDurable,
+                       spelled_bytes, spelled_key, spelled_number)
 from rowanspan.server_queries import read_flag, read_spec
 from rowanspan.wire import spelled_spec
 
-READ_FAILED, WRITE_FAILED, CUT, BAD_LENGTH, BAD_VERSION, BAD_BODY, NO_HELLO = 1, 2, 3, 4, 5, 6, 8
+READ_FAILED, WRITE_FAILED, CUT, BAD_LENGTH, BAD_VERSION, BAD_BODY, NO_HELLO, DISK_FAILED = 1, 2, 3, 4, 5, 6, 8, 12
 # what the server says of each fault
 FAULTS = {
     1: "the input could not be read",
@@ -23,6 +23,7 @@ FAULTS = {
     6: "the body of a frame is not a list of queries",
     7: "out of memory",
     8: "no hello with a secret of the server",
+    12: "the disk failed while changes waited to become durable",
 }
 
 
@@ -83,9 +84,15 @@ def read_hello(reader: Reader) -> Hello:
     return Hello(token, reader.key(), newest)
 
 
-def read_wait(reader: Reader) -> Wait:
-    view = reader.number(8) if read_flag(reader) else None
-    return Wait(reader.number(8), view, reader.number(4))
+def read_wait(reader: Reader) -> Query[Any]:
+    kind = reader.number(1)
+    if kind > 2:
+        raise ValueError(f"there is no wait {kind}")
+    view = reader.number(8) if kind == 1 else None
+    commit, milliseconds = reader.number(8), reader.number(4)
+    if kind == 2:
+        return WaitDurable(commit, milliseconds)
+    return Wait(commit, view, milliseconds)
 
 
 READERS: Dict[int, Callable[[Reader], Query[Any]]] = {
@@ -185,6 +192,11 @@ def spelled_listing(listing: Listing) -> bytes:
 def spelled_waited(waited: Waited) -> bytes:
     return (bytes((AnswerKind.WAITED, waited.is_reached)) + spelled_number(waited.commits, 8)
             + spelled_number(waited.view_commits, 8))
+
+
+def spelled_settled(settled: Settled) -> bytes:
+    return (bytes((AnswerKind.WAITED, settled.is_reached)) + spelled_number(settled.commits, 8)
+            + spelled_number(settled.durable, 8))
 
 
 def spelled_stopped(commits: int) -> bytes:

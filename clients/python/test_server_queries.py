@@ -14,10 +14,10 @@ from typing import Any, Iterator, List, Mapping, Tuple
 
 import rowanspan
 import server_cases
-from rowanspan import (AnyRow, AtLeast, BadReply, Client, ConnectionLost, Equals, Get, GetInfo, Greeting, Hello,
-                       HelloUnanswered, Listing, ListViews, NotAllowed, Ping, Pong, Pool, Prefix, Query, Range, Reply,
-                       Role, StandingView, Stop, TooLong, TooMuchAtOnce, ViewNo, Wait, Waited, read_replies,
-                       request_frame)
+from rowanspan import (AnyRow, AtLeast, BadReply, Client, ConnectionLost, DiskFailed, DiskFull, Equals, Get, GetInfo,
+                       Greeting, Hello, HelloUnanswered, InMemory, Listing, ListViews, NotAllowed, Ping, Pong, Pool,
+                       Prefix, Query, Range, Reply, Role, Settled, StandingView, Stop, TooLong, TooMuchAtOnce, ViewNo,
+                       Wait, Waited, WaitDurable, read_replies, request_frame)
 from rowanspan.server_queries import next_of
 from server_cases import COLUMNS, OWNER, READER, SECONDS, TOKENS
 from stand_in import Options, StandIn
@@ -35,6 +35,7 @@ FRAMES: List[Tuple[Query[Any], str]] = [
     (ListViews(), "00000003 03 01  13"),
     (Wait(258), "00000010 03 01  14 00 0000000000000102 00000000"),
     (Wait(5, 7, 1000), "00000018 03 01  14 01 0000000000000007 0000000000000005 000003e8"),
+    (WaitDurable(258, 1000), "00000010 03 01  14 02 0000000000000102 000003e8"),
     (Stop(), "00000004 03 01  15 00"),
     (Stop(True), "00000004 03 01  15 01"),
 ]
@@ -54,6 +55,7 @@ REPLIES: List[Tuple[Query[Any], str, Any]] = [
                  StandingView(ViewNo(3), 5, 0, Range(b"a", b"b", Equals(1, b"vw")))])),
     (Wait(5), "00000014 03 01  14 01 0000000000000005 0000000000000000", Waited(True, 5, 0)),
     (Wait(5, 7), "00000014 03 01  14 00 0000000000000005 0000000000000004", Waited(False, 5, 4)),
+    (WaitDurable(5), "00000014 03 01  14 00 0000000000000005 0000000000000004", Settled(False, 5, 4)),
     (Stop(), "0000000b 03 01  15 0000000000000005", 5),
 ]
 
@@ -67,6 +69,7 @@ BAD: List[Tuple[str, Query[Any], str]] = [
     ("no test", ListViews(), "13 0000000000000005 01 0000000000000001 0000000000000004 0000000000000000 01 0000 03"),
     ("no specification", ListViews(), "13 0000000000000005 01 0000000000000001 0000000000000004 0000000000000000 02"),
     ("neither reached nor not", Wait(5), "14 02 0000000000000005 0000000000000000"),
+    ("neither durable nor not", WaitDurable(5), "14 02 0000000000000005 0000000000000000"),
     ("the answer to a ping", Stop(), "11 0000000000000000 0000000000000005"),
     ("a span", Stop(), "03 0000000000000000 0000000000000000 0000000000000001"),
     ("no refusal", Stop(), "00 1a 0000000000000000"),
@@ -101,15 +104,19 @@ class BytesTest(unittest.TestCase):
             self.assertEqual(read_replies(body, [ListViews()]), [Reply(listing)])
 
     def test_each_refusal(self) -> None:
-        for spelling, kind in (("0000000c 03 01  00 18 0000000000000000", NotAllowed),
-                               ("0000000c 03 01  00 19 0000000000000000", TooMuchAtOnce)):
+        for spelling, wanted in (("0000000c 03 01  00 13 0000000000000102", DiskFailed(258)),
+                                 ("0000000c 03 01  00 13 0000000000000000", DiskFailed(0)),
+                                 ("0000000c 03 01  00 14 0000000000000000", DiskFull()),
+                                 ("0000000c 03 01  00 15 0000000000000000", InMemory()),
+                                 ("0000000c 03 01  00 18 0000000000000000", NotAllowed()),
+                                 ("0000000c 03 01  00 19 0000000000000000", TooMuchAtOnce())):
             (refused,) = read_replies(bytes_of(spelling)[4:], [GetInfo()])
             assert isinstance(refused, rowanspan.Refused)
-            self.assertEqual((type(refused), refused.detail, str(refused)), (kind, None, kind.cause))
+            self.assertEqual((type(refused), refused.detail, str(refused)), (type(wanted), wanted.detail, str(wanted)))
         # (a server with tokens refuses each query so, in each version)
         (refused,) = read_replies(bytes_of("01 01 00 18 0000000000000000"), [Get(b"a")])
         self.assertIsInstance(refused, NotAllowed)
-        self.assertEqual(sorted(rowanspan.SERVER_REFUSALS), [24, 25])
+        self.assertEqual(sorted(rowanspan.SERVER_REFUSALS), [19, 20, 21, 24, 25])
 
     def test_bad_answers(self) -> None:
         for name, query, spelling in BAD:
@@ -129,10 +136,11 @@ class BytesTest(unittest.TestCase):
 
     def test_what_does_not_fit(self) -> None:
         for query in (Hello(bytes(65_536)), Hello(name="a" * 65), Hello(newest=256), Ping(2 ** 64), Wait(-1),
-                      Wait(0, -1), Wait(0, None, 2 ** 32)):
+                      Wait(0, -1), Wait(0, None, 2 ** 32), WaitDurable(2 ** 64), WaitDurable(0, 2 ** 32)):
             with self.subTest(query=str(query)[:40]), self.assertRaises(TooLong):
                 query.spelled()
-        wrong: Any = [Hello(5), Hello(name=None), Ping("1"), Wait("1"), Wait(0, "1"), Wait(0, None, 1.5)]
+        wrong: Any = [Hello(5), Hello(name=None), Ping("1"), Wait("1"), Wait(0, "1"), Wait(0, None, 1.5),
+                      WaitDurable("1"), WaitDurable(0, 1.5)]
         for query in wrong:
             with self.subTest(query=query), self.assertRaises(TypeError):
                 query.spelled()

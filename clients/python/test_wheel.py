@@ -260,6 +260,8 @@ class ServeTest(Folder):
     def test_the_named_server(self) -> None:
         self.assertEqual(self.serve(self.server, "--port", "70", "--forever")[1].split("\n")[0],
                          f"--port 70 --forever {STOPS}")
+        self.assertEqual(self.serve(self.server, "--data", "a b", "--sync", "50")[1].split("\n")[0],
+                         f"--data a b --sync 50 {STOPS}")
         self.assertEqual(self.serve(self.server, "--help")[1].split("\n")[0], "--help")
         self.server.write_text("#!/bin/sh\nexit 7\n")
         self.assertEqual(self.serve(self.server), (7, "", ""))

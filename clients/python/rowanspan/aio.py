@@ -25,7 +25,7 @@ from .core import (MAX_LIMIT, BadReply, Closed, ConnectionLost, NoSuchView, Othe
                    RowanspanError, Row, Sets, Tidied, ViewNo, ViewSpec, WrongIndex, checked_count, checked_key,
                    checked_number, checked_view, key_after, prefix_end)
 from .server import Greeting, HelloUnanswered
-from .server_queries import Hello, Token, hello_of
+from .server_queries import Hello, Token, commits_shown, hello_of
 from .wire import (MAX_QUERIES, MAX_REPLY_BODY, Build, Get, GetRange, Outcome, Put, PutIf, Query,
                    Remove, Reply, Tidy, ViewDrop, ViewRead, frame_version, read_replies, request_frame)
 
@@ -68,6 +68,8 @@ class Client(ServerCalls):
         self._waiting: Deque[Asked] = deque()
         self._sent: Deque[List[Asked]] = deque()
         self._is_flushing = False
+        # the greatest number of a commit of an answer
+        self._commits_shown = 0
         # why nothing can be asked
         self._ended: Optional[RowanspanError] = Closed("the client hasn't connected")
 
@@ -90,7 +92,7 @@ class Client(ServerCalls):
             reader, writer = await asyncio.wait_for(self._opened(), self._timeout)
         except (OSError, asyncio.TimeoutError, ValueError) as fault:
             raise ConnectionLost(f"no connection to {self._address.described()}: {fault}") from fault
-        self._writer, self._ended, self._greeting = writer, None, None
+        self._writer, self._ended, self._greeting, self._commits_shown = writer, None, None, 0
         self._reading = asyncio.ensure_future(self._read(reader))
         if self._own_hello is not None:
             await self._greet_or_close()
@@ -124,6 +126,9 @@ class Client(ServerCalls):
             except ConnectionLost as fault:
                 raise HelloUnanswered() from fault
         return self._greeting
+
+    def _shown(self) -> int:
+        return self._commits_shown
 
     def _another(self) -> Client:
         if self._ended is not None:
@@ -213,7 +218,9 @@ class Client(ServerCalls):
     def _answer(self, body: bytes) -> None:
         """Answers the queries of the frame that was sent first."""
         frame = self._sent[0]
-        outcomes = read_replies(body, [one.query for one in frame])
+        queries = [one.query for one in frame]
+        outcomes = read_replies(body, queries)
+        self._commits_shown = max(self._commits_shown, commits_shown(queries, outcomes))
         self._sent.popleft()
         for one, outcome in zip(frame, outcomes):
             if not one.answer.done():

@@ -1,13 +1,14 @@
-"""The calls of the asyncio client that ask the server itself: hello, ping, info, views, wait and stop."""
+"""The calls of the asyncio client that ask the server itself: hello, ping, info, views, waits and stop."""
 from __future__ import annotations
 
 import abc
 import time
 from typing import TYPE_CHECKING, Dict, List, Optional, TypeVar, Union
 
-from .core import MAX_NUMBER
+from .core import MAX_NUMBER, ConnectionLost
 from .server import Greeting, StandingView
-from .server_queries import GetInfo, ListViews, Ping, Stop, Wait, checked_wait, next_of, waits
+from .server_queries import (GetInfo, ListViews, Ping, Stop, Wait, WaitDurable, checked_wait, next_durable, next_of,
+                             parts, want_one_end)
 from .wire import Query, Reply
 
 if TYPE_CHECKING:
@@ -22,6 +23,10 @@ class ServerCalls(abc.ABC):
     @abc.abstractmethod
     async def call(self, query: Query[Value]) -> Reply[Value]:
         """Asks one query."""
+
+    @abc.abstractmethod
+    def _shown(self) -> int:
+        """The greatest number of a commit that an answer of the connection has shown."""
 
     @abc.abstractmethod
     async def hello(self) -> Greeting:
@@ -49,20 +54,48 @@ class ServerCalls(abc.ABC):
         return (await self.call(ListViews())).value.views
 
     async def wait(self, commit: Optional[int] = None, view: Union[View, int, None] = None,
-                   timeout: Optional[float] = None) -> bool:
-        """Waits until there are `commit` commits; with a view of this index, or its number, until that is at this commit.
-        Without `commit` it waits for the next one. Returns whether it was reached in `timeout` seconds (None: waits
-        without end). It uses a connection of its own, so the other calls don't wait for it. Raises `NoSuchView`."""
+                   timeout: Optional[float] = None, *, durable: bool = False) -> bool:
+        """Waits until there are `commit` commits; with a view of this index, or its number, until that is at this commit;
+        with `durable` until no crash undoes this commit. Without `commit` it waits for the next one. Returns whether it
+        was reached in `timeout` seconds (None: waits without end). It uses a connection of its own, so the other calls
+        don't wait for it. Raises `NoSuchView` and `InMemory`."""
+        want_one_end(view, durable)
         number, time_left = None if view is None else self._number_of(view), checked_wait(timeout)
         async with self._another() as waiting:
+            if durable:
+                return await until_durable(waiting, commit, time_left)
             if commit is None:
                 commit = next_of((await waiting.call(Wait(0, number))).value, number)
-            for query in waits(commit, number, time_left):
-                if (await waiting.call(query)).value.is_reached:
+            for part in parts(time_left):
+                if (await waiting.call(Wait(commit, number, part))).value.is_reached:
                     return True
         return False
+
+    async def durable(self) -> int:
+        """The number of commits that are durable: no crash of the server or its machine undoes them. Raises `InMemory`
+        if the server keeps its rows in memory alone."""
+        return (await self.call(WaitDurable())).value.durable
+
+    async def settle(self, timeout: Optional[float] = None) -> bool:
+        """Waits until all commits are durable that the answers so far have shown, also those of other clients. Returns
+        whether they were in `timeout` seconds (None: waits without end). It uses a connection of its own, as `wait`.
+        Raises `InMemory`."""
+        time_left, commit = checked_wait(timeout), self._shown()
+        async with self._another() as waiting:
+            if (await waiting.hello()).run != (await self.hello()).run:
+                raise ConnectionLost("the server was started again: its commits may be others")
+            return await until_durable(waiting, commit, time_left)
 
     async def stop(self, at_once: bool = False) -> int:
         """Ends the server: frames that came are answered first, unless it is to end at once. Returns the number of
         commits. Raises `NotAllowed` if the role of the client's token isn't `Role.ALL`."""
         return (await self.call(Stop(at_once))).value
+
+
+async def until_durable(index: ServerCalls, commit: Optional[int], timeout: Optional[float]) -> bool:
+    """Waits until `commit` commits are durable, or the next one is (None). Returns whether they were in this time."""
+    least = next_durable((await index.call(WaitDurable())).value) if commit is None else commit
+    for part in parts(timeout):
+        if (await index.call(WaitDurable(least, part))).value.is_reached:
+            return True
+    return False

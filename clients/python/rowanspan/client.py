@@ -14,8 +14,8 @@ from .core import (MAX_LIMIT, MAX_NUMBER, BadReply, Closed, ConnectionLost, Page
 from .mapping import RowMap, View, number_of_view
 from .pipeline import Pipeline
 from .server import Greeting, HelloUnanswered, StandingView
-from .server_queries import (SERVER_VERSION, GetInfo, Hello, ListViews, Ping, Stop, Token, Wait, checked_wait, hello_of,
-                             next_of, waits)
+from .server_queries import (SERVER_VERSION, GetInfo, Hello, ListViews, Ping, Stop, Token, Wait, WaitDurable,
+                             checked_wait, commits_shown, hello_of, next_durable, next_of, parts, want_one_end)
 from .wire import (MAX_REPLY_BODY, Build, Get, GetRange, Outcome, Put, PutIf, Query, Remove, Reply, Tidy, ViewDrop,
                    ViewRead, frame_version, read_replies, request_frame, spelled_query)
 
@@ -57,6 +57,11 @@ class Asker(RowMap):
     @abc.abstractmethod
     def exchange(self, queries: Sequence[Query[Any]], messages: Sequence[bytes]) -> List[Outcome]:
         """Sends a frame of these queries, which are spelled as these messages, and reads the answers to them."""
+
+    @abc.abstractmethod
+    def _shown(self) -> int:
+        """The greatest number of a commit that an answer has shown. Raises `ConnectionLost` if it isn't known whether
+        the server still has this commit."""
 
     def call(self, query: Query[Value]) -> Reply[Value]:
         """Asks one query; returns its value, with the numbers of commits at its begin and end. Raises `Refused`."""
@@ -120,14 +125,36 @@ class Asker(RowMap):
         return self.call(ListViews()).value.views
 
     def wait(self, commit: Optional[int] = None, view: Union[View, int, None] = None,
-             timeout: Optional[float] = None) -> bool:
-        """Waits until there are `commit` commits; with a view of this index, or its number, until that is at this commit.
-        Without `commit` it waits for the next one. Returns whether it was reached in `timeout` seconds (None: waits
-        without end). The server says so when it is reached, so nothing is asked in between. Raises `NoSuchView`."""
+             timeout: Optional[float] = None, *, durable: bool = False) -> bool:
+        """Waits until there are `commit` commits; with a view of this index, or its number, until that is at this commit;
+        with `durable` until no crash undoes this commit. Without `commit` it waits for the next one. Returns whether it
+        was reached in `timeout` seconds (None: waits without end). The server says so when it is reached, so nothing is
+        asked in between. Raises `NoSuchView` and `InMemory`."""
+        want_one_end(view, durable)
         number, time_left = None if view is None else number_of_view(self, view), checked_wait(timeout)
+        if durable:
+            least = next_durable(self.call(WaitDurable()).value) if commit is None else commit
+            return any(self.call(WaitDurable(least, part)).value.is_reached for part in parts(time_left))
         if commit is None:
             commit = next_of(self.call(Wait(0, number)).value, number)
-        return any(self.call(query).value.is_reached for query in waits(commit, number, time_left))
+        return any(self.call(Wait(commit, number, part)).value.is_reached for part in parts(time_left))
+
+    def durable(self) -> int:
+        """The number of commits that are durable: no crash of the server or its machine undoes them. Raises `InMemory`
+        if the server keeps its rows in memory alone."""
+        return self.call(WaitDurable()).value.durable
+
+    def settle(self, timeout: Optional[float] = None) -> bool:
+        """Waits until all commits are durable that the answers so far have shown, also those of other clients. Returns
+        whether they were in `timeout` seconds (None: waits without end). Raises `InMemory`."""
+        time_left, commit = checked_wait(timeout), self._shown()
+        for part in parts(time_left):
+            is_reached = self.call(WaitDurable(commit, part)).value.is_reached
+            # (the server hasn't been started again in between)
+            self._shown()
+            if is_reached:
+                return True
+        return False
 
     def stop(self, at_once: bool = False) -> int:
         """Ends the server: frames that came are answered first, unless it is to end at once. Returns the number of
@@ -157,6 +184,8 @@ class Client(Asker):
                  name: Optional[Token] = None) -> None:
         self._connection: Optional[socket.socket] = None
         self._is_lost = False
+        # the greatest number of a commit of an answer
+        self._commits_shown = 0
         self._timeout = timeout
         self._address = checked_address(port, host, timeout, tls)
         own_hello = hello_of(token, name)
@@ -198,14 +227,20 @@ class Client(Asker):
         try:
             if version < SERVER_VERSION or self._timeout is None:
                 connection.sendall(frame)
-                return read_replies(receive_body(connection), queries)
-            return self._exchange_patiently(connection, frame, queries, self._timeout)
+                outcomes = read_replies(receive_body(connection), queries)
+            else:
+                outcomes = self._exchange_patiently(connection, frame, queries, self._timeout)
         except BaseException as fault:
             # a reply may still come, which would be taken for that to the next frame
             self._lose()
             if isinstance(fault, OSError) and not isinstance(fault, ConnectionLost):
                 raise ConnectionLost(f"the connection broke: {fault}") from fault
             raise
+        self._commits_shown = max(self._commits_shown, commits_shown(queries, outcomes))
+        return outcomes
+
+    def _shown(self) -> int:
+        return self._commits_shown
 
     @staticmethod
     def _exchange_patiently(connection: socket.socket, frame: bytes, queries: Sequence[Query[Any]],

@@ -61,7 +61,8 @@ class Refused(RowanspanError):
 
     `number` is that of the cause, as docs/WIRE.md lists them. `detail` is the number of a commit that goes with it: for
     `FeedFull` from which commit on the log is held, for `Behind` where the view is, or from which commit on the log
-    has deltas, for `OtherVersion` the version that the row has (0: there is no row); else None.
+    has deltas, for `OtherVersion` the version that the row has (0: there is no row), for `DiskFailed` the last durable
+    commit; else None.
     """
 
     number: ClassVar[int] = 0

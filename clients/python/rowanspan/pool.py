@@ -10,7 +10,7 @@ from .address import Port, checked_address
 from .client import Asker, Client
 from .core import Closed, ConnectionLost, RowanspanError, checked_count
 from .server import Greeting
-from .server_queries import GetInfo, Hello, ListViews, Ping, Token, Wait, hello_of
+from .server_queries import GetInfo, Hello, ListViews, Ping, Token, Wait, WaitDurable, hello_of
 from .wire import Get, GetRange, Outcome, Query, ViewRead, frame_version, request_frame
 
 if TYPE_CHECKING:
@@ -41,6 +41,10 @@ class Pool(Asker):
     it raises `ConnectionLost`, and it isn't known whether it was done. A connection that its server has ended while
     nobody used it, as at a restart, is seen to have ended before it is used again.
 
+    After a crash of the server a commit that wasn't durable may be lost, and its number another's. So a wait for a
+    durable commit isn't asked twice; and if a connection ended that had shown commits which aren't known to be durable,
+    `settle` raises `ConnectionLost`, once.
+
     The connections are opened when they are first needed. Two calls of one thread may use two connections: the second
     sees what the first has changed, as that has ended before.
     """
@@ -59,6 +63,10 @@ class Pool(Asker):
         self._idle: List[Tuple[Client, float]] = []
         self._in_use = 0
         self._is_closed = False
+        # the greatest number of a commit that was shown, and that is known to be durable; and whether a connection has
+        # ended that had shown a greater one
+        self._commits_shown = self._commits_settled = 0
+        self._has_lost = False
 
     def __repr__(self) -> str:
         return f"<rowanspan.Pool {self._address}{', closed' if self._is_closed else ''}>"
@@ -94,6 +102,23 @@ class Pool(Asker):
             return client.exchange(queries, messages)
         finally:
             self._give_back(client)
+
+    def settle(self, timeout: Optional[float] = None) -> bool:
+        """Waits until all commits are durable that any thread was shown, as `Client.settle`. Raises `ConnectionLost`,
+        once, if a connection has ended that had shown commits which aren't known to be durable."""
+        commit = self._shown()
+        is_settled = super().settle(timeout)
+        if is_settled:
+            with self._changed:
+                self._commits_settled = max(self._commits_settled, commit)
+        return is_settled
+
+    def _shown(self) -> int:
+        with self._changed:
+            if not self._has_lost:
+                return self._commits_shown
+            self._commits_shown, self._has_lost = 0, False
+        raise ConnectionLost("a connection has ended: it isn't known whether the commits that it showed are durable")
 
     @property
     def hello(self) -> Greeting:
@@ -137,6 +162,7 @@ class Pool(Asker):
             client, used = self._idle.pop()
             if not is_new and (time.monotonic() < used + QUIET_SECONDS or client.is_usable()):
                 return client
+            self._note(client, has_ended=True)
             client.close()
             if is_new:
                 break
@@ -146,11 +172,18 @@ class Pool(Asker):
         """After a call: the connection is idle again, unless it was lost or the pool was closed."""
         with self._changed:
             keeps = not client.is_lost and not self._is_closed
+            self._note(client, client.is_lost)
             if keeps:
                 self._idle.append((client, time.monotonic()))
         if not keeps:
             client.close()
         self._release()
+
+    def _note(self, client: Client, has_ended: bool) -> None:
+        """What a connection has shown, after a call, or when it has ended."""
+        self._commits_shown = max(self._commits_shown, client._shown())
+        if has_ended and client._shown() > self._commits_settled:
+            self._has_lost = True
 
     def _release(self) -> None:
         with self._changed:
@@ -160,4 +193,5 @@ class Pool(Asker):
 
 def changes_nothing(query: Query[Any]) -> bool:
     """Whether a query can be asked twice."""
-    return isinstance(query, (Get, GetRange, ViewRead, Hello, Ping, GetInfo, ListViews, Wait))
+    # (the number of a commit that wasn't durable may be another's then)
+    return isinstance(query, (Get, GetRange, ViewRead, Hello, Ping, GetInfo, ListViews, Wait)) or query == WaitDurable()

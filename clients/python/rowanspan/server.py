@@ -3,17 +3,45 @@ from __future__ import annotations
 
 import enum
 from dataclasses import dataclass
+from errno import EIO, ENOSPC
 from typing import Dict, List, Type
 
 from .core import ConnectionLost, Refused, ViewNo, ViewSpec
 
 __all__ = [
-    "NotAllowed", "TooMuchAtOnce", "HelloUnanswered", "SERVER_REFUSALS", "Role", "Greeting", "Pong", "StandingView",
-    "Listing", "Waited",
+    "DiskFailed", "DiskFull", "InMemory", "NotAllowed", "TooMuchAtOnce", "HelloUnanswered", "SERVER_REFUSALS", "Role",
+    "Greeting", "Pong", "StandingView", "Listing", "Waited", "Settled",
 ]
 
 
 # ---- refusals
+
+class DiskFailed(Refused, OSError):
+    """The disk of the server has failed: rows can be read, and not changed any more. Nothing was changed. Its `errno`
+    is EIO."""
+
+    number, has_detail, cause = 19, True, "the server's disk has failed after commit {0}, which is durable"
+    errno = EIO
+
+    @property
+    def durable(self) -> int:
+        """The number of the last commit that is durable."""
+        return self.detail or 0
+
+
+class DiskFull(Refused, OSError):
+    """The disk of the server is full: rows can be read, and not changed until it has room. Nothing was changed. Its
+    `errno` is ENOSPC."""
+
+    number, cause = 20, "the server's disk is full"
+    errno = ENOSPC
+
+
+class InMemory(Refused):
+    """The server keeps its rows in memory alone, so no commit is ever durable."""
+
+    number, cause = 21, "the server keeps its rows in memory alone"
+
 
 class NotAllowed(Refused, PermissionError):
     """The server doesn't admit the client, and ends its connection then, or the role of its token may not ask this.
@@ -36,7 +64,8 @@ class HelloUnanswered(NotAllowed, ConnectionLost):
 
 
 # those of a server, not of an index
-SERVER_REFUSALS: Dict[int, Type[Refused]] = {kind.number: kind for kind in (NotAllowed, TooMuchAtOnce)}
+SERVER_REFUSALS: Dict[int, Type[Refused]] = {
+    kind.number: kind for kind in (DiskFailed, DiskFull, InMemory, NotAllowed, TooMuchAtOnce)}
 
 
 # ---- values
@@ -99,3 +128,13 @@ class Waited:
     is_reached: bool
     commits: int
     view_commits: int
+
+
+@dataclass(frozen=True)
+class Settled:
+    """Whether as many commits are durable as were waited for, the number of commits, and how many of them are
+    durable: no crash of the server or its machine undoes those."""
+
+    is_reached: bool
+    commits: int
+    durable: int

@@ -5,15 +5,15 @@ from __future__ import annotations
 import math
 import time
 from dataclasses import dataclass, field
-from typing import Any, ClassVar, Dict, Iterator, Optional, TypeVar, Union
+from typing import Any, ClassVar, Dict, Iterator, Optional, Sequence, TypeVar, Union
 
-from .core import (MAX_NUMBER, AnyRow, AtLeast, Equals, Prefix, Range, RowTest, TooLong, ViewSpec,
+from .core import (MAX_NUMBER, AnyRow, AtLeast, Equals, Prefix, Range, Refused, RowTest, TooLong, ViewSpec,
                    checked_view)
-from .server import Greeting, Listing, Pong, Role, StandingView, Waited
-from .wire import AnswerKind, Answers, Query, Reader, spelled_number
+from .server import Greeting, Listing, Pong, Role, Settled, StandingView, Waited
+from .wire import AnswerKind, Answers, Outcome, Query, Reader, spelled_number
 
 __all__ = ["SERVER_VERSION", "MAX_NAME_BYTES", "Token", "ServerQuery", "Hello", "Ping", "GetInfo", "ListViews", "Wait",
-           "Stop"]
+           "WaitDurable", "Stop"]
 
 # the version of the wire that has these queries, and the greatest that this client knows
 SERVER_VERSION = 3
@@ -43,6 +43,11 @@ def spelled_text(value: Token, what: str, most: int) -> bytes:
     """Two bytes of length, then the bytes."""
     encoded = checked_text(value, what, most)
     return len(encoded).to_bytes(2, "big") + encoded
+
+
+def spelled_wait(commit: int, milliseconds: int) -> bytes:
+    """A number of commits, and a time to wait."""
+    return spelled_number(commit, 8, "a number of commits") + spelled_number(milliseconds, 4, "a time to wait")
 
 
 def read_flag(reader: Reader) -> bool:
@@ -103,6 +108,10 @@ def read_waited(reader: Reader) -> Waited:
     return Waited(read_flag(reader), reader.number(8), reader.number(8))
 
 
+def read_settled(reader: Reader) -> Settled:
+    return Settled(read_flag(reader), reader.number(8), reader.number(8))
+
+
 # ---- queries
 
 class ServerQuery(Query[Value]):
@@ -127,6 +136,9 @@ class Hello(ServerQuery[Greeting]):
                 + spelled_text(self.token, "a token", MAX_TOKEN_BYTES)
                 + spelled_text(self.name, "a name", MAX_NAME_BYTES))
 
+    def commits_in(self, value: Greeting) -> int:
+        return value.commits
+
 
 @dataclass(frozen=True)
 class Ping(ServerQuery[Pong]):
@@ -142,6 +154,9 @@ class Ping(ServerQuery[Pong]):
         if value.number != self.number:
             raise ValueError(f"a ping of {self.number} was answered by {value.number}")
 
+    def commits_in(self, value: Pong) -> int:
+        return value.commits
+
 
 @dataclass(frozen=True)
 class GetInfo(ServerQuery[Dict[str, int]]):
@@ -152,6 +167,9 @@ class GetInfo(ServerQuery[Dict[str, int]]):
     def spelled(self) -> bytes:
         return b"\x12"
 
+    def commits_in(self, value: Dict[str, int]) -> int:
+        return value.get("commits", 0)
+
 
 @dataclass(frozen=True)
 class ListViews(ServerQuery[Listing]):
@@ -161,6 +179,9 @@ class ListViews(ServerQuery[Listing]):
 
     def spelled(self) -> bytes:
         return b"\x13"
+
+    def commits_in(self, value: Listing) -> int:
+        return value.commits
 
 
 @dataclass(frozen=True)
@@ -174,11 +195,32 @@ class Wait(ServerQuery[Waited]):
 
     def spelled(self) -> bytes:
         which = b"\0" if self.view is None else b"\1" + spelled_number(checked_view(self.view), 8)
-        return (b"\x14" + which + spelled_number(self.commit, 8, "a number of commits")
-                + spelled_number(self.milliseconds, 4, "a time to wait"))
+        return b"\x14" + which + spelled_wait(self.commit, self.milliseconds)
 
     def patience(self) -> float:
         return self.milliseconds / 1000
+
+    def commits_in(self, value: Waited) -> int:
+        return value.commits
+
+
+@dataclass(frozen=True)
+class WaitDurable(ServerQuery[Settled]):
+    """Waits until `commit` commits are durable, but at most this time. A server that keeps its rows in memory alone
+    refuses it: `InMemory`."""
+
+    answers: ClassVar[Answers[Settled]] = {AnswerKind.WAITED: read_settled}
+    commit: int = 0
+    milliseconds: int = 0
+
+    def spelled(self) -> bytes:
+        return b"\x14\2" + spelled_wait(self.commit, self.milliseconds)
+
+    def patience(self) -> float:
+        return self.milliseconds / 1000
+
+    def commits_in(self, value: Settled) -> int:
+        return value.commits
 
 
 @dataclass(frozen=True)
@@ -190,6 +232,9 @@ class Stop(ServerQuery[int]):
 
     def spelled(self) -> bytes:
         return b"\x15" + (b"\1" if self.at_once else b"\0")
+
+    def commits_in(self, value: int) -> int:
+        return value
 
 
 # ---- calls
@@ -208,16 +253,37 @@ def next_of(now: Waited, view: Optional[int]) -> int:
     return min((now.commits if view is None else now.view_commits) + 1, MAX_NUMBER)
 
 
-def waits(commit: int, view: Optional[int], timeout: Optional[float]) -> Iterator[Wait]:
-    """What one call of `wait` asks, query by query, until the time is over (None: without end)."""
+def parts(timeout: Optional[float]) -> Iterator[int]:
+    """For how many milliseconds one call waits, query by query, until the time is over (None: without end)."""
     until = None if timeout is None else time.monotonic() + timeout
     rest: Optional[float] = timeout
     while True:
-        lasts = LONGEST_WAIT if rest is None else min(rest, LONGEST_WAIT)
-        yield Wait(commit, view, math.ceil(1000 * lasts))
+        yield math.ceil(1000 * (LONGEST_WAIT if rest is None else min(rest, LONGEST_WAIT)))
         rest = None if until is None else until - time.monotonic()
         if rest is not None and rest <= 0:
             return
+
+
+def next_durable(now: Settled) -> int:
+    """The commit after those that are durable now."""
+    return min(now.durable + 1, MAX_NUMBER)
+
+
+def commits_shown(queries: Sequence[Query[Any]], outcomes: Sequence[Outcome]) -> int:
+    """The greatest number of a commit that these answers have."""
+    return max(commits_of(query, outcome) for query, outcome in zip(queries, outcomes))
+
+
+def commits_of(query: Query[Any], outcome: Outcome) -> int:
+    if isinstance(outcome, Refused):
+        return outcome.detail or 0
+    return max(outcome.to or 0, query.commits_in(outcome.value))
+
+
+def want_one_end(view: object, is_durable: bool) -> None:
+    """Raises TypeError if a wait is for a view, and also until a commit is durable."""
+    if view is not None and is_durable:
+        raise TypeError("a wait is for a view, or until a commit is durable, not both")
 
 
 def checked_wait(timeout: Any) -> Optional[float]:

@@ -195,6 +195,10 @@ class Query(Generic[Value]):
         """For how many seconds the server may wait before it answers."""
         return 0.0
 
+    def commits_in(self, value: Any) -> int:
+        """The number of commits that this value has, but for the span of its call; 0 if it has none."""
+        return 0
+
 
 @dataclass(frozen=True)
 class Get(Query[Optional[Row]]):
@@ -294,6 +298,9 @@ class ViewRead(Query[Page]):
     def spelled(self) -> bytes:
         return (b"\7" + checked_view(self.view).to_bytes(8, "big") + spelled_number(self.floor, 8, "a floor")
                 + spelled_key(self.start) + spelled_limit(self.limit))
+
+    def commits_in(self, value: Page) -> int:
+        return value.at
 
 
 @dataclass(frozen=True)
