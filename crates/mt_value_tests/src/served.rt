@@ -78,7 +78,13 @@ fn answers_of_a_server(rt: HostRuntime) -> Result<(), Fail> {
 fn refusals_of_a_server(rt: HostRuntime) -> Result<(), Fail> {
     let alloc = rt.alloc();
     let failed = ServerResponse::Refused(ServerRefusal::DiskFailed { durable: 258 });
-    assert!(rt; answers(alloc, failed, b"\0\0\0\x0c\x03\x01\0\x13\0\0\0\0\0\0\x01\x02")?);
+    assert!(rt;
+        answers(
+            alloc,
+            failed,
+            b"\0\0\0\x0c\x03\x01\0\x13\0\0\0\0\0\0\x01\x02"
+        )?
+    );
     let full = ServerResponse::Refused(ServerRefusal::DiskFull);
     assert!(rt; answers(alloc, full, b"\0\0\0\x0c\x03\x01\0\x14\0\0\0\0\0\0\0\0")?);
     let unkept = ServerResponse::Refused(ServerRefusal::InMemory);
