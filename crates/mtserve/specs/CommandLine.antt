@@ -73,7 +73,7 @@ pub record AreFound (matches : ArgMatches) (settings : Settings) : Type 0 where
   pub connections : IsNumber 64 (one_text (found_of matches) (codes "connections")) 10000 settings.connections
   pub listen : option_map (λ text. text.now) settings.listen ≡ first_value (found_of matches) (codes "listen")
   pub token_file : option_map (λ text. text.now) settings.token_file ≡ first_value (found_of matches) (codes "token-file")
-  pub data : option_map (λ text. text.now) settings.data ≡ first_value (found_of matches) (codes "data")
+  pub folder : option_map (λ text. text.now) settings.folder ≡ first_value (found_of matches) (codes "data")
   pub sync : option_map (λ text. text.now) settings.sync ≡ first_value (found_of matches) (codes "sync")
   pub hello : IsNumber 64 (one_text (found_of matches) (codes "hello-timeout")) 10 settings.hello
   pub idle : IsNumber 64 (one_text (found_of matches) (codes "idle-timeout")) 0 settings.idle

@@ -43,7 +43,7 @@ pub struct Settings<'a> {
     /// The file of secrets, if there are to be some.
     pub token_file: Option<&'a str>,
     /// The folder in which rows survive, if they are to.
-    pub data: Option<&'a str>,
+    pub folder: Option<&'a str>,
     /// When its log is synced, if that is said.
     pub sync: Option<&'a str>,
     /// The most seconds until a client has said hello, on a server with secrets; 0 is no limit.
@@ -195,7 +195,7 @@ fn settings_of<'a>(matches: &ArgMatches<'a>) -> Settings<'a>
         connections: number(matches, "connections", 10_000),
         listen: matches.get_str("listen"),
         token_file: matches.get_str("token-file"),
-        data: matches.get_str("data"),
+        folder: matches.get_str("data"),
         sync: matches.get_str("sync"),
         hello: number(matches, "hello-timeout", 10),
         is_open: matches.get_flag("open"),

@@ -42,7 +42,7 @@ fn syncing_of(settings: Settings<'_>) -> Result<Syncing, &'static str> {
     let Some(text) = settings.sync else {
         return Ok(Syncing::Always);
     };
-    if settings.data.is_none() {
+    if settings.folder.is_none() {
         return Err("--sync is for a server with --data");
     }
     read_syncing(text).ok_or(

@@ -142,7 +142,7 @@ fn open_index<R: Threads + Wait>(
     syncing: Syncing,
 ) -> Result<(SharedMap, Vec<Pass>, Option<FileLog>), ServeError> {
     let (alloc, workers) = (host.alloc(), worker_count(rt, settings));
-    let Some(folder) = settings.data else {
+    let Some(folder) = settings.folder else {
         let (index, passes) = SharedMap::start(alloc, settings.options, workers)?;
         return Ok((index, passes, None));
     };
