@@ -1,5 +1,6 @@
 //! The folder in which a server's rows survive: its log is opened, and the log's commits are made again.
 
+use crate::looking::look;
 use mt_frame::entry::{Entry, LogHeader};
 use mt_journal::error::{Damage, JournalError};
 use mt_journal::journal::Journal;
@@ -24,14 +25,6 @@ use thiserror::Error;
 // The name of the first generation of files in the folder.
 const FILE: &str = "even";
 
-// How many bytes are read at once, and within how many the header of a log lies.
-const PIECE: usize = 65_536;
-
-const HEADER: usize = 128;
-
-// How long a log is at most of which only the making was cut short.
-const FRESH: usize = 2_097_152;
-
 // How many events of a call are made in one holding of the lock while commits are made again.
 const EVENTS: u32 = 1024;
 
@@ -53,6 +46,9 @@ pub enum DataError {
     /// A commit of the log was not made again.
     #[error("the data folder: even-wal: {0}")]
     Replay(#[from] ReplayError),
+    /// Commits that were durable are missing.
+    #[error("the data folder: even-wal: commits after {commit} are missing that were durable: the frame at byte {place} says so")]
+    Lost { commit: u64, place: usize },
     /// The log begins after this commit.
     #[error("the data folder: even-wal: the log begins after commit {0}, and no checkpoint is read")]
     Base(u64),
@@ -100,47 +96,19 @@ fn open_file(rt: &HostRuntime, folder: &str) -> Result<FileFrom<Unknown>, DataEr
     }
 }
 
-// Whether a file without the header of a log has more than a crash leaves while a log is made: then it is a log that was
-// damaged.
-fn has_more<D: Disk>(alloc: Global, disk: &mut D) -> io::Result<bool> {
-    let len = disk.len()?;
-    if len > FRESH {
-        return Ok(true);
-    }
-    let mut bytes = Vec::from_elem(alloc, 0u8, PIECE)?;
-    let mut at = HEADER;
-    for _ in 0..=FRESH / PIECE {
-        if at >= len {
-            break;
-        }
-        let count = (len - at).min(PIECE);
-        let piece = &mut bytes.as_mut_slice()[..count];
-        disk.read_at(at, piece)?;
-        if piece.iter().any(|byte| *byte != 0) {
-            return Ok(true);
-        }
-        at += count;
-    }
-    Ok(false)
-}
-
 // Makes a log in a file that has none.
 fn make_log(
-    rt: &HostRuntime,
-    folder: &str,
+    alloc: Global,
+    file: FileFrom<Unknown>,
     columns: u8,
 ) -> Result<Journal<FileFrom<Unknown>>, DataError> {
-    let mut file = open_file(rt, folder)?;
-    if file.may_be_used() && has_more(rt.alloc(), &mut file)? {
-        return Err(DataError::Journal(JournalError::NotALog));
-    }
     let header = LogHeader {
         columns,
         generation: 0,
         base: 0,
         run: 0,
     };
-    match create(rt.alloc(), file, header) {
+    match create(alloc, file, header) {
         Ok(journal) => Ok(journal),
         Err(error) => Err(DataError::Journal(error)),
     }
@@ -158,19 +126,26 @@ pub struct OpenedLog {
 /// # Errors
 ///
 /// If the folder can't be made or its files not be opened, if another process has it, or if they are no log of such an
-/// index. Then nothing was written.
+/// index, or one of which synced commits are missing. Then nothing was written.
 pub fn open_log(rt: &HostRuntime, folder: &str, columns: u8) -> Result<OpenedLog, DataError> {
+    let alloc = rt.alloc();
     make_folder(rt, folder)?;
-    match open(rt.alloc(), open_file(rt, folder)?, columns) {
+    let mut file = open_file(rt, folder)?;
+    if !file.may_be_used() {
+        return Err(DataError::Journal(JournalError::GivenUp));
+    }
+    if !look(alloc, &mut file, columns)? {
+        return Ok(OpenedLog {
+            journal: make_log(alloc, file, columns)?,
+            entries: Vec::new(alloc),
+        });
+    }
+    match open(alloc, file, columns) {
         Ok(opened) if opened.header.base == 0 => Ok(OpenedLog {
             journal: opened.journal,
             entries: opened.entries,
         }),
         Ok(opened) => Err(DataError::Base(opened.header.base)),
-        Err(JournalError::NoLog) => Ok(OpenedLog {
-            journal: make_log(rt, folder, columns)?,
-            entries: Vec::new(rt.alloc()),
-        }),
         Err(error) => Err(DataError::Journal(error)),
     }
 }

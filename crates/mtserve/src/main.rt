@@ -3,6 +3,7 @@
 
 mod command_line;
 mod data;
+mod looking;
 mod serving;
 mod tokens;
 
