@@ -3,11 +3,13 @@
 use crate::durability::{DiskState, Durability, Syncing};
 use crate::gauge::Gauge;
 use mt_journal::error::JournalError;
+use mt_journal::journal::Journal;
 use mt_logger::error::LoggerError;
 use mt_logger::logger::Logger;
 use mt_shared::door::Door;
 use mt_types::refusal::Refusal;
 use sqlite_disk::Disk;
+use std::alloc::Global;
 use std::sync::Wait;
 use std::thread;
 use std::time::{Clock, Duration, Instant};
@@ -32,6 +34,16 @@ const LAST_TRIES: u32 = 500;
 pub struct Log<D: Disk + Drop> {
     pub logger: Logger<D>,
     pub syncing: Syncing,
+}
+
+impl<D: Disk + Drop> Log<D> {
+    /// Returns what continues this log, and syncs it so.
+    pub fn new(alloc: Global, journal: Journal<D>, syncing: Syncing) -> Log<D> {
+        Log {
+            logger: Logger::new(alloc, journal),
+            syncing,
+        }
+    }
 }
 
 // What comes of an attempt to write.
@@ -188,9 +200,11 @@ fn keep<R: Wait + Clock + Eprint, D: Disk + Drop>(
 /// refused from then on, and those that wait for it are woken.
 pub fn keep_log<R: Wait + Clock + Eprint, D: Disk + Drop>(
     gauge: &Gauge<'_, R>,
-    durability: &Durability,
     log: Log<D>,
 ) -> bool {
+    let Some(durability) = gauge.durability else {
+        return false;
+    };
     let mut log = log;
     let is_kept = keep(gauge, durability, &mut log.logger);
     if !is_kept {

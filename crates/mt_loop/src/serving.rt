@@ -155,8 +155,23 @@ fn listen_all<R: Net + Files>(
     Ok(listeners)
 }
 
-// Runs the threads of a server and that of its log, if it has one. The log is kept until no more commits are made. Returns the
-// passes, and whether all commits are in the log.
+// Runs the threads of a server. Then no more commits are made, and its log may end.
+fn run_to_end<R: Threads + Wait + Clock + Sync + Eprint>(
+    alloc: Global,
+    gauge: &Gauge<'_, R>,
+    acceptor: &mut Acceptor,
+    addresses: &[Address<'_>],
+    workers: Vec<Worker>,
+    stop: &Stop,
+) -> io::Result<Vec<Pass>> {
+    let passes = run(alloc, gauge, acceptor, addresses, workers, stop);
+    if let Some(durability) = gauge.durability {
+        durability.end(gauge.rt);
+    }
+    passes
+}
+
+// Runs the threads of a server. If it has a log, this thread keeps it until no more commits are made, and another one accepts.
 fn run_logged<R, D>(
     alloc: Global,
     gauge: &Gauge<'_, R>,
@@ -167,21 +182,22 @@ fn run_logged<R, D>(
 ) -> io::Result<Ended>
 where
     R: Threads + Wait + Clock + Sync + Eprint,
-    D: Disk + Drop + Send,
+    D: Disk + Drop,
 {
     let rt = gauge.rt;
     let stop = Stop::new(acceptor.poll())?;
-    let (Some(log), Some(durability)) = (log, gauge.durability) else {
-        let passes = run(alloc, gauge, acceptor, addresses, workers, &stop)?;
+    let stop = &stop;
+    let Some(log) = log else {
+        let passes = run(alloc, gauge, acceptor, addresses, workers, stop)?;
         let is_logged = true;
         return Ok(Ended { passes, is_logged });
     };
     thread::scope(thread::scope_env(), rt, |scope| -> io::Result<Ended> {
-        let keeper = scope.spawn(move || keep_log(gauge, durability, log))?;
-        let ended = run(alloc, gauge, acceptor, addresses, workers, &stop);
-        durability.end(rt);
-        let is_logged = keeper.join(rt);
-        let passes = ended?;
+        let server = scope.spawn(move || run_to_end(
+            alloc, gauge, acceptor, addresses, workers, stop,
+        ))?;
+        let is_logged = keep_log(gauge, log);
+        let passes = server.join(rt)?;
         Ok(Ended { passes, is_logged })
     })
 }
@@ -219,7 +235,7 @@ pub fn serve<R, D>(
 ) -> io::Result<Ended>
 where
     R: Net + Files + Threads + Wait + Clock + RandomSource + Sync + Eprint,
-    D: Disk + Drop + Send,
+    D: Disk + Drop,
 {
     let addresses = access.addresses;
     let listeners = listen_all(rt, alloc, addresses)?;
