@@ -283,7 +283,7 @@ def a_copied_folder(setting: Setting) -> None:
 def bad_command_lines(setting: Setting) -> None:
     for words in (["--sync", "always"], ["--sync", "never"], ["--sync", "50"], ["--data"], ["--sync"]):
         setting.refused(2, *words)
-    for word in ("", "often", "Always", "-1", "1.5", "50ms", "99999999999999999999"):
+    for word in ("", "often", "Always", "-1", "0", "1.5", "50ms", "86400001", "99999999999999999999"):
         setting.refused(2, "--data", str(setting.data), "--sync", word)
         want(not setting.data.exists(), f"--sync {word!r} has made a folder")
 
