@@ -29,20 +29,21 @@ CONNECTIONS = 32
 
 # ---- sessions
 
-def serve(connection: socket.socket, index: PlainIndex, keeper: Keeper, newest: int) -> None:
+def serve(connection: socket.socket, keeper: Keeper, newest: int) -> None:
     """Answers the frames of a connection, to its end; raises `SessionFault`."""
     session = keeper.session()
     body = next_body(connection)
     while body is not None:
         frame = reply_frame(keeper.answers(session, read_queries(body, newest)), body[0])
+        keeper.count(body, frame)
         try:
             connection.sendall(frame)
         except OSError as fault:
             raise SessionFault(WRITE_FAILED) from fault
         if session.role is None:
             raise SessionFault(NO_HELLO)
-        # (what came before a stop is answered, and then nothing is read)
-        body = None if index.is_ending else next_body(connection)
+        # (what came before a stop is answered, unless it is at once)
+        body = None if keeper.is_at_once else next_body(connection)
 
 
 @dataclass(frozen=True)
@@ -117,7 +118,7 @@ class StandIn:
             self._open.append(connection)
             try:
                 self.keeper.open_connections += 1
-                serve(connection, self.index, self.keeper, self._newest)
+                serve(connection, self.keeper, self._newest)
             except SessionFault as fault:
                 self.faults.append(fault.number)
                 self.keeper.faults += 1
@@ -152,7 +153,7 @@ def parser() -> argparse.ArgumentParser:
     made.add_argument("--columns", type=bounded(1, 16), default=1)
     made.add_argument("--token-file", type=read_tokens, default={})
     made.add_argument("--data", type=Path)
-    made.add_argument("--sync", type=Policy.read)
+    made.add_argument("--sync", type=Policy.read, metavar="always|never|MILLISECONDS")
     made.add_argument("--stop-at-end-of-input", action="store_true")
     made.add_argument("--log-capacity", "--feed", type=bounded(1, 65_536), default=4096)
     made.add_argument("--log-retention", "--keep", type=bounded(0, 65_536), default=0)

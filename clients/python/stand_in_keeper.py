@@ -43,8 +43,9 @@ class Keeper:
         self.run = os.urandom(RUN_BYTES)
         # of each connection since the start
         self.sessions: List[Session] = []
-        self.open_connections = self.faults = 0
-        # how the server ends, once it was asked to
+        self.open_connections = self.faults = self.frames = self.input_bytes = self.output_bytes = 0
+        # how the server ends, once it was asked to, and whether nothing more is answered then
+        self.is_at_once = False
         self.stop: Callable[[bool], None] = lambda at_once: None
         self._began = time.monotonic()
         self._lock = threading.Lock()
@@ -55,6 +56,13 @@ class Keeper:
         with self._lock:
             self.sessions.append(session)
         return session
+
+    def count(self, body: bytes, frame: bytes) -> None:
+        """A frame with this body was answered by this frame."""
+        with self._lock:
+            self.frames += 1
+            self.input_bytes += 4 + len(body)
+            self.output_bytes += len(frame)
 
     def answers(self, session: Session, queries: Sequence[Query[Any]]) -> List[bytes]:
         """The answers to a frame. Raises `SessionFault` if its changes can't become durable any more."""
@@ -100,6 +108,7 @@ class Keeper:
         if isinstance(query, (Wait, WaitDurable)):
             return self._wait(query)
         assert isinstance(query, Stop)
+        self.is_at_once = query.at_once
         self.stop(query.at_once)
         return spelled_stopped(self._index.commits)
 
@@ -114,7 +123,9 @@ class Keeper:
     def _counts(self) -> Dict[str, int]:
         return {"commits": self._index.commits, "nodes": 1, "feed_from": self._index.commits,
                 "connections": self.open_connections, "connections_all": len(self.sessions), "turned_away": 0,
-                "queries": self._index.events, "faults": self.faults, "views": len(self._index.listing().views),
+                "frames": self.frames, "queries": self._index.events, "faults": self.faults,
+                "views": len(self._index.listing().views), "input_bytes": self.input_bytes,
+                "output_bytes": self.output_bytes,
                 "durable": 0 if self._index.log is None else self._index.log.durable,
                 "uptime_ms": int(1000 * (time.monotonic() - self._began))}
 

@@ -16,6 +16,7 @@ from rowanspan import DiskFailed, DiskFull, Refused, Row
 # zeros are written so far ahead, and there is room for a frame of queries in so many of them
 AHEAD = 1 << 20
 ROOM = 1 << 19
+MAX_MILLISECONDS = 86_400_000
 FULL = (ENOSPC, EFBIG)
 
 
@@ -36,7 +37,7 @@ class Policy:
         """`always`, `never` or a number of milliseconds. Raises ValueError."""
         if word in ("always", "never"):
             return Policy(word == "always")
-        if not word.isdecimal() or int(word) < 1:
+        if not word.isdecimal() or not 1 <= int(word) <= MAX_MILLISECONDS:
             raise ValueError(word)
         return Policy(False, int(word))
 
@@ -98,13 +99,14 @@ class FileLog(Log):
     def _read(self) -> List[Change]:
         whole = self._path.read_bytes()
         front = whole.partition(b"\0")[0]
-        lines = list(self._lines(front))
-        if not lines:
+        lines, head = list(self._lines(front)), line_of(self._head)
+        if head.startswith(front):
+            # (it is new, or a crash has left a part of its head)
             lines = [self._head]
-            os.pwrite(self._file.fileno(), line_of(self._head), 0)
-            self._end = len(line_of(self._head))
-        elif lines[0] != self._head:
-            raise BadLog(f"{self._path}: {lines[0].decode(errors='replace')} is there, not {self._head.decode()}")
+            os.pwrite(self._file.fileno(), head, 0)
+            self._end = len(head)
+        elif not lines or lines[0] != self._head:
+            raise BadLog(f"{self._path}: at byte 0 there is no head of these columns: {front[:50].decode('latin-1')!r}")
         # (what a crash has left of the end)
         os.ftruncate(self._file.fileno(), self._end)
         os.fsync(self._file.fileno())

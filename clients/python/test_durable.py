@@ -111,6 +111,17 @@ class ClientTest(DurableTest):
                 index.put_if(b"a", b"w", 0)
             self.assertEqual(index._shown(), number)
 
+    def test_what_a_frame_has_shown(self) -> None:
+        other = self.client()
+        view = other.build(Prefix(b""))
+        for number, queries in enumerate(([Get(b"a")], [Get(b"a"), ViewRead(view.number)], [Put(b"a", b"v"), Get(b"a")],
+                                          [ViewRead(view.number), ViewRead(view.number, 1000)],
+                                          [Get(b"a", [5]), Get(b"a"), Get(b"a", [5])])):
+            with self.subTest(queries=queries), Client(self.server.port, timeout=SECONDS) as index:
+                other.put(b"a", b"v")
+                index.call_all(queries)
+                self.assertEqual(index._shown(), self.server.index.commits)
+
     def test_an_index_in_memory(self) -> None:
         with StandIn(Options(workers=1)) as server, Client(server.port, timeout=SECONDS) as index:
             for call in (index.durable, index.settle, lambda: index.wait(durable=True)):

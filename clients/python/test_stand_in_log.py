@@ -61,6 +61,7 @@ class FileLogTest(Folder):
     def test_what_is_no_log(self) -> None:
         self.puts(3)
         self.assertIn("columns 1", self.want_bad(BadLog, columns=2))
+        self.assertEqual(self.puts(0), 4)
         wal = self.folder / "even-wal"
         whole = wal.read_bytes().rstrip(b"\0")
         wal.write_bytes(whole[:40] + bytes((whole[40] ^ 1,)) + whole[41:])
@@ -71,7 +72,7 @@ class FileLogTest(Folder):
     def test_policies(self) -> None:
         self.assertEqual([Policy.read(word) for word in ("always", "never", "50")],
                          [Policy(), Policy(False), Policy(False, 50)])
-        for word in ("", "0", "-1", "x", "1.5"):
+        for word in ("", "0", "-1", "x", "1.5", "86400001"):
             with self.assertRaises(ValueError):
                 Policy.read(word)
 

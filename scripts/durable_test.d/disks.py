@@ -25,7 +25,7 @@ WAITS = 5.0
 
 
 def fill(server: Server, history: History) -> Union[Refused, ConnectionLost]:
-    """Puts rows until the disk has no room; returns how that was met. Nothing of a frame that is refused may be done."""
+    """Puts rows until the disk has no room; returns how that is met. Of a frame that is refused nothing may be done."""
     with Client(server.port, timeout=WAITS) as index:
         return fill_by(index, history)
 
@@ -204,7 +204,7 @@ def syncs_are_made(setting: Setting) -> str:
 
 
 def disks_that_fail(setting: Setting) -> str:
-    """After a sync that failed no change is answered, rows are read, and what was durable is there at the next start."""
+    """After a sync that failed no change is answered, rows are read, and the next start has what was durable."""
     told = []
     base = syncs_of(setting, ("--sync", "always"), lambda index: None)
     for first in (base + 1, base + 2, base + 30):

@@ -124,7 +124,7 @@ class History:
             want_same(f"the version of {key!r}", refusal.detail, row.version if row else 0)
 
     def want_front(self, index: Client, least: int) -> int:
-        """The first commits are there, `least` of them at least; the others are forgotten. Returns how many there are."""
+        """The first commits are there, `least` of them at least; others are forgotten. Returns how many are there."""
         commits = self.want_front_read(index, least)
         self.want_versions(index)
         return commits

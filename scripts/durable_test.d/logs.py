@@ -1,4 +1,4 @@
-"""Cases: folders and files as a crash, a decay or an error of people may leave them, and command lines that are wrong."""
+"""Cases: folders and files as a crash, a decay or an error of people may leave them, and wrong command lines."""
 from __future__ import annotations
 
 import itertools
@@ -82,6 +82,30 @@ def torn_tails(setting: Setting, *tears: Callable[[bytes, int], bytes]) -> str:
             copied.want_all(index)
             server.kill()
     return f"{len(tails)} places"
+
+
+def tails_of_a_crash(setting: Setting) -> str:
+    """Of what wasn't synced each byte is there, or is the zero that was there before: a front of the commits is there,
+    and all that were synced."""
+    log, chance, found = written(setting, 60), random.Random(setting.seed), []
+    for number in range(PLACES):
+        synced = chance.randrange(log.ends[0], log.ends[-1])
+        unit, share = chance.choice((1, 16, 512)), chance.choice((0.02, 0.5, 0.9))
+        left = bytearray(log.whole)
+        for at in range(synced, log.ends[-1], unit):
+            if chance.random() < share:
+                until = min(at + unit, log.ends[-1])
+                left[at:until] = bytes(until - at)
+        setting.log.write_bytes(left)
+        copied = History()
+        copied.after = list(log.history.after)
+        with setting.server() as server, server.index() as index:
+            found.append(copied.want_front(index, log.commits_before(synced)) - log.commits_before(synced))
+            copied.work(index, 3, 1)
+            server.kill()
+        with setting.server() as server, server.index() as index:
+            copied.want_all(index)
+    return f"{PLACES} crashes, after which {sum(found)} commits more than the synced ones were there"
 
 
 # ---- what is no log
@@ -259,7 +283,7 @@ def a_copied_folder(setting: Setting) -> None:
 def bad_command_lines(setting: Setting) -> None:
     for words in (["--sync", "always"], ["--sync", "never"], ["--sync", "50"], ["--data"], ["--sync"]):
         setting.refused(2, *words)
-    for word in ("", "often", "Always", "-1", "1.5", "50ms", "99999999999999999999"):
+    for word in ("", "often", "Always", "-1", "0", "1.5", "50ms", "86400001", "99999999999999999999"):
         setting.refused(2, "--data", str(setting.data), "--sync", word)
         want(not setting.data.exists(), f"--sync {word!r} has made a folder")
 
@@ -270,5 +294,6 @@ def options_that_are_told(setting: Setting) -> None:
         want(word in done.stdout, f"--help doesn't say {word.decode()}")
 
 
-CASES = (tails_that_are_zero, tails_that_are_cut, changed_bytes, changed_lengths, changed_heads, other_columns, one_server_at_a_time, folders_that_are_none,
-         folders_that_are_read_only, a_copied_folder, bad_command_lines, options_that_are_told)
+CASES = (tails_that_are_zero, tails_that_are_cut, tails_of_a_crash, changed_bytes, changed_lengths, changed_heads,
+         other_columns, one_server_at_a_time, folders_that_are_none, folders_that_are_read_only, a_copied_folder,
+         bad_command_lines, options_that_are_told)

@@ -110,8 +110,8 @@ def options(*words: str) -> List[str]:
 
 
 class Server:
-    """A running server. It is killed at the end of the `with` block, if it still runs. With `file_size` no file of it can
-    be longer than this."""
+    """A running server. It is killed at the end of the `with` block, if it still runs. With `file_size` no file of it
+    can be longer than this."""
 
     def __init__(self, words: Sequence[str], file_size: Optional[int] = None,
                  environment: Optional[Dict[str, str]] = None) -> None:

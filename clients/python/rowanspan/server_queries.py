@@ -10,7 +10,7 @@ from typing import Any, ClassVar, Dict, Iterator, Optional, Sequence, TypeVar, U
 from .core import (MAX_NUMBER, AnyRow, AtLeast, Equals, Prefix, Range, Refused, RowTest, TooLong, ViewSpec,
                    checked_view)
 from .server import Greeting, Listing, Pong, Role, Settled, StandingView, Waited
-from .wire import AnswerKind, Answers, Outcome, Query, Reader, spelled_number
+from .wire import AnswerKind, Answers, Outcome, Query, Reader, Reply, spelled_number
 
 __all__ = ["SERVER_VERSION", "MAX_NAME_BYTES", "Token", "ServerQuery", "Hello", "Ping", "GetInfo", "ListViews", "Wait",
            "WaitDurable", "Stop"]
@@ -270,8 +270,14 @@ def next_durable(now: Settled) -> int:
 
 
 def commits_shown(queries: Sequence[Query[Any]], outcomes: Sequence[Outcome]) -> int:
-    """The greatest number of a commit that these answers have."""
-    return max(commits_of(query, outcome) for query, outcome in zip(queries, outcomes))
+    """The greatest number of a commit that the answers to a frame have."""
+    greatest = 0
+    for query, outcome in zip(reversed(queries), reversed(outcomes)):
+        greatest = max(greatest, commits_of(query, outcome))
+        if isinstance(outcome, Reply) and outcome.to is not None:
+            # (no answer before this one has a greater number)
+            break
+    return greatest
 
 
 def commits_of(query: Query[Any], outcome: Outcome) -> int:
