@@ -6,7 +6,6 @@ use mt_journal::error::{Damage, JournalError};
 use mt_journal::journal::Journal;
 use mt_journal::opening::{create, open};
 use mt_logger::error::ReplayError;
-use mt_logger::logger::Logger;
 use mt_logger::replaying::replay;
 use mt_loop::durability::Syncing;
 use mt_loop::logging::Log;
@@ -173,7 +172,6 @@ impl OpenedLog {
             let damage = Damage::Order;
             return Err(DataError::Journal(JournalError::Damaged { place, damage }));
         }
-        let logger = Logger::new(alloc, journal);
-        Ok((client.pass, Log { logger, syncing }))
+        Ok((client.pass, Log::new(alloc, journal, syncing)))
     }
 }
