@@ -224,12 +224,12 @@ pub struct Ended {
 /// # Errors
 ///
 /// If listening, a thread, a wait or the print failed, or if out of memory at the start.
-pub fn serve<R, D>(
-    rt: &R,
+pub fn serve<'s, R, D>(
+    rt: &'s R,
     alloc: Global,
-    index: &SharedMap,
+    index: &'s SharedMap,
     passes: Vec<Pass>,
-    access: Access<'_>,
+    access: Access<'s>,
     plan: Plan,
     log: Option<Log<D>>,
 ) -> io::Result<Ended>
@@ -246,14 +246,15 @@ where
     }
     let (desks, workers) = make_workers(rt, alloc, passes, plan.limits, access.tokens)?;
     let tally = Tally::new(run_name(rt)?);
-    let durability = durability_of(&log);
+    let known = durability_of(&log);
+    let durability = known.as_ref();
     let gauge = Gauge {
         rt,
         index,
         desks: &desks,
         tally: &tally,
         start: Instant::now(rt)?,
-        durability: durability.as_ref(),
+        durability,
     };
     let ended = run_logged(alloc, &gauge, &mut acceptor, addresses, workers, log);
     remove_sockets(rt, addresses);
