@@ -10,7 +10,7 @@ from contextlib import ExitStack
 from dataclasses import dataclass
 from errno import EFBIG, ENOSPC
 from pathlib import Path
-from typing import Iterator, List, Optional, Tuple
+from typing import BinaryIO, Iterator, List, Optional, Tuple
 
 from rowanspan import DiskFailed, DiskFull, Refused, Row
 
@@ -88,8 +88,7 @@ class FileLog(Log):
         self._head = b"rowanspan stand-in, columns %d" % columns
         self._end = 0
         with ExitStack() as opened:
-            raise BadLog(f"{self._path}: at byte 0 there is another head: {front[:50].decode('latin-1')!r}")
-                                      for path in (folder / "even", self._path))
+            self._lock, self._file = (opened.enter_context(opened_file(path)) for path in (folder / "even", self._path))
             fcntl.flock(self._lock, fcntl.LOCK_EX | fcntl.LOCK_NB)
             self.changes = self._read()
             self._opened = opened.pop_all()
@@ -165,7 +164,11 @@ class FileLog(Log):
         self._opened.close()
 
 
-# ---- lines
+# ---- files and lines
+
+def opened_file(path: Path) -> BinaryIO:
+    return os.fdopen(os.open(path, os.O_RDWR | os.O_CREAT, 0o600), "r+b")
+
 
 def line_of(text: bytes) -> bytes:
     return b"%08x %s\n" % (zlib.crc32(text), text)
