@@ -5,6 +5,7 @@ from __future__ import annotations
 
 import argparse
 import os
+import select
 import socket
 import sys
 import threading
@@ -12,10 +13,10 @@ import time
 from dataclasses import dataclass, field
 from pathlib import Path
 from types import TracebackType
-from typing import Callable, Dict, List, Mapping, Optional, Type
+from typing import Any, Callable, Dict, List, Mapping, Optional, Sequence, Type
 
 import rowanspan as wire
-from rowanspan import Role
+from rowanspan import Query, Role, Stop
 from stand_in_index import PlainIndex
 from stand_in_keeper import Keeper
 from stand_in_log import BadLog, FileLog, Log, Policy
@@ -34,7 +35,8 @@ def serve(connection: socket.socket, keeper: Keeper, newest: int) -> None:
     session = keeper.session()
     body = next_body(connection)
     while body is not None:
-        frame = reply_frame(keeper.answers(session, read_queries(body, newest)), body[0])
+        queries = read_queries(body, newest)
+        frame = reply_frame(keeper.answers(session, queries), body[0])
         keeper.count(body, frame)
         try:
             connection.sendall(frame)
@@ -42,8 +44,14 @@ def serve(connection: socket.socket, keeper: Keeper, newest: int) -> None:
             raise SessionFault(WRITE_FAILED) from fault
         if session.role is None:
             raise SessionFault(NO_HELLO)
-        # (what came before a stop is answered, unless it is at once)
-        body = None if keeper.is_at_once else next_body(connection)
+        body = None if is_last(connection, keeper, queries) else next_body(connection)
+
+
+def is_last(connection: socket.socket, keeper: Keeper, queries: Sequence[Query[Any]]) -> bool:
+    """Whether no frame after this one is answered: after a stop those are that came before it, unless it is at once."""
+    if not keeper.is_ending:
+        return False
+    return keeper.is_at_once or isinstance(queries[0], Stop) or not select.select([connection], [], [], 0)[0]
 
 
 @dataclass(frozen=True)

@@ -50,6 +50,10 @@ class Keeper:
         self._began = time.monotonic()
         self._lock = threading.Lock()
 
+    @property
+    def is_ending(self) -> bool:
+        return self._index.is_ending
+
     def session(self) -> Session:
         """A new connection."""
         session = Session(None if self._tokens else Role.ALL)

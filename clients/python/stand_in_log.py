@@ -4,12 +4,13 @@ from __future__ import annotations
 
 import fcntl
 import os
+import re
 import zlib
 from contextlib import ExitStack
 from dataclasses import dataclass
 from errno import EFBIG, ENOSPC
 from pathlib import Path
-from typing import Iterator, List, Optional, Tuple
+from typing import BinaryIO, Iterator, List, Optional, Tuple
 
 from rowanspan import DiskFailed, DiskFull, Refused, Row
 
@@ -87,8 +88,7 @@ class FileLog(Log):
         self._head = b"rowanspan stand-in, columns %d" % columns
         self._end = 0
         with ExitStack() as opened:
-            self._lock, self._file = (opened.enter_context(os.fdopen(os.open(path, os.O_RDWR | os.O_CREAT, 0o600), "r+b"))
-                                      for path in (folder / "even", self._path))
+            self._lock, self._file = (opened.enter_context(opened_file(path)) for path in (folder / "even", self._path))
             fcntl.flock(self._lock, fcntl.LOCK_EX | fcntl.LOCK_NB)
             self.changes = self._read()
             self._opened = opened.pop_all()
@@ -107,10 +107,18 @@ class FileLog(Log):
             self._end = len(head)
         elif not lines or lines[0] != self._head:
             raise BadLog(f"{self._path}: at byte 0 there is no head of these columns: {front[:50].decode('latin-1')!r}")
+        self._want_none_lost(whole, len(lines) - 1)
         # (what a crash has left of the end)
         os.ftruncate(self._file.fileno(), self._end)
         os.fsync(self._file.fileno())
         return [change_of(line, number) for number, line in enumerate(lines[1:], 1)]
+
+    def _want_none_lost(self, whole: bytes, commits: int) -> None:
+        """No line after the end says that more commits were durable. Raises `BadLog`."""
+        for match in re.finditer(rb"[0-9a-f]{8} ((\d+) [^\n\0]*)\n", whole[self._end:]):
+            if line_of(match[1]) == match[0] and int(match[2]) > commits:
+                raise BadLog(f"{self._path}: commits after {commits} are missing that were durable: the line at byte "
+                             f"{self._end + match.start()} says so")
 
     def _lines(self, front: bytes) -> Iterator[bytes]:
         """The lines that are there whole. Raises `BadLog` for one that isn't as it was written."""
@@ -124,7 +132,7 @@ class FileLog(Log):
     # -- afterwards
 
     def add(self, number: int, change: Change) -> None:
-        line = line_of(text_of(change))
+        line = line_of(text_of(change, self.durable))
         os.pwrite(self._file.fileno(), line, self._end)
         self._end += len(line)
         self.written = number
@@ -156,19 +164,25 @@ class FileLog(Log):
         self._opened.close()
 
 
-# ---- lines
+# ---- files and lines
+
+def opened_file(path: Path) -> BinaryIO:
+    return os.fdopen(os.open(path, os.O_RDWR | os.O_CREAT, 0o600), "r+b")
+
 
 def line_of(text: bytes) -> bytes:
     return b"%08x %s\n" % (zlib.crc32(text), text)
 
 
-def text_of(change: Change) -> bytes:
+def text_of(change: Change, durable: int) -> bytes:
+    """A change, and how many commits are durable before it is written."""
     words = [change.key, *(change.row.columns if change.row else ())]
-    return b" ".join([b"put" if change.row else b"remove", *(b"=" + word.hex().encode() for word in words)])
+    kind = b"put" if change.row else b"remove"
+    return b" ".join([b"%d" % durable, kind, *(b"=" + word.hex().encode() for word in words)])
 
 
 def change_of(text: bytes, number: int) -> Change:
-    kind, *words = text.split(b" ")
+    _, kind, *words = text.split(b" ")
     key, *columns = [bytes.fromhex(word[1:].decode()) for word in words]
     values: Tuple[bytes, ...] = tuple(columns)
     return Change(key, Row(number, values) if kind == b"put" else None)

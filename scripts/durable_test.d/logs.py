@@ -1,7 +1,6 @@
 """Cases: folders and files as a crash, a decay or an error of people may leave them, and wrong command lines."""
 from __future__ import annotations
 
-import itertools
 import os
 import pwd
 import random
@@ -52,9 +51,8 @@ def end_of(log: bytes) -> int:
 
 
 def tails_that_are_zero(setting: Setting) -> str:
-    """The end of the log is zero, or one of its bytes is."""
-    return torn_tails(setting, lambda whole, at: whole[:at] + bytes(len(whole) - at),
-                      lambda whole, at: whole[:at] + b"\0" + whole[at + 1:])
+    """The end of the log is zero."""
+    return torn_tails(setting, lambda whole, at: whole[:at] + bytes(len(whole) - at))
 
 
 def tails_that_are_cut(setting: Setting) -> str:
@@ -62,49 +60,55 @@ def tails_that_are_cut(setting: Setting) -> str:
     return torn_tails(setting, lambda whole, at: whole[:at])
 
 
-def torn_tails(setting: Setting, *tears: Callable[[bytes, int], bytes]) -> str:
+def torn_tails(setting: Setting, tear: Callable[[bytes, int], bytes]) -> str:
     """The commits before a torn end are there, and the server goes on."""
     log, chance = written(setting, 60), random.Random(setting.seed)
     ends, end = log.ends, end_of(log.whole)
     want_same("where the log ends after the last commit", end, ends[-1])
     tails = [*chance.sample(range(ends[-5], end), PLACES), end - 1, ends[-2], ends[-2] + 1, ends[-2] + 4]
-    for at, tear in itertools.product(tails, tears):
-        setting.log.write_bytes(tear(log.whole, at))
+    for at in tails:
         least = log.commits_before(at)
-        with setting.server() as server, server.index() as index:
-            copied = History()
-            copied.after = list(log.history.after)
-            found = copied.want_front(index, least)
-            want_same(f"how many commits are there, if the log is torn at byte {at} of {end}", found, least)
-            copied.work(index, 3, 1)
-            server.kill()
-        with setting.server() as server, server.index() as index:
-            copied.want_all(index)
-            server.kill()
+        found = want_found(setting, tear(log.whole, at), log.history, least)
+        want_same(f"how many commits are there, if the log is torn at byte {at} of {end}", found, least)
     return f"{len(tails)} places"
 
 
+def want_found(setting: Setting, left: bytes, history: History, least: int) -> int:
+    """With this log the server starts, has the first of these commits, and goes on. Returns how many it has."""
+    setting.log.write_bytes(left)
+    copied = History()
+    copied.after = list(history.after)
+    with setting.server() as server, server.index() as index:
+        found = copied.want_front(index, least)
+        copied.work(index, 3, 1)
+        server.kill()
+    with setting.server() as server, server.index() as index:
+        copied.want_all(index)
+        server.kill()
+    return found
+
+
 def tails_of_a_crash(setting: Setting) -> str:
-    """Of what wasn't synced each byte is there, or is the zero that was there before: a front of the commits is there,
-    and all that were synced."""
-    log, chance, found = written(setting, 60), random.Random(setting.seed), []
-    for number in range(PLACES):
-        synced = chance.randrange(log.ends[0], log.ends[-1])
-        unit, share = chance.choice((1, 16, 512)), chance.choice((0.02, 0.5, 0.9))
-        left = bytearray(log.whole)
-        for at in range(synced, log.ends[-1], unit):
-            if chance.random() < share:
-                until = min(at + unit, log.ends[-1])
-                left[at:until] = bytes(until - at)
-        setting.log.write_bytes(left)
+    """A crash before the last sync: of what was written since the one before, each byte is there, or the zero that was
+    there before. All commits that were synced are there, and no part of a commit."""
+    history, chance, found = History(6), random.Random(setting.seed), []
+    with setting.server("--sync", "always") as server, server.index() as index:
+        history.work(index, 1, 1)
+        synced = [(setting.log.read_bytes(), history.commits)]
+        while len(synced) <= PLACES:
+            history.work(index, 1, chance.choice((1, 8, 64)))
+            if history.commits > synced[-1][1]:
+                synced.append((setting.log.read_bytes(), history.commits))
+        server.kill()
+    for (before, least), (whole, commits) in zip(synced, synced[1:]):
         copied = History()
-        copied.after = list(log.history.after)
-        with setting.server() as server, server.index() as index:
-            found.append(copied.want_front(index, log.commits_before(synced)) - log.commits_before(synced))
-            copied.work(index, 3, 1)
-            server.kill()
-        with setting.server() as server, server.index() as index:
-            copied.want_all(index)
+        copied.after = history.after[:commits + 1]
+        begin, end, unit = end_of(before), end_of(whole), chance.choice((1, 16, 512))
+        lost, left = chance.choice((0.02, 0.5, 0.9)), bytearray(whole)
+        for at in range(begin, end, unit):
+            if chance.random() < lost:
+                left[at:min(at + unit, end)] = bytes(min(at + unit, end) - at)
+        found.append(want_found(setting, bytes(left), copied, least) - least)
     return f"{PLACES} crashes, after which {sum(found)} commits more than the synced ones were there"
 
 
@@ -142,6 +146,13 @@ def changed_lengths(setting: Setting) -> str:
                                             if log.whole[begin + at] != other])
 
 
+def zeros_in_the_middle(setting: Setting) -> str:
+    """A byte is zero, and what follows says that its commit was durable: no crash leaves that."""
+    log, chance = written(setting, 60), random.Random(setting.seed)
+    places = [*range(log.ends[20], log.ends[20] + LENGTH), *chance.sample(range(log.ends[0], log.ends[50]), 2 * PLACES)]
+    return want_each_refused(setting, log, [(at, 0) for at in places])
+
+
 def want_each_refused(setting: Setting, log: Written, changes: Sequence[Tuple[int, int]]) -> str:
     """With each of these changes of a byte the log isn't opened, its place is said, and it stays as it is."""
     whole, ends, wrong, opened = log.whole, log.ends, [], []
@@ -154,7 +165,8 @@ def want_each_refused(setting: Setting, log: Written, changes: Sequence[Tuple[in
             opened.append(f"byte {at} of commit {before + 1}, {at - ends[before]} bytes after its begin, "
                           f"{whole[at]:02x} as {other:02x}: {fault}")
             continue
-        if not any(ends[before] <= place <= at for place in places_in(said, setting)):
+        # (that of the damaged frame, or of a later one that shows what is missing)
+        if not any(ends[before] <= place <= ends[-1] for place in places_in(said, setting)):
             wrong.append(f"byte {at} of a frame from byte {ends[before]} on: {said!r}")
     want(not opened, f"of {len(changes)} changes {len(opened)} aren't refused: {'; '.join(opened)[:1500]}")
     want(not wrong, f"of {len(changes)} changes {len(wrong)} aren't named: {'; '.join(wrong)[:600]}")
@@ -294,6 +306,7 @@ def options_that_are_told(setting: Setting) -> None:
         want(word in done.stdout, f"--help doesn't say {word.decode()}")
 
 
-CASES = (tails_that_are_zero, tails_that_are_cut, tails_of_a_crash, changed_bytes, changed_lengths, changed_heads,
+CASES = (tails_that_are_zero, tails_that_are_cut, tails_of_a_crash, changed_bytes, changed_lengths,
+         zeros_in_the_middle, changed_heads,
          other_columns, one_server_at_a_time, folders_that_are_none, folders_that_are_read_only, a_copied_folder,
          bad_command_lines, options_that_are_told)
