@@ -9,7 +9,7 @@ use std::time::{Clock, Duration};
 pub enum Syncing {
     /// As soon as commits are written. Changes are answered when they are durable.
     Always,
-    /// At least each so many milliseconds, while there are new commits. Nobody waits.
+    /// At most this number of milliseconds after the last sync, while there are new commits. Nobody waits.
     Every(u64),
     /// At the end of the server alone.
     Never,
@@ -98,7 +98,7 @@ impl Durability {
         self.durable.load(Ordering::SeqCst) as u64
     }
 
-    /// Returns whether so many commits wait to be written that changes are put off.
+    /// Returns whether changes are put off, since more than `MOST_UNWRITTEN` commits wait to be written.
     pub fn is_behind(&self) -> bool {
         let written = self.written.load(Ordering::SeqCst) as u64;
         self.newest().saturating_sub(written) > MOST_UNWRITTEN

@@ -190,7 +190,7 @@ impl<'a, R: Wait + Clock> Gauge<'a, R> {
         }
     }
 
-    /// Returns whether so many commits wait for the log that changes are put off.
+    /// Returns whether changes are put off, since too many commits wait for the log.
     pub fn is_behind(&self) -> bool {
         match self.durability {
             Some(durability) => durability.is_behind() && durability.disk() == DiskState::Usable,

@@ -46,7 +46,7 @@ impl<D: Disk + Drop> Log<D> {
     }
 }
 
-// What comes of an attempt to write.
+// The result of an attempt to write.
 enum Written {
     // All commits are written, or as many as one sync is for.
     All,
@@ -56,7 +56,7 @@ enum Written {
     Never,
 }
 
-// What an error comes to. Says so if the disk is full, or if no attempt will succeed.
+// The result of an attempt that failed with this error. Prints a line if the disk is full, or if no attempt will succeed.
 fn judge<R: Eprint>(rt: &R, durability: &Durability, error: &LoggerError) -> Written {
     match error {
         LoggerError::Fed(Refusal::NoMemory) | LoggerError::Journal(JournalError::NoMemory) => {
@@ -148,6 +148,28 @@ fn pause<R: Wait + Clock>(rt: &R, durability: &Durability, has_unsynced: bool) {
     durability.wait(rt, Duration::from_millis(longest));
 }
 
+// Syncs what was written, if it is time for that. Returns the time of the last sync, or `None` if the disk has failed.
+fn sync_if_due<R: Wait + Clock + Eprint, D: Disk + Drop>(
+    gauge: &Gauge<'_, R>,
+    durability: &Durability,
+    logger: &mut Logger<D>,
+    last: Instant,
+) -> Option<Instant> {
+    let at = logger.position();
+    let is_due = durability.is_ending() || is_due(gauge.rt, durability, last);
+    if at.durable >= at.newest || !is_due {
+        return Some(last);
+    }
+    if !sync(gauge.rt, durability, logger) {
+        return None;
+    }
+    gauge.wake_waiting();
+    match Instant::now(gauge.rt) {
+        Ok(now) => Some(now),
+        Err(_) => Some(last),
+    }
+}
+
 // Writes commits and syncs them until no more are made, or the disk fails.
 fn keep<R: Wait + Clock + Eprint, D: Disk + Drop>(
     gauge: &Gauge<'_, R>,
@@ -174,17 +196,10 @@ fn keep<R: Wait + Clock + Eprint, D: Disk + Drop>(
             let _ = eprintln!(rt; "log: the last commits could not be written");
             return false;
         }
-        let at = logger.position();
-        if at.durable < at.newest && (is_ending || is_due(rt, durability, last)) {
-            if !sync(rt, durability, logger) {
-                return false;
-            }
-            last = match Instant::now(rt) {
-                Ok(now) => now,
-                Err(_) => last,
-            };
-            gauge.wake_waiting();
-        }
+        let Some(synced) = sync_if_due(gauge, durability, logger, last) else {
+            return false;
+        };
+        last = synced;
         let at = logger.position();
         if is_ending && at.durable >= gauge.commits() {
             return true;
