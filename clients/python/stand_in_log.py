@@ -14,7 +14,7 @@ from typing import BinaryIO, Iterator, List, Optional, Tuple
 
 from rowanspan import DiskFailed, DiskFull, Refused, Row
 
-# zeros are written so far ahead, and there is room for a frame of queries in so many of them
+# how many zeros are written ahead at once, and how many of them must be left before a frame of queries is answered
 AHEAD = 1 << 20
 ROOM = 1 << 19
 MAX_MILLISECONDS = 86_400_000
@@ -27,7 +27,7 @@ class BadLog(Exception):
 
 @dataclass(frozen=True)
 class Policy:
-    """When commits are made durable: each before it is answered, or, with a number, within so many milliseconds
+    """When commits are made durable: each before it is answered, or, with a number, within that many milliseconds
     (None: only at the end)."""
 
     is_always: bool = True

@@ -30,7 +30,7 @@ class Folder(unittest.TestCase):
 
 class FileLogTest(Folder):
     def puts(self, count: int, columns: int = 1) -> int:
-        """Puts so many rows, and removes the first; returns the number of commits that were there before."""
+        """Puts `count` rows, and removes the first; returns the number of commits that were there before."""
         log = FileLog(self.folder, Policy(), columns)
         with StandIn(Options(workers=1, columns=columns, log=log)) as server:
             with Client(server.port, timeout=SECONDS) as index:

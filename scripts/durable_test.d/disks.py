@@ -70,7 +70,7 @@ def want_read_only(server: Server, history: History, durable: int) -> Refused:
 
 @contextmanager
 def small_disk(setting: Setting, size: int) -> Iterator[Setting]:
-    """A disk of so many bytes, of which more than half are in use. Raises `Skipped`."""
+    """A disk of `size` bytes, of which more than half are in use. Raises `Skipped`."""
     place = setting.folder / "disk"
     place.mkdir(exist_ok=True)
     mounted = subprocess.run(["mount", "-t", "tmpfs", "-o", f"size={size}", "tmpfs", str(place)], capture_output=True,

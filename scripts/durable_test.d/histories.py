@@ -80,7 +80,7 @@ class History:
         self.after.append(changed(self.rows, self.commits + 1, query))
 
     def work(self, index: Client, frames: int, size: int) -> None:
-        """Asks so many frames of this many changes."""
+        """Asks `frames` frames of `size` changes each."""
         for _ in range(frames):
             if size == 1:
                 self.ask(index, [self.change()])

@@ -34,7 +34,7 @@ class Written:
 
 
 def written(setting: Setting, commits: int) -> Written:
-    """Makes commits, until there are so many."""
+    """Makes commits, until there are `commits`."""
     history, ends = History(5), [0]
     with setting.server() as server, server.index() as index:
         ends[0] = end_of(setting.log.read_bytes())
