@@ -16,18 +16,12 @@ use Rattle.mt_types.specs.Rows.{Rows, after, after_from, after_change, new_colum
 use Rattle.mt_types.specs.declared.row.Row.{Row}
 use Rattle.mt_types.specs.declared.row.Change.{Change}
 use Rattle.mt_types.specs.declared.row.Change.TheVariants.{Put, Drop}
-use Rattle.mt_types.specs.declared.numbers.CallNo.{CallNo}
-use Rattle.mt_types.specs.declared.event.Event.{Event}
-use Rattle.mt_types.specs.declared.event.Event.TheVariants.{Begin, Step, Apply, ViewRead, ViewDrop, Advance, Collect}
-use Rattle.mt_types.specs.declared.event.Outcome.{Outcome}
-use Rattle.mt_types.specs.declared.event.Outcome.TheVariants.{Call, Commit, Applied, Dropped, Epoch}
-use Rattle.mt_types.specs.declared.event.Request.{Request}
-use Rattle.mt_types.specs.declared.event.Request.TheVariants.{Put as PutRequest, PutIf, Remove}
-use Rattle.mt_promise.specs.History.{History, Moment, OpenCall, moment, call_of, after_event, after_call_step, change_of}
-use Rattle.mt_promise.specs.Legal.{Legal, MayHappen, MayStep, MayStepAt, MayCommit}
+use Rattle.mt_promise.specs.History.{History, moment}
+use Rattle.mt_promise.specs.Legal.{Legal}
 use Rattle.mt_promise.proofs.HistoryLemmas.{after-append}
 use Rattle.mt_reach.specs.Reach.{Entry, row_in, Falls, EndsAt, LegalRowsPass}
 use Rattle.mt_reach.proofs.Reaching.{same_key}
+use Rattle.mt_reach.proofs.Removed.{removed_row}
 
 key_order : IsTotalOrder key_cmp
 key_order = nat_list_cmp_total
@@ -92,68 +86,8 @@ get_before (y ∷ xs) ys (suc i) x e = get_before xs ys i x e
 AtLast : ℕ → List Change → Type 0
 AtLast C commits = (cs : List Change) (key : List ℕ) → commits ≡ cs ++ Drop key ∷ [] → IsSome (get (after C cs) key)
 
-last_of : (xs ys : List Change) (x y : Change) → xs ++ x ∷ [] ≡ ys ++ y ∷ [] → (xs ≡ ys) × (x ≡ y)
-last_of [] [] x y e = (refl, cc)
-last_of [] (b ∷ []) x y e = absurd (cc)
-last_of [] (b ∷ c ∷ ys) x y e = absurd (cc)
-last_of (a ∷ []) [] x y e = absurd (cc)
-last_of (a ∷ c ∷ xs) [] x y e = absurd (cc)
-last_of (a ∷ xs) (b ∷ ys) x y e =
-    let rest : xs ++ x ∷ [] ≡ ys ++ y ∷ [] = cc in
-    let head : a ≡ b = cc in
-    let more = last_of xs ys x y rest in
-    (ap (λ (l : List Change). a ∷ l) more.0 ∙ ap (λ (c : Change). c ∷ ys) head, more.1)
-
-never_empty : (cs : List Change) (c : Change) → [] ≡ cs ++ c ∷ [] → ⊥
-never_empty [] c e = cc
-never_empty (d ∷ cs) c e = cc
-
-may_last : (C : ℕ) (past : History) (call : OpenCall) (request : Request) (number : ℕ) (cs : List Change) (key : List ℕ) → MayCommit C past call request number
-    → (moment past).commits ++ change_of request ≡ cs ++ Drop key ∷ [] → IsSome (get (after C cs) key)
-may_last C past call (PutRequest k sets) number cs key may e = let clash : Put k sets ≡ Drop key = (last_of (moment past).commits cs (Put k sets) (Drop key) e).1 in absurd (cc)
-may_last C past call (PutIf k sets version) number cs key may e = let clash : Put k sets ≡ Drop key = (last_of (moment past).commits cs (Put k sets) (Drop key) e).1 in absurd (cc)
-may_last C past call (Remove k) number cs key may e =
-    let both = last_of (moment past).commits cs (Drop k) (Drop key) e in
-    let drops : Drop k ≡ Drop key = both.1 in
-    let same : k ≡ key = cc in
-    subst (λ (l : List ℕ). IsSome (get (after C cs) l)) same (subst (λ (l : List Change). IsSome (get (after C l) k)) both.0 may.2)
-may_last C past call _ number cs key may e = absurd may
-
--- a step of a call leaves the commits, or is one
-record IsCommitOf (m : Moment) (r : Option OpenCall) (o : Outcome) (then_commits : List Change) : Type 0 where
-  call : OpenCall
-  found : r ≡ Some call
-  number : ℕ
-  commits : o ≡ Commit number
-  more : then_commits ≡ m.commits ++ change_of call.request
-
-by_call : (m : Moment) (r : Option OpenCall) (o : Outcome) (note : ℕ) → ((after_call_step m r o note).commits ≡ m.commits) ⊎ IsCommitOf m r o (after_call_step m r o note).commits
-by_call m None o note = inl refl
-by_call m (Some call) (Commit number) note = inr (record { call = call; found = refl; number = number; commits = refl; more = refl })
-by_call m (Some call) _ note = inl refl
-
-by_event : (m : Moment) (e : Event) (o : Outcome) (note : ℕ)
-    → ((after_event m e o note).commits ≡ m.commits) ⊎ ((step : CallNo) × (e ≡ Step step) × IsCommitOf m (call_of step.0 m.calls) o (after_event m e o note).commits)
-by_event m (Step step) o note = elim (by_call m (call_of step.0 m.calls) o note) [ inl same ↦ inl same | inr more ↦ inr (step, refl, more) ]
-by_event m (Begin pass request) (Call number) note = inl refl
-by_event m (Apply view) (Applied number) note = inl refl
-by_event m (ViewDrop view) Dropped note = inl refl
-by_event m Advance (Epoch number) note = inl refl
-by_event m (ViewRead view floor start limit) o note = inl refl
-by_event m Collect o note = inl refl
-by_event m _ _ note = inl refl
-
 at_last : (C : ℕ) (h : History) → Legal C h → (cs : List Change) (key : List ℕ) → (moment h).commits ≡ cs ++ Drop key ∷ [] → IsSome (get (after C cs) key)
-at_last C [] legal cs key e = absurd (never_empty cs (Drop key) e)
-at_last C (x ∷ h) legal cs key e = elim (by_event (moment h) x.event x.outcome x.opens) [
-  | inl same ↦ at_last C h legal.0 cs key (sym same ∙ e)
-  | inr step ↦
-      let is = step.2 in
-      let may = subst (λ (v : Event). MayHappen C h v x.outcome x.opens) step.1 legal.1 in
-      let at = subst (λ (r : Option OpenCall). MayStepAt C h r x.outcome x.opens) is.found may in
-      let commit = subst (λ (o : Outcome). MayStep C h is.call o x.opens) is.commits at in
-      may_last C h is.call is.call.request is.number cs key commit (sym is.more ∙ e)
-]
+at_last C h legal cs key e = removed_row C h legal cs [] key e
 
 -- ---- counting
 falls_few : (m : ℕ) (es : List Entry) → Falls m es → length es ≤ m
