@@ -18,8 +18,8 @@ use Rattle.mt_slice.proofs.KeyOrder.{KeyLess, key_three, cmp_less, cmp_greater, 
 use Rattle.mt_asked.specs.Bounds.{is_up_to}
 use Rattle.mt_index.specs.Stands.{MachineView, Stands}
 use Rattle.mt_map.specs.Bounded.{BeginsFrom, GivesWithin}
-use Rattle.mt_map.specs.Walks.{At, IsAfter, IsToCome, GivesNext, RowsView}
-use Rattle.mt_map.proofs.WalkLemmas.{less_back}
+use Rattle.mt_reads.specs.Walks.{At, IsAfter, IsToCome, GivesNext, RowsView}
+use Rattle.mt_reads.proofs.WalkLemmas.{less_back}
 
 -- ---- the order of keys
 less_on : (a b c : List ℕ) → KeyLess a b → KeyLess b c → KeyLess a c

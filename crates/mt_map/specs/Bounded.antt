@@ -5,7 +5,7 @@ use Rattle.std.specs.declared.ops.Bound.{Bound}
 use Rattle.mt_types.specs.Rows.{Rows}
 use Rattle.mt_types.specs.declared.row.Row.{Row}
 use Rattle.mt_asked.specs.Bounds.{is_from, is_up_to}
-use Rattle.mt_map.specs.Walks.{At, GivesNext, IsToCome}
+use Rattle.mt_reads.specs.Walks.{At, GivesNext, IsToCome}
 
 -- WHERE A WALK WITHIN BOUNDS BEGINS: the rows to come are those whose keys aren't before the lower bound
 abbrev pub BeginsFrom : Rows → Bound (List ℕ) → At → Type 0

@@ -3,4 +3,3 @@ pub mod Bounded
 pub mod Calls
 pub mod Tidies
 pub mod Views
-pub mod Walks

@@ -14,12 +14,11 @@ ghost use Rattle.mt_index.specs.Alone.{IsIdle};
 ghost use Rattle.mt_index.specs.Feed.{feed_fault};
 ghost use Rattle.mt_index.specs.Stands.{HasBounds, Stands};
 
-use bytes::Bytes;
 use mt_asked::asked::numbers_of;
 use mt_asked::limits::{key_fault, range_fault};
 use mt_index::machine::Machine;
 use mt_index::options::Options;
-use mt_types::key::Key;
+use mt_reads::key_of;
 use mt_types::refusal::{NoMemory, Refusal};
 use mt_types::row::{Delta, Pairs, Row};
 use std::alloc::Global;
@@ -57,21 +56,6 @@ impl Drop for Map {
             machine: _,
             tidies: _,
         } = self;
-    }
-}
-
-// The key of these bytes. Copies them.
-pub(crate) fn key_of(alloc: Global, bytes: &[u8]) -> Result<Key, Refusal>
-    ensures key { IfOk result (λ key. key ≡ bytes.now) }
-    ensures fault { MatchOption (key_fault bytes.now) (IfErr result (λ refusal. refusal ≡ Refusal.NoMemory))
-        (λ refusal. result ≡ Err refusal) }
-{
-    if let Some(refusal) = key_fault(bytes) {
-        return Err(refusal);
-    }
-    match Bytes::copy_from_slice(alloc, bytes) {
-        Ok(bytes) => Key::new(bytes),
-        Err(_) => Err(Refusal::NoMemory),
     }
 }
 

@@ -9,7 +9,7 @@ ghost use Rattle.mt_promise.specs.History.{History, moment, rows};
 ghost use Rattle.mt_index.specs.Stands.{Stands};
 ghost use Rattle.mt_asked.specs.Bounds.{start_key};
 ghost use Rattle.mt_map.specs.Bounded.{BeginsFrom, GivesWithin};
-ghost use Rattle.mt_map.specs.Walks.{keys_to_come};
+ghost use Rattle.mt_reads.specs.Walks.{keys_to_come};
 
 use crate::map::Map;
 use crate::walk::Rows;

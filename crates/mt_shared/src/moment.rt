@@ -29,7 +29,7 @@ pub struct Moment<'a> {
 }
 
 impl<'a> Moment<'a> {
-    /// Returns the machine, whose rows can be borrowed: by `Machine::row`, and by a walk (`mt_map::walk::Rows::of`).
+    /// Returns the machine, whose rows can be borrowed: by `Machine::row`, and by a walk (`mt_reads::Rows::of`).
     /// Returns `None` if a put, remove or tidy is open. A call of another thread's
     /// `Door` may be if it waits for another call, or has used up the events of its run.
     pub fn machine(&self) -> Option<&Machine>

@@ -3,7 +3,7 @@
 use bytes::Bytes;
 use mt_asked::borrowed::{Set, Spec, Test};
 use mt_index::options::Options;
-use mt_map::walk::Rows;
+use mt_reads::Rows;
 use mt_shared::client::Client;
 use mt_shared::door::Door;
 use mt_shared::driving::{Shared, Started};

@@ -2,7 +2,7 @@
 mod Advance
 mod DescentLemmas
 mod Found
-mod Gathering
+pub mod Gathering
 mod Layers
 mod Moves
 mod Places

@@ -11,5 +11,5 @@ mod start;
 mod walk;
 
 pub use emptied::is_emptied;
-pub use range::range_of;
+pub use range::{pairs_of, range_of};
 pub use walk::Walk;

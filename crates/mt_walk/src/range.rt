@@ -37,9 +37,16 @@ fn key_at(block: &Bytes, begin: usize, end: usize) -> Result<Key, NoMemory>
     }
 }
 
-// Returns the pairs of these rows, with the columns that are asked for. The bytes of their keys are one after the
-// other, and each row is with the place at which its key ends.
-fn pairs_of(
+/// Returns the pairs of these rows, with the columns that are asked for, or with all if none is asked for. The bytes of
+/// their keys are one after the other, and each row is with the place at which its key ends.
+///
+/// Allocates the list of the pairs, the row of each pair, and one block that the keys share. Shares the bytes of the
+/// columns.
+///
+/// # Errors
+///
+/// `NoMemory` if an allocation is refused.
+pub fn pairs_of(
     alloc: Global,
     bytes: Vec<u8>,
     rows: &[(usize, &Row)],

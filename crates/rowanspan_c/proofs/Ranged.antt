@@ -7,8 +7,8 @@ use Rattle.mt_types.specs.Rows.{shown}
 use Rattle.mt_types.specs.declared.row.Row.{Row}
 use Rattle.mt_promise.specs.History.{History, moment, rows}
 use Rattle.mt_index.specs.Stands.{MachineView, Stands}
-use Rattle.mt_map.specs.Walks.{At, RowsView, GivesNext}
-use Rattle.mt_map.proofs.Ranges.{IsRanging, ranging_begins, ranging_goes, ranging_ends, ranging_fills}
+use Rattle.mt_reads.specs.Walks.{At, RowsView, GivesNext}
+use Rattle.mt_reads.proofs.Ranges.{IsRanging, ranging_begins, ranging_goes, ranging_ends, ranging_fills}
 use Rattle.rowanspan_c.specs.Questions.{ArePlainRows}
 use Rattle.rowanspan_c.specs.Spelling.{bytes_spelling, row_spelling, pair_spelling}
 

@@ -10,7 +10,7 @@ ghost use Rattle.rowanspan_c.specs.Spelling.{number_spelling, bytes_spelling, ro
 use crate::placing::NUMBER_BYTES;
 use crate::spelling::{bytes, columns, number};
 use mt_map::map::Map;
-use mt_map::walk::Rows;
+use mt_reads::Rows;
 use mt_types::items::Items;
 use mt_types::refusal::NoMemory;
 use mt_types::row::Row;

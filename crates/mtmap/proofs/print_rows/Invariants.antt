@@ -1,4 +1,4 @@
-use Rattle.mt_map.specs.Walks.{keys_to_come}
+use Rattle.mt_reads.specs.Walks.{keys_to_come}
 use Rattle.mtmap.proofs.print_rows.Given as goal
 
 -- fewer keys are to come after each row

@@ -2,7 +2,7 @@ use Rattle.std.proofs.Common.{arith, subst}
 use Rattle.std.specs.Option.{option_copied}
 use Rattle.mt_promise.specs.History.{History, moment, rows}
 use Rattle.mt_index.specs.Stands.{Stands}
-use Rattle.mt_map.specs.Walks.{GivesNext}
+use Rattle.mt_reads.specs.Walks.{GivesNext}
 use Rattle.rowanspan_c.proofs.Ranged.{writing_begins, writing_goes, writing_ends, writing_fills}
 use Rattle.rowanspan_c.proofs.ranging.pairs.Goals as goal
 

@@ -1,5 +1,5 @@
 use Rattle.mt_promise.specs.History.{moment, rows}
-use Rattle.mt_map.proofs.WalkLemmas.{first_tells}
+use Rattle.mt_reads.proofs.WalkLemmas.{first_tells}
 use Rattle.mt_map.proofs.map.Map.is_empty.Goals as goal
 
 pub returns : goal.returns

@@ -8,10 +8,10 @@ use Rattle.mt_arena.specs.Arena.{ArenaView}
 use Rattle.mt_tree.specs.Seen.{arena_seen}
 use Rattle.mt_index.specs.Stands.{Stands}
 use Rattle.mt_walk.specs.Walk.{Gives, stands_at, view_of}
-use Rattle.mt_map.specs.Walks.{GivesNext, IsWalking, RowsView, keys_to_come}
-use Rattle.mt_map.proofs.KeysToCome.{fewer_to_come}
-use Rattle.mt_map.proofs.WalkLemmas.{gives_next}
-use Rattle.mt_map.proofs.walk.Rows.next.Goals as goal
+use Rattle.mt_reads.specs.Walks.{GivesNext, IsWalking, RowsView, keys_to_come}
+use Rattle.mt_reads.proofs.KeysToCome.{fewer_to_come}
+use Rattle.mt_reads.proofs.WalkLemmas.{gives_next}
+use Rattle.mt_reads.proofs.rows.Rows.next.Goals as goal
 
 pub returns-in-Ok-clause-row : goal.returns-in-Ok-clause-row
 returns-in-Ok-clause-row c =

@@ -11,15 +11,15 @@ use Rattle.mt_slice.specs.Place.{AreBytes, place_of}
 use Rattle.mt_slice.proofs.KeyOrder.{KeyLess}
 use Rattle.mt_chart.specs.Tree.{Arena}
 use Rattle.mt_walk.specs.Walk.{Gives}
-use Rattle.mt_map.specs.Walks.{At, IsAfter, keys_of, keys_after, keys_to_come}
-use Rattle.mt_map.proofs.WalkLemmas.{after_of, is_given, less_back, place_at}
+use Rattle.mt_reads.specs.Walks.{At, IsAfter, keys_of, keys_after, keys_to_come}
+use Rattle.mt_reads.proofs.WalkLemmas.{after_of, is_given, less_back, place_at}
 
 -- n times k, and less than k, are less than n + 1 times k
 step : (p q k r s : ℕ) → p + 1 ≤ q → r < k → p * k + r < q * k + s
 step p q k r s more few =
     let most : (p + 1) * k ≤ q * k = mul-le (p + 1) k q k more (omega arith) in omega (arith, most, few)
 
-less_than_all : (most : ℕ) (key : List ℕ) → AreBytes key → length key ≤ most → keys_after most key < keys_of most
+pub less_than_all : (most : ℕ) (key : List ℕ) → AreBytes key → length key ≤ most → keys_after most key < keys_of most
 unfolding keys_of keys_after
 less_than_all zero [] bytes short = omega arith
 less_than_all zero (byte ∷ key) bytes short = absurd (omega (arith, short))
@@ -30,7 +30,7 @@ less_than_all (suc most) (byte ∷ key) bytes short =
     omega (arith, rest, up)
 
 -- fewer keys are after a later key
-fewer_after : (most : ℕ) (one other : List ℕ) → AreBytes other → length one ≤ most → length other ≤ most → KeyLess one other → keys_after most other < keys_after most one
+pub fewer_after : (most : ℕ) (one other : List ℕ) → AreBytes other → length one ≤ most → length other ≤ most → KeyLess one other → keys_after most other < keys_after most one
 unfolding keys_of keys_after
 fewer_after most one [] bytes short long less = absurd (nothing_less one less)
   where

@@ -2,9 +2,9 @@ use Rattle.std.specs.Option.{option_copied}
 use Rattle.std.proofs.Common.{subst}
 use Rattle.mt_promise.specs.History.{History, moment, rows}
 use Rattle.mt_index.specs.Stands.{Stands}
-use Rattle.mt_map.specs.Walks.{GivesNext}
-use Rattle.mt_map.proofs.WalkLemmas.{first_lacks, first_found}
-use Rattle.mt_map.proofs.walk.first_of.Goals as goal
+use Rattle.mt_reads.specs.Walks.{GivesNext}
+use Rattle.mt_reads.proofs.WalkLemmas.{first_lacks, first_found}
+use Rattle.mt_reads.proofs.rows.first_of.Goals as goal
 
 pub returns-in_default : goal.returns-in_default
 returns-in_default c =

@@ -18,13 +18,13 @@ use Rattle.mt_types.specs.declared.row.Row.{Row}
 use Rattle.mt_types.proofs.RangeLemmas.{given_once}
 use Rattle.mt_slice.proofs.KeyOrder.{KeyLess, key_three, cmp_less, cmp_equal}
 use Rattle.mt_promise.specs.Alone.{ShowsRow, IsRangeOfMap}
-use Rattle.mt_map.specs.Walks.{At, IsAfter, IsToCome, GivesNext}
+use Rattle.mt_reads.specs.Walks.{At, IsAfter, IsToCome, GivesNext}
 
 abbrev Pair : Type 0
 Pair = List ℕ × Row
 
 -- ---- the order of keys
-key_order : IsTotalOrder key_cmp
+pub key_order : IsTotalOrder key_cmp
 key_order = nat_list_cmp_total
 
 turned : (one other : List ℕ) → key_cmp one other ≡ Less → key_cmp other one ≡ Greater

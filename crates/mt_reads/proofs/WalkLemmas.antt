@@ -16,7 +16,7 @@ use Rattle.mt_slice.proofs.KeyOrder.{KeyLess, key_three, cmp_less, cmp_greater, 
 use Rattle.mt_chart.specs.Tree.{Arena, Has}
 use Rattle.mt_walk.specs.Walk.{WalkAt, from, behind, ToCome, Gives}
 use Rattle.mt_index.specs.Stands.{MachineView, Stands}
-use Rattle.mt_map.specs.Walks.{At, IsAfter, IsEmpty, IsFirst, GivesNext}
+use Rattle.mt_reads.specs.Walks.{At, IsAfter, IsEmpty, IsFirst, GivesNext}
 
 -- ---- the order of keys and of their places
 pub less_back : (one other : List ℕ) → key_cmp one other ≡ Less → KeyLess one other

@@ -1,8 +1,8 @@
 use Rattle.std.proofs.Common.{subst, sym}
 use Rattle.mt_steps.specs.Lone.{IsLoneTree}
 use Rattle.mt_index.proofs.QuietStands.{quiet_tree}
-use Rattle.mt_map.proofs.WalkLemmas.{starts_at}
-use Rattle.mt_map.proofs.walk.Rows.of.Goals as goal
+use Rattle.mt_reads.proofs.WalkLemmas.{starts_at}
+use Rattle.mt_reads.proofs.rows.Rows.of.Goals as goal
 
 pub new-requires : goal.new-requires
 new-requires c =

@@ -1,0 +1,5 @@
+-- What the contracts of this crate cite.
+pub mod Back
+pub mod Ranges
+pub mod Reading
+pub mod Walks

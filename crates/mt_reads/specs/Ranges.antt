@@ -1,0 +1,18 @@
+-- A range against the order of keys, for its user.
+use Rattle.std.specs.Prelude.{ℕ, ◌≡◌, ◌≤◌, ◌-◌, ◌⊎◌, List, [], ◌∷◌, Option, Some}
+use Rattle.std.specs.FinMap.{get}
+use Rattle.mt_types.specs.Rows.{Rows, shown}
+use Rattle.mt_types.specs.declared.row.Row.{Row}
+use Rattle.mt_reads.specs.Back.{IsBefore, IsPrevious}
+
+-- no key before the bound has a row
+abbrev pub IsNoneBefore : Rows → Option (List ℕ) → Type 0
+IsNoneBefore map before = (key : List ℕ) (row : Row) → get map key ≡ Some row → IsBefore before key → ⊥
+
+-- THE LAST PAIRS OF A MAP BEFORE A BOUND, the greatest key first, up to a limit: those and no others, each row as it is
+-- shown with the columns that are asked for
+abbrev pub IsRangeBack : Rows → List ℕ → Option (List ℕ) → ℕ → List (List ℕ × Row) → Type 0
+IsRangeBack map asked before limit [] = (limit ≡ 0) ⊎ IsNoneBefore map before
+IsRangeBack map asked before limit (pair ∷ pairs) =
+    (row : Row) × IsPrevious map before pair.0 row × (pair.1 ≡ shown asked row) × (1 ≤ limit)
+    × IsRangeBack map asked (Some pair.0) (limit - 1) pairs

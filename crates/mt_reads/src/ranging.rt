@@ -1,0 +1,56 @@
+//! A range against the order of keys: a walk back with a limit.
+
+ghost use Rattle.std.specs.Prelude.{◌≤◌, ◌+◌, IfOk, IfSome, length};
+ghost use Rattle.std.specs.Option.{option_copied};
+ghost use Rattle.mt_types.specs.declared.limits.TheConstants.{MAX_KEY_BYTES};
+ghost use Rattle.mt_promise.specs.History.{History, moment, rows};
+ghost use Rattle.mt_index.specs.Alone.{IsQuiet};
+ghost use Rattle.mt_index.specs.Stands.{Stands};
+ghost use Rattle.mt_reads.specs.Ranges.{IsRangeBack};
+
+use crate::back::RowsBack;
+use mt_index::machine::Machine;
+use mt_types::refusal::NoMemory;
+use mt_types::row::{ColumnNumbers, Pairs};
+use mt_walk::pairs_of;
+use std::alloc::Global;
+
+// For how many keys a range makes room at its begin, at most, and how many bytes for each.
+const ROOM_KEYS: u16 = 128;
+
+const ROOM_BYTES: usize = 16;
+
+/// Returns the last pairs of a machine whose keys are before a bound, or the last of all, at most `limit`, the greatest key
+/// first. Each has the columns that are asked for, or all if none is asked for. No put, remove or tidy may be open.
+///
+/// Costs what the steps of a [`RowsBack`] cost. Allocates for the list of the pairs and the one that it is made from, for
+/// the row of each pair, and one block that the keys share. Shares the bytes of the columns.
+///
+/// # Errors
+///
+/// `NoMemory` if an allocation is refused.
+pub fn range_back(
+    alloc: Global,
+    machine: &Machine,
+    before: Option<&[u8]>,
+    limit: u16,
+    columns: &ColumnNumbers,
+) -> Result<Pairs, NoMemory>
+    requires quiet { IsQuiet machine.now }
+    requires fits { IfSome (option_copied before) (λ key. length key ≤ MAX_KEY_BYTES + 1) }
+    ensures { IfOk result (λ pairs. (h : History) → Stands machine.now h
+        → IsRangeBack (rows machine.now.columns (moment h)) columns.now (option_copied before.entry) limit pairs) }
+{
+    let mut walk = RowsBack::of(alloc, machine, before)?;
+    let room = usize::from(limit.min(ROOM_KEYS));
+    let mut keys = Vec::with_capacity(alloc, ROOM_BYTES * room)?;
+    let mut rows = Vec::with_capacity(alloc, room)?;
+    for _ in 0..limit {
+        let Some(row) = walk.next()? else {
+            break;
+        };
+        keys.extend_from_slice(walk.key())?;
+        rows.push((keys.len(), row))?;
+    }
+    pairs_of(alloc, keys, rows.as_slice(), columns)
+}
