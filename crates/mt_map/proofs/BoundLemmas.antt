@@ -1,6 +1,6 @@
 -- Walks within bounds: the order of keys, where such a walk begins, and what it gives next.
-use Rattle.std.proofs.Common.{ℕ, ◌≡◌, ◌⊎◌, ◌↔◌, inl, inr, List, [], ◌∷◌, Bool, true, false, refl, sym, ap, subst, ◌∙◌, arith}
-use Rattle.std.specs.Prelude.{Option, Some, None, Result, Ok, Err, IfOk, IsOk, is_ok, IsTrue, IsSome, MatchOption}
+use Rattle.std.proofs.Common.{ℕ, ◌≡◌, ◌⊎◌, ◌↔◌, inl, inr, List, [], ◌∷◌, ◌++◌, Bool, true, false, refl, sym, ap, subst, ◌∙◌, arith}
+use Rattle.std.specs.Prelude.{Option, Some, None, Result, Ok, Err, IfOk, IsOk, is_ok, IsTrue, IsSome, IfSome, IsSomeAnd, MatchOption}
 use Rattle.std.specs.FinMap.{get}
 use Rattle.std.specs.Ordering.{is_le, is_lt}
 use Rattle.std.specs.declared.cmp.Ordering.{Ordering}
@@ -15,9 +15,11 @@ use Rattle.mt_types.specs.declared.refusal.Refusal.TheVariants.{NoMemory}
 use Rattle.mt_types.specs.declared.row.Row.{Row}
 use Rattle.mt_promise.specs.History.{History, moment, rows}
 use Rattle.mt_slice.proofs.KeyOrder.{KeyLess, key_three, cmp_less, cmp_greater, cmp_equal}
-use Rattle.mt_asked.specs.Bounds.{is_up_to}
+use Rattle.mt_asked.specs.Bounds.{is_from, is_up_to}
 use Rattle.mt_index.specs.Stands.{MachineView, Stands}
-use Rattle.mt_map.specs.Bounded.{BeginsFrom, GivesWithin}
+use Rattle.mt_reads.specs.Back.{IsBefore, GivesPrevious}
+use Rattle.mt_reads.proofs.RangeBackLemmas.{key_same}
+use Rattle.mt_map.specs.Bounded.{BeginsFrom, BeginsUpTo, GivesWithin, GivesWithinBack}
 use Rattle.mt_reads.specs.Walks.{At, IsAfter, IsToCome, GivesNext, RowsView}
 use Rattle.mt_reads.proofs.WalkLemmas.{less_back}
 
@@ -179,3 +181,116 @@ module _ (end : Bound (List ℕ)) (s : MachineView) (at new : At) (found : Optio
       → (h : History) → Stands s h → GivesWithin end (rows s.columns (moment h)) at None new
   next_past row key is same out gives h stands =
       gives_past end (rows s.columns (moment h)) at row new (subst (λ (f : Option Row). GivesNext (rows s.columns (moment h)) at f new) is (gives h stands)) (ap (is_up_to end) (sym same) ∙ out)
+
+-- ---- the key after a key: with a zero more
+less_next : (key end : List ℕ) → KeyLess key (end ++ 0 ∷ []) → KeyLess key end ⊎ (key ≡ end)
+less_next [] [] less = inr refl
+less_next (x ∷ key) [] (inl less) = absurd (omega (arith, less))
+less_next (x ∷ key) [] (inr (same, less)) = elim less [ ]
+less_next [] (y ∷ end) less = inl tt
+less_next (x ∷ key) (y ∷ end) (inl less) = inl (inl less)
+less_next (x ∷ key) (y ∷ end) (inr (same, less)) = elim (less_next key end less) [
+  | inl before ↦ inl (inr (same, before))
+  | inr is ↦ inr (ap (λ (b : ℕ). b ∷ key) same ∙ ap (λ (k : List ℕ). y ∷ k) is)
+]
+
+less_longer : (key end : List ℕ) → KeyLess key end → KeyLess key (end ++ 0 ∷ [])
+less_longer key [] less = elim less [ ]
+less_longer [] (y ∷ end) less = tt
+less_longer (x ∷ key) (y ∷ end) (inl less) = inl less
+less_longer (x ∷ key) (y ∷ end) (inr (same, less)) = inr (same, less_longer key end less)
+
+itself_longer : (end : List ℕ) → KeyLess end (end ++ 0 ∷ [])
+itself_longer [] = tt
+itself_longer (y ∷ end) = inr (refl, itself_longer end)
+
+-- ---- where a walk back within bounds begins
+up_to : (key last : List ℕ) → key_cmp key (last ++ 0 ∷ []) ≡ Less → is_le (key_cmp key last) ≡ true
+up_to key last less = elim (less_next key last (less_back key (last ++ 0 ∷ []) less)) [
+  | inl before ↦ ap is_le (cmp_less key last before)
+  | inr same ↦ ap is_le (ap (key_cmp key) (sym same) ∙ cmp_equal key)
+]
+
+below_next : (key last : List ℕ) → is_le (key_cmp key last) ≡ true → key_cmp key (last ++ 0 ∷ []) ≡ Less
+below_next key last le = go (key_three key last)
+  where
+    go : KeyLess key last ⊎ ((key ≡ last) ⊎ KeyLess last key) → key_cmp key (last ++ 0 ∷ []) ≡ Less
+    go (inl less) = cmp_less key (last ++ 0 ∷ []) (less_longer key last less)
+    go (inr (inl same)) = cmp_less key (last ++ 0 ∷ []) (subst (λ (k : List ℕ). KeyLess k (last ++ 0 ∷ [])) (sym same) (itself_longer last))
+    go (inr (inr more)) = absurd (false≢true (sym (ap is_le (cmp_greater key last more)) ∙ le))
+
+pub included_end : (last bytes : List ℕ) (before : Option (List ℕ)) → bytes ≡ last ++ 0 ∷ [] → before ≡ Some bytes → BeginsUpTo (Included last) before
+included_end last bytes before is at = subst (BeginsUpTo (Included last)) (sym (at ∙ ap (λ (b : List ℕ). Some b) is)) (λ key. (up_to key last, below_next key last))
+
+pub excluded_end : (bound : List ℕ) (before : Option (List ℕ)) → before ≡ Some bound → BeginsUpTo (Excluded bound) before
+excluded_end bound before at = subst (BeginsUpTo (Excluded bound)) (sym at) (λ key. ((λ less. ap is_lt less), (λ lt. lt_less (key_cmp key bound) lt)))
+
+pub unbounded_end : (before : Option (List ℕ)) → before ≡ None → BeginsUpTo Unbounded before
+unbounded_end before at = subst (BeginsUpTo Unbounded) (sym at) (λ key. ((λ any. refl), (λ any. tt)))
+
+-- ---- before a key that is before the start
+pub before_start : (start : Bound (List ℕ)) (new key : List ℕ) → is_from start new ≡ false → IsAfter key false new → is_from start key ≡ false
+before_start (Included first) new key out after = go (key_three first key)
+  where
+    go : KeyLess first key ⊎ ((first ≡ key) ⊎ KeyLess key first) → is_le (key_cmp first key) ≡ false
+    go (inl less) = absurd (false≢true (sym out ∙ ap is_le (cmp_less first new (below key after less))))
+      where
+        below : (k : List ℕ) → IsAfter k false new → KeyLess first k → KeyLess first new
+        below k (inl same) l = subst (KeyLess first) same l
+        below k (inr more) l = less_on first k new l (less_back k new more)
+    go (inr (inl same)) = absurd (false≢true (sym out ∙ from_same after))
+      where
+        from_same : IsAfter key false new → is_le (key_cmp first new) ≡ true
+        from_same (inl is) = ap is_le (ap (key_cmp first) (sym (same ∙ is)) ∙ cmp_equal first)
+        from_same (inr more) = ap is_le (cmp_less first new (subst (λ (k : List ℕ). KeyLess k new) (sym same) (less_back key new more)))
+    go (inr (inr more)) = ap is_le (cmp_greater first key more)
+before_start (Excluded bound) new key out after = go (key_three bound key)
+  where
+    go : KeyLess bound key ⊎ ((bound ≡ key) ⊎ KeyLess key bound) → is_lt (key_cmp bound key) ≡ false
+    go (inl less) = absurd (false≢true (sym out ∙ ap is_lt (cmp_less bound new (below key after less))))
+      where
+        below : (k : List ℕ) → IsAfter k false new → KeyLess bound k → KeyLess bound new
+        below k (inl same) l = subst (KeyLess bound) same l
+        below k (inr more) l = less_on bound k new l (less_back k new more)
+    go (inr (inl same)) = ap is_lt (ap (key_cmp bound) (sym same) ∙ cmp_equal bound)
+    go (inr (inr more)) = ap is_lt (cmp_greater bound key more)
+before_start Unbounded new key out after = absurd (false≢true (sym out))
+
+-- ---- the previous row within bounds
+module _ (start : Bound (List ℕ)) (s : MachineView) (before new : Option (List ℕ)) where
+  abbrev Previous : Option Row → Type 0
+  Previous found = (h : History) → Stands s h → GivesPrevious (rows s.columns (moment h)) before found new
+
+  abbrev Within : Option Row → Type 0
+  Within found = (h : History) → Stands s h → GivesWithinBack start (rows s.columns (moment h)) before found new
+
+  pub previous_none : (found : Option Row) → found ≡ None → Previous found → Within None
+  previous_none found is gives h stands key row there comes = elim comes [
+    | inl below ↦ absurd (none.1 key row there below)
+    | inr below ↦ absurd (none.1 key row there (subst (λ (b : Option (List ℕ)). IsBefore b key) none.0 below))
+  ]
+    where
+      none : GivesPrevious (rows s.columns (moment h)) before None new
+      none = subst (λ (f : Option Row). GivesPrevious (rows s.columns (moment h)) before f new) is (gives h stands)
+
+  spelled : (bound : Option (List ℕ)) (key k : List ℕ) → bound ≡ Some k → IfSome bound (λ x. key ≡ x) → key ≡ k
+  spelled bound key k is same = key_same bound key k is same
+
+  pub previous_some : (found : Option Row) (row : Row) (key : List ℕ) → found ≡ Some row → IfSome new (λ x. key ≡ x) → is_from start key ≡ true → Previous found → Within (Some row)
+  previous_some found row key is spells from gives h stands = go (subst (λ (f : Option Row). GivesPrevious (rows s.columns (moment h)) before f new) is (gives h stands))
+    where
+      go : GivesPrevious (rows s.columns (moment h)) before (Some row) new → GivesWithinBack start (rows s.columns (moment h)) before (Some row) new
+      go (k, bound, previous) = (
+        (k, bound, previous),
+        subst (λ (b : Option (List ℕ)). IsSomeAnd b (λ x. is_from start x ≡ true)) (sym bound) (subst (λ (x : List ℕ). is_from start x ≡ true) (spelled new key k bound spells) from),
+      )
+
+  pub previous_past : (found : Option Row) (row : Row) (key : List ℕ) → found ≡ Some row → IfSome new (λ x. key ≡ x) → is_from start key ≡ false → Previous found → Within None
+  previous_past found row key is spells out gives h stands other its there comes =
+      go (subst (λ (f : Option Row). GivesPrevious (rows s.columns (moment h)) before f new) is (gives h stands)) comes
+    where
+      go : GivesPrevious (rows s.columns (moment h)) before (Some row) new → IsBefore before other ⊎ IsBefore new other → is_from start other ≡ false
+      go (k, bound, (has, within, greatest)) (inl below) =
+          before_start start k other (subst (λ (x : List ℕ). is_from start x ≡ false) (spelled new key k bound spells) out) (greatest other its there below)
+      go (k, bound, (has, within, greatest)) (inr below) =
+          before_start start k other (subst (λ (x : List ℕ). is_from start x ≡ false) (spelled new key k bound spells) out) (inr (subst (λ (b : Option (List ℕ)). IsBefore b other) bound below))

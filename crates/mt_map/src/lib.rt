@@ -1,6 +1,7 @@
 //! An index of one caller, with the methods of a map. Its views are advanced on demand.
 #![tactic(auto)]
 
+pub mod back;
 mod calling;
 mod changing;
 pub mod map;

@@ -7,9 +7,8 @@ ghost use Rattle.mt_index.specs.Stands.{Stands};
 ghost use Rattle.mt_reads.specs.Walks.{IsEmpty, IsFirst};
 
 use crate::map::Map;
-use mt_reads::first_of;
-use mt_reads::key_of;
 pub use mt_reads::Rows;
+use mt_reads::{first_of, key_of};
 use mt_types::key::Key;
 use mt_types::refusal::{NoMemory, Refusal};
 

@@ -1,6 +1,6 @@
 -- The rows that a walk back returns, up to a limit, are the range back of the map.
 use Rattle.std.proofs.Common.{ℕ, ◌≡◌, ◌≤◌, ◌+◌, ◌-◌, ◌⊎◌, inl, inr, List, [], ◌∷◌, ◌++◌, length, refl, sym, ap, subst, ◌∙◌, arith}
-use Rattle.std.specs.Prelude.{Option, Some, None, IfSome, IsSomeAnd}
+use Rattle.std.specs.Prelude.{Option, Some, None, IfSome, IsSomeAnd, is_some}
 use Rattle.std.proofs.lemmas.List.{length-append}
 use Rattle.std.specs.FinMap.{get}
 use Rattle.mt_types.specs.Rows.{Rows, shown}
@@ -9,7 +9,7 @@ use Rattle.mt_types.specs.declared.row.Row.{Row}
 use Rattle.mt_promise.specs.History.{History, moment, rows}
 use Rattle.mt_index.specs.Stands.{MachineView, Stands}
 use Rattle.mt_reads.specs.Back.{BackView, IsBefore, IsPrevious, GivesPrevious}
-use Rattle.mt_reads.specs.Ranges.{IsNoneBefore, IsRangeBack}
+use Rattle.mt_reads.specs.Ranges.{IsNoneBefore, IsRangeBack, IsLast}
 
 abbrev Shown : Type 0
 Shown = List (List ℕ × Row)
@@ -30,11 +30,21 @@ module _ (map : Rows) (asked : List ℕ) where
       → IsRangeBack map asked before limit pairs
   returned_all before now limit [] is few (inl full) = inl (sym full)
   returned_all before now limit [] is few (inr none) = inr (subst (IsNoneBefore map) is none)
-  returned_all before now limit (pair ∷ pairs) (its, first, is, more) few ends =
-      (its, first, is, omega (arith, few), returned_all (Some pair.0) now (limit - 1) pairs more (omega (arith, few)) (elim ends [
-        | inl full ↦ inl (omega (arith, full))
-        | inr none ↦ inr none
-      ]))
+  returned_all before now limit (pair ∷ pairs) (its, first, is, more) few ends = (
+    its,
+    first,
+    is,
+    omega (arith, few),
+    returned_all (Some pair.0) now (limit - 1) pairs more (omega (arith, few)) (elim ends [
+      | inl full ↦ inl (omega (arith, full))
+      | inr none ↦ inr none
+    ]),
+  )
+
+-- the key that a walk back spells is its bound
+pub key_same : (bound : Option (List ℕ)) (key k : List ℕ) → bound ≡ Some k → IfSome bound (λ x. key ≡ x) → key ≡ k
+key_same (Some x) key k is same = let its : x ≡ k = cc in same ∙ its
+key_same None key k is same = absurd (let clash : ◌≡◌ {A = Option (List ℕ)} None (Some k) = is in cc)
 
 -- the key that a walk back has returned isn't too long
 pub fits_key : (bound : Option (List ℕ)) (key : List ℕ) → IsSomeAnd bound (λ x. length x ≤ MAX_KEY_BYTES) → IfSome bound (λ x. key ≡ x) → length key ≤ MAX_KEY_BYTES
@@ -59,10 +69,6 @@ module _ (s : MachineView) (asked : List ℕ) (before : Option (List ℕ)) where
         → (h : History) → Stands s h → GivesPrevious (rows s.columns (moment h)) walk.before found new.before
     at_machine found gives = subst (λ (m : MachineView). (h : History) → Stands m h → GivesPrevious (rows m.columns (moment h)) walk.before found new.before) r.machine gives
 
-    key_same : (bound : Option (List ℕ)) (key k : List ℕ) → bound ≡ Some k → IfSome bound (λ x. key ≡ x) → key ≡ k
-    key_same (Some x) key k is same = let its : x ≡ k = cc in same ∙ its
-    key_same None key k is same = absurd (let clash : ◌≡◌ {A = Option (List ℕ)} None (Some k) = is in cc)
-
     pub returning_goes : (row : Row) (key : List ℕ) (more : Shown) → ((h : History) → Stands walk.machine h → GivesPrevious (rows walk.machine.columns (moment h)) walk.before (Some row) new.before)
         → new.machine ≡ walk.machine → IfSome new.before (λ x. key ≡ x) → more ≡ pairs ++ (key, shown asked row) ∷ [] → IsReturning new more (many + 1)
     returning_goes row key more gives same key_is more_is = record {
@@ -84,3 +90,26 @@ module _ (s : MachineView) (asked : List ℕ) (before : Option (List ℕ)) where
     pub returning_fills : (limit : ℕ) → many ≡ limit → (h : History) → Stands s h → IsRangeBack (rows s.columns (moment h)) asked before limit pairs
     returning_fills limit full h stands =
         returned_all (rows s.columns (moment h)) asked before walk.before limit pairs (r.returned h stands) (let count = r.count in omega (arith, count, full)) (inl (r.count ∙ full))
+
+-- ---- the last key
+module _ (s : MachineView) (walk new : BackView) (same : walk.machine ≡ s) (all : walk.before ≡ None) where
+  from_end : (found : Option Row) → ((h : History) → Stands walk.machine h → GivesPrevious (rows walk.machine.columns (moment h)) walk.before found new.before)
+      → (h : History) → Stands s h → GivesPrevious (rows s.columns (moment h)) None found new.before
+  from_end found gives =
+      subst (λ (m : MachineView). (h : History) → Stands m h → GivesPrevious (rows m.columns (moment h)) None found new.before) same
+      (subst (λ (b : Option (List ℕ)). (h : History) → Stands walk.machine h → GivesPrevious (rows walk.machine.columns (moment h)) b found new.before) all gives)
+
+  pub last_lacks : ((h : History) → Stands walk.machine h → GivesPrevious (rows walk.machine.columns (moment h)) walk.before None new.before)
+      → (h : History) → Stands s h → IsLast (rows s.columns (moment h)) None
+  last_lacks gives h stands key = go (get (rows s.columns (moment h)) key) refl
+    where
+      go : (found : Option Row) → get (rows s.columns (moment h)) key ≡ found → get (rows s.columns (moment h)) key ≡ None
+      go None is = is
+      go (Some row) is = absurd ((from_end None gives h stands).1 key row is tt)
+
+  pub last_found : (row : Row) (spelled key : List ℕ) → ((h : History) → Stands walk.machine h → GivesPrevious (rows walk.machine.columns (moment h)) walk.before (Some row) new.before)
+      → IfSome new.before (λ x. spelled ≡ x) → key ≡ spelled → (h : History) → Stands s h → IsLast (rows s.columns (moment h)) (Some key)
+  last_found row spelled key gives spells is h stands =
+      let (k, bound, (there, within, greatest)) = from_end (Some row) gives h stands in
+      subst (λ (x : List ℕ). IsLast (rows s.columns (moment h)) (Some x)) (sym (is ∙ key_same new.before spelled k bound spells))
+      (ap is_some there, λ other its has. greatest other its has tt)

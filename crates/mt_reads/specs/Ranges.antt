@@ -1,8 +1,9 @@
 -- A range against the order of keys, for its user.
-use Rattle.std.specs.Prelude.{ℕ, ◌≡◌, ◌≤◌, ◌-◌, ◌⊎◌, List, [], ◌∷◌, Option, Some}
+use Rattle.std.specs.Prelude.{ℕ, ◌≡◌, ◌≤◌, ◌-◌, ◌⊎◌, List, [], ◌∷◌, Option, Some, None, IsSome, false}
 use Rattle.std.specs.FinMap.{get}
 use Rattle.mt_types.specs.Rows.{Rows, shown}
 use Rattle.mt_types.specs.declared.row.Row.{Row}
+use Rattle.mt_reads.specs.Walks.{IsAfter}
 use Rattle.mt_reads.specs.Back.{IsBefore, IsPrevious}
 
 -- no key before the bound has a row
@@ -16,3 +17,9 @@ IsRangeBack map asked before limit [] = (limit ≡ 0) ⊎ IsNoneBefore map befor
 IsRangeBack map asked before limit (pair ∷ pairs) =
     (row : Row) × IsPrevious map before pair.0 row × (pair.1 ≡ shown asked row) × (1 ≤ limit)
     × IsRangeBack map asked (Some pair.0) (limit - 1) pairs
+
+-- THE LAST KEY of a map of rows, or none
+abbrev pub IsLast : Rows → Option (List ℕ) → Type 0
+IsLast map (Some last) =
+    IsSome (get map last) × ((key : List ℕ) (row : Row) → get map key ≡ Some row → IsAfter key false last)
+IsLast map None = (key : List ℕ) → get map key ≡ None

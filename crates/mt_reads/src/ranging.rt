@@ -1,4 +1,4 @@
-//! A range against the order of keys: a walk back with a limit.
+//! The last key, and a range against the order of keys: a walk back with a limit.
 
 ghost use Rattle.std.specs.Prelude.{◌≤◌, ◌+◌, IfOk, IfSome, length};
 ghost use Rattle.std.specs.Option.{option_copied};
@@ -6,14 +6,38 @@ ghost use Rattle.mt_types.specs.declared.limits.TheConstants.{MAX_KEY_BYTES};
 ghost use Rattle.mt_promise.specs.History.{History, moment, rows};
 ghost use Rattle.mt_index.specs.Alone.{IsQuiet};
 ghost use Rattle.mt_index.specs.Stands.{Stands};
-ghost use Rattle.mt_reads.specs.Ranges.{IsRangeBack};
+ghost use Rattle.mt_reads.specs.Ranges.{IsLast, IsRangeBack};
 
 use crate::back::RowsBack;
+use crate::rows::key_of;
 use mt_index::machine::Machine;
+use mt_types::key::Key;
 use mt_types::refusal::NoMemory;
 use mt_types::row::{ColumnNumbers, Pairs};
 use mt_walk::pairs_of;
 use std::alloc::Global;
+
+/// Returns the last key of a machine on which no put, remove or tidy is open, or `None` if there are no rows.
+///
+/// Costs the visits of the nodes on the way to the key, and reads the rows of its border. Copies the key.
+///
+/// # Errors
+///
+/// `NoMemory` if an allocation is refused.
+pub fn last_of(alloc: Global, machine: &Machine) -> Result<Option<Key>, NoMemory>
+    requires { IsQuiet machine.now }
+    ensures { IfOk result (λ last. (h : History) → Stands machine.now h
+        → IsLast (rows machine.now.columns (moment h)) last) }
+{
+    let mut walk = RowsBack::of(alloc, machine, None)?;
+    let Some(_row) = walk.next()? else {
+        return Ok(None);
+    };
+    match key_of(alloc, walk.key()) {
+        Ok(key) => Ok(Some(key)),
+        Err(_) => Err(NoMemory),
+    }
+}
 
 // For how many keys a range makes room at its begin, at most, and how many bytes for each.
 const ROOM_KEYS: u16 = 128;

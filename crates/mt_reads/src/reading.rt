@@ -106,8 +106,7 @@ pub(crate) struct Reading<'m> {
 // Says that the bytes of a slice are bytes.
 fn are_bytes(bytes: &[u8])
     ensures { AreBytes bytes.now }
-{
-}
+{}
 
 impl<'m> Reading<'m> {
     // Nothing is read yet.
