@@ -1,6 +1,6 @@
 //! Walks over the rows of a map against the order of their keys, also within bounds.
 
-ghost use Rattle.std.specs.Prelude.{◌≡◌, ◌<◌, ◌↔◌, IfErr, IfOk, IfSome, IsErr, IsTrue, None, MatchOption, OnSome, Err};
+ghost use Rattle.std.specs.Prelude.{◌≡◌, ◌<◌, ◌↔◌, IfErr, IfOk, IfSome, IsErr, IsTrue, None, MatchOption, OnSome, Err, [], unwrap_or};
 ghost use Rattle.std.specs.Option.{option_copied};
 ghost use Rattle.std.specs.Range.Bound.{bound_map};
 ghost use Rattle.mt_types.specs.Limits.{key_fault};
@@ -79,6 +79,32 @@ impl Map {
             }
             Bound::Excluded(key) => RowsBack::of(self.alloc, &self.machine, Some(key)),
             Bound::Unbounded => RowsBack::of(self.alloc, &self.machine, None),
+        }
+    }
+
+    /// Returns a walk that is before the last row whose key is before `before`, or before the last row of all.
+    ///
+    ///     let mut rows = map.walk_back(None)?;
+    ///
+    /// Copies the bound.
+    ///
+    /// # Errors
+    ///
+    /// `KeyTooLong` if `before` has more than `MAX_KEY_BYTES` bytes; otherwise `NoMemory` if an allocation is refused.
+    pub fn walk_back(&self, before: Option<&[u8]>) -> Result<RowsBack<'_>, Refusal>
+        ensures machine { IfOk result (λ walk. walk.machine ≡ self.now.machine) }
+        ensures before { IfOk result (λ walk. walk.before ≡ option_copied before.entry) }
+        ensures fault { MatchOption (key_fault (unwrap_or (option_copied before.entry) []))
+            (IfErr result (λ refusal. refusal ≡ Refusal.NoMemory)) (λ refusal. result ≡ Err refusal) }
+    {
+        if let Some(key) = before
+            && let Some(refusal) = key_fault(key)
+        {
+            return Err(refusal);
+        }
+        match RowsBack::of(self.alloc, &self.machine, before) {
+            Ok(walk) => Ok(walk),
+            Err(_) => Err(Refusal::NoMemory),
         }
     }
 

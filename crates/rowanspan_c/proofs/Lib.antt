@@ -5,5 +5,6 @@ pub mod Placed
 pub mod Crosses
 pub mod RowRead
 pub mod Ranged
+pub mod RangedBack
 pub mod CallLemmas
 pub mod TotalsRead

@@ -1,6 +1,6 @@
 -- What a reader asks, and which answers are right.
-use Rattle.std.specs.Prelude.{ℕ, ◌≡◌, nat_lt, List, [], take, drop, Result, Ok, Err, Option, Some, None, MatchOption}
-use Rattle.std.specs.Option.{option_map, option_or}
+use Rattle.std.specs.Prelude.{ℕ, ◌≡◌, nat_lt, List, [], take, drop, Result, Ok, Err, Option, Some, None, MatchOption, unwrap_or}
+use Rattle.std.specs.Option.{option_copied, option_map, option_or}
 use Rattle.std.specs.FinMap.{get}
 use Rattle.mt_types.specs.Rows.{shown}
 use Rattle.mt_types.specs.Limits.{request_fault, page_fault, refused_if}
@@ -18,8 +18,9 @@ use Rattle.mt_view.specs.State.{StateView}
 use Rattle.mt_view.specs.Views.{state_at}
 use Rattle.mt_index.specs.Stands.{MachineView, Stands, ReadsView}
 use Rattle.mt_index.specs.Feed.{feed_fault}
+use Rattle.mt_reads.specs.Ranges.{IsRangeBack}
 use Rattle.rowanspan_c.specs.declared.reading.Question.{Question}
-use Rattle.rowanspan_c.specs.declared.reading.Question.TheVariants.{Rows, Page, Deltas}
+use Rattle.rowanspan_c.specs.declared.reading.Question.TheVariants.{Rows, RowsBack, Page, Deltas}
 use Rattle.rowanspan_c.specs.Spelling.{row_spelling, pairs_spelling, totals_spelling, page_spelling, deltas_spelling}
 
 -- THE CAUSE OF A REFUSAL: the fault if there is one, and out of memory only if there is none
@@ -47,6 +48,11 @@ abbrev pub ArePlainRows : MachineView → List ℕ → ℕ → List ℕ → List
 ArePlainRows s start limit asked pairs = (h : History) → Stands s h
     → IsRangeOfMap (rows s.columns (moment h)) asked start limit pairs
 
+-- the last pairs of that map before a bound
+abbrev pub ArePlainRowsBack : MachineView → Option (List ℕ) → ℕ → List ℕ → List (List ℕ × RowValue) → Type 0
+ArePlainRowsBack s before limit asked pairs = (h : History) → Stands s h
+    → IsRangeBack (rows s.columns (moment h)) asked before limit pairs
+
 -- the deltas of its commits after a number
 abbrev pub AreDeltas : MachineView → ℕ → ℕ → List Delta → Type 0
 AreDeltas s from limit deltas = (h : History) → Stands s h
@@ -65,6 +71,16 @@ ReadsRows s start limit asked (Ok bytes) =
     (pairs : List (List ℕ × RowValue)) × ArePlainRows s start limit asked pairs
     × (bytes ≡ Some (pairs_spelling pairs)) × (request_fault s.columns (Range start limit asked) ≡ None)
 ReadsRows s start limit asked (Err refusal) = IsCausedBy (request_fault s.columns (Range start limit asked)) refusal
+
+-- why a range back is refused: for the first limit that it breaks
+abbrev pub back_refusal : MachineView → Option (List ℕ) → ℕ → List ℕ → Option Refusal
+back_refusal s before limit asked = request_fault s.columns (Range (unwrap_or before []) limit asked)
+
+abbrev pub ReadsRowsBack : MachineView → Option (List ℕ) → ℕ → List ℕ → Result (Option (List ℕ)) Refusal → Type 0
+ReadsRowsBack s before limit asked (Ok bytes) =
+    (pairs : List (List ℕ × RowValue)) × ArePlainRowsBack s before limit asked pairs
+    × (bytes ≡ Some (pairs_spelling pairs)) × (back_refusal s before limit asked ≡ None)
+ReadsRowsBack s before limit asked (Err refusal) = IsCausedBy (back_refusal s before limit asked) refusal
 
 abbrev pub ReadsPage : MachineView → ℕ → ℕ → List ℕ → ℕ → Result (Option (List ℕ)) Refusal → Type 0
 ReadsPage s view floor start limit (Ok bytes) =
@@ -86,5 +102,6 @@ ReadsDeltas s from limit (Err refusal) = IsCausedBy (feed_fault s.log from limit
 -- WHAT A QUESTION IS ANSWERED
 abbrev pub IsAnswer : MachineView → Question → Result (Option (List ℕ)) Refusal → Type 0
 IsAnswer s (Rows start limit columns) read = ReadsRows s start.now limit columns.now read
+IsAnswer s (RowsBack before limit columns) read = ReadsRowsBack s (option_copied before) limit columns.now read
 IsAnswer s (Page view floor start limit) read = ReadsPage s view.0 floor start.now limit read
 IsAnswer s (Deltas from limit) read = ReadsDeltas s from limit read

@@ -9,7 +9,8 @@ ghost use Rattle.mt_types.specs.declared.event.Event.TheVariants.{Advance, Colle
 ghost use Rattle.mt_commit.specs.Log.{newest};
 ghost use Rattle.mt_arena.specs.Node.{occupied};
 ghost use Rattle.mt_asked.specs.Borrowed.{sets_of};
-ghost use Rattle.rowanspan_c.specs.Questions.{ReadsRow, ReadsRows, ReadsDeltas};
+ghost use Rattle.mt_reads.specs.Back.{bound_of};
+ghost use Rattle.rowanspan_c.specs.Questions.{ReadsRow, ReadsRows, ReadsRowsBack, ReadsDeltas};
 ghost use Rattle.rowanspan_c.specs.Calls.{Opens, Changes, Reads, Meets, Counts, close_status};
 
 use crate::changing::{answer, change, meet};
@@ -165,6 +166,36 @@ pub extern "C" fn rowanspan_raw_range(
         alloc,
         &Question::Rows {
             start,
+            limit,
+            columns,
+        },
+        into,
+        told,
+    )
+}
+
+/// Gets the last rows whose keys are before a key, or the last of all if `bounded` is false, the greatest key first.
+#[unsafe(no_mangle)]
+pub extern "C" fn rowanspan_raw_range_back(
+    handle: &mut Handle,
+    alloc: Global,
+    bounded: bool,
+    before: &[u8],
+    limit: u16,
+    columns: &[u8],
+    into: &mut [u8],
+    told: &mut u64,
+) -> u16
+    ensures rows { Reads handle.old.held (λ index. ReadsRowsBack index.machine (bound_of bounded before.now)
+        limit columns.now) into.old into.new result told.new }
+    ensures kept { handle.new.held ≡ handle.old.held }
+{
+    let before = if bounded { Some(before) } else { None };
+    answer(
+        handle,
+        alloc,
+        &Question::RowsBack {
+            before,
             limit,
             columns,
         },

@@ -2,15 +2,16 @@
 
 ghost use Rattle.std.specs.Prelude.{◌≡◌, ◌≤◌, ◌++◌, ℕ, List, OnOk, IfOk, length, drop, false};
 ghost use Rattle.std.specs.List.{flat_map};
+ghost use Rattle.std.specs.Option.{option_copied};
 ghost use Rattle.mt_types.specs.Rows.{shown};
 ghost use Rattle.mt_types.specs.declared.row.Row.{Row as RowValue};
-ghost use Rattle.rowanspan_c.specs.Questions.{ArePlainRows};
+ghost use Rattle.rowanspan_c.specs.Questions.{ArePlainRows, ArePlainRowsBack};
 ghost use Rattle.rowanspan_c.specs.Spelling.{number_spelling, bytes_spelling, row_spelling, pair_spelling, pairs_spelling};
 
 use crate::placing::NUMBER_BYTES;
 use crate::spelling::{bytes, columns, number};
 use mt_map::map::Map;
-use mt_reads::Rows;
+use mt_reads::{Rows, RowsBack};
 use mt_types::items::Items;
 use mt_types::refusal::NoMemory;
 use mt_types::row::Row;
@@ -62,6 +63,39 @@ fn pairs(
     Ok(limit)
 }
 
+// A walk back from a bound that is not too long, or from the end.
+fn walk_back_from<'m>(index: &'m Map, before: Option<&[u8]>) -> Result<RowsBack<'m>, NoMemory>
+    ensures machine { IfOk result (λ walk. walk.machine ≡ index.now.machine) }
+    ensures before { IfOk result (λ walk. walk.before ≡ option_copied before.entry) }
+{
+    match index.walk_back(before) {
+        Ok(walk) => Ok(walk),
+        Err(_) => Err(NoMemory),
+    }
+}
+
+// Writes the last rows whose keys are before a bound, at most `limit`, and returns how many there are.
+fn pairs_back(
+    index: &Map,
+    before: Option<&[u8]>,
+    limit: u16,
+    asked: &[u8],
+    out: &mut Vec<u8>,
+) -> Result<u16, NoMemory>
+    ensures { IfOk result (λ many. (pairs : List (List ℕ × RowValue))
+        × ArePlainRowsBack index.now.machine (option_copied before.entry) limit asked.now pairs × (length pairs ≡ many)
+        × (out.new.items ≡ out.old.items ++ flat_map pair_spelling pairs)) }
+{
+    let mut walk = walk_back_from(index, before)?;
+    for many in 0..limit {
+        let Some(row) = walk.next()? else {
+            return Ok(many);
+        };
+        pair(out, walk.key(), row, asked)?;
+    }
+    Ok(limit)
+}
+
 // Writes a number over the first bytes.
 fn put_number(out: &mut Vec<u8>, number: u64)
     requires { NUMBER_BYTES ≤ length out.old.items }
@@ -95,6 +129,33 @@ pub(crate) fn range_bytes(
     // How many rows there are is known at their end.
     number(&mut out, 0)?;
     let many = pairs(index, start, limit, asked, &mut out)?;
+    put_number(&mut out, u64::from(many));
+    Ok(Items::from_vec(out))
+}
+
+/// Returns the bytes of the last rows whose keys are before a bound, or of the last of all, the greatest key first, at
+/// most `limit`, with the columns that are asked for, or with all if none is asked for.
+///
+/// Costs what the steps of a `RowsBack` cost. Allocates for them, and for the bytes as [`range_bytes`] does.
+///
+/// # Errors
+///
+/// `NoMemory` if an allocation is refused, or if the bound is too long, for which its caller tests.
+pub(crate) fn range_back_bytes(
+    alloc: Global,
+    index: &Map,
+    before: Option<&[u8]>,
+    limit: u16,
+    asked: &[u8],
+    room: usize,
+) -> Result<Items<u8>, NoMemory>
+    ensures { IfOk result (λ bytes. (pairs : List (List ℕ × RowValue))
+        × ArePlainRowsBack index.now.machine (option_copied before.entry) limit asked.now pairs
+        × (bytes ≡ pairs_spelling pairs)) }
+{
+    let mut out = Vec::with_capacity(alloc, room.min(MOST_ROOM))?;
+    number(&mut out, 0)?;
+    let many = pairs_back(index, before, limit, asked, &mut out)?;
     put_number(&mut out, u64::from(many));
     Ok(Items::from_vec(out))
 }

@@ -1,15 +1,16 @@
 //! Questions to an index that change nothing, answered in bytes. Limits are checked before bytes are copied.
 
 ghost use Rattle.std.specs.Prelude.{◌≡◌, ℕ, List, Option, Result, MatchResult, OnOk, None};
+ghost use Rattle.std.specs.Option.{option_copied};
 ghost use Rattle.mt_types.specs.Limits.{request_fault};
 ghost use Rattle.mt_types.specs.declared.event.Request.TheVariants.{Get};
 ghost use Rattle.mt_types.specs.declared.event.Outcome.TheVariants.{View};
 ghost use Rattle.mt_index.specs.Stands.{ReadsView};
-ghost use Rattle.rowanspan_c.specs.Questions.{IsAnswer, IsCausedBy, ReadsRow, ReadsRows, ReadsPage, ReadsDeltas, page_refusal};
+ghost use Rattle.rowanspan_c.specs.Questions.{IsAnswer, IsCausedBy, ReadsRow, ReadsRows, ReadsRowsBack, ReadsPage, ReadsDeltas, page_refusal};
 ghost use Rattle.rowanspan_c.specs.Told.{TellsRead};
 
 use crate::handing::{tell_absent, tell_refusal, tell_row};
-use crate::ranging::range_bytes;
+use crate::ranging::{range_back_bytes, range_bytes};
 use crate::spelling::{bytes_of, list_bytes_of};
 use mt_asked::limits::{get_fault, range_fault};
 use mt_map::map::Map;
@@ -26,6 +27,13 @@ pub(crate) enum Question<'a> {
     /// asked for.
     Rows {
         start: &'a [u8],
+        limit: u16,
+        columns: &'a [u8],
+    },
+    /// The last rows whose keys are before a bound, or the last of all, with the columns that are asked for, or with all
+    /// if none is asked for.
+    RowsBack {
+        before: Option<&'a [u8]>,
         limit: u16,
         columns: &'a [u8],
     },
@@ -87,6 +95,24 @@ fn rows(
     Ok(Some(bytes))
 }
 
+fn rows_back(
+    alloc: Global,
+    index: &Map,
+    before: Option<&[u8]>,
+    limit: u16,
+    columns: &[u8],
+    room: usize,
+) -> Result<Option<Items<u8>>, Refusal>
+    ensures { ReadsRowsBack index.now.machine (option_copied before.entry) limit columns.now result }
+{
+    let key = before.unwrap_or(b"");
+    if let Some(refusal) = range_fault(index.columns(), key, limit, columns) {
+        return Err(refusal);
+    }
+    let bytes = range_back_bytes(alloc, index, before, limit, columns, room)?;
+    Ok(Some(bytes))
+}
+
 fn page_from(
     index: &Map,
     view: ViewNo,
@@ -142,6 +168,11 @@ pub(crate) fn read(
             limit,
             columns,
         } => rows(alloc, index, start, *limit, columns, room),
+        Question::RowsBack {
+            before,
+            limit,
+            columns,
+        } => rows_back(alloc, index, *before, *limit, columns, room),
         Question::Page {
             view,
             floor,
