@@ -3,6 +3,8 @@
 #![tactic(auto)]
 
 #[cfg(test)]
+mod backwards;
+#[cfg(test)]
 mod builds;
 #[cfg(test)]
 mod commits;

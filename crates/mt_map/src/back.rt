@@ -3,22 +3,24 @@
 ghost use Rattle.std.specs.Prelude.{◌≡◌, ◌<◌, ◌↔◌, IfErr, IfOk, IfSome, IsErr, IsTrue, None, MatchOption, OnSome, Err, [], unwrap_or};
 ghost use Rattle.std.specs.Option.{option_copied};
 ghost use Rattle.std.specs.Range.Bound.{bound_map};
-ghost use Rattle.mt_types.specs.Limits.{key_fault};
+ghost use Rattle.mt_types.specs.Limits.{key_fault, request_fault};
+ghost use Rattle.mt_types.specs.declared.event.Request.TheVariants as Request;
 ghost use Rattle.mt_promise.specs.History.{History, moment, rows};
 ghost use Rattle.mt_index.specs.Stands.{Stands};
 ghost use Rattle.mt_asked.specs.Bounds.{start_key};
 ghost use Rattle.mt_reads.specs.Back.{keys_before};
-ghost use Rattle.mt_reads.specs.Ranges.{IsLast};
+ghost use Rattle.mt_reads.specs.Ranges.{IsLast, IsRangeBack};
 ghost use Rattle.mt_map.specs.Bounded.{BeginsUpTo, GivesWithinBack};
 
 use crate::map::Map;
+use mt_asked::asked::numbers_of;
 use mt_asked::bounds::{Bounds, is_from, start_key};
-use mt_asked::limits::key_fault;
+use mt_asked::limits::{key_fault, range_fault};
 pub use mt_reads::RowsBack;
-use mt_reads::last_of;
+use mt_reads::{last_of, range_back};
 use mt_types::key::Key;
 use mt_types::refusal::{NoMemory, Refusal};
-use mt_types::row::Row;
+use mt_types::row::{Pairs, Row};
 use std::ops::Bound;
 
 /// A walk as [`RowsBack`] is one, that ends at a lower bound, with which each key is compared.
@@ -104,6 +106,40 @@ impl Map {
         }
         match RowsBack::of(self.alloc, &self.machine, before) {
             Ok(walk) => Ok(walk),
+            Err(_) => Err(Refusal::NoMemory),
+        }
+    }
+
+    /// Returns the last rows whose keys are before `before`, or the last of all, at most `limit`, the greatest key first,
+    /// each with the columns that are asked for, or with all if none is asked for.
+    ///
+    ///     let pairs = map.pairs_back(None, 10, &[])?;
+    ///     println!(rt; "{} rows", pairs.len())?;
+    ///
+    /// Costs what the steps of a [`RowsBack`] cost. Allocates as [`Map::pairs`] does.
+    ///
+    /// # Errors
+    ///
+    /// Those of [`Map::pairs`], with `before` in the place of `start`.
+    pub fn pairs_back(
+        &self,
+        before: Option<&[u8]>,
+        limit: u16,
+        columns: &[u8],
+    ) -> Result<Pairs, Refusal>
+        ensures pairs { IfOk result (λ pairs. (h : History) → Stands self.now.machine h
+            → IsRangeBack (rows self.now.machine.columns (moment h)) columns.now (option_copied before.entry) limit pairs) }
+        ensures fault { MatchOption (request_fault self.now.machine.columns
+            (Request.Range (unwrap_or (option_copied before.entry) []) limit columns.now))
+            (IfErr result (λ refusal. refusal ≡ Refusal.NoMemory)) (λ refusal. result ≡ Err refusal) }
+    {
+        let key = before.unwrap_or(b"");
+        if let Some(refusal) = range_fault(self.columns(), key, limit, columns) {
+            return Err(refusal);
+        }
+        let columns = numbers_of(self.alloc, columns)?;
+        match range_back(self.alloc, &self.machine, before, limit, &columns) {
+            Ok(pairs) => Ok(pairs),
             Err(_) => Err(Refusal::NoMemory),
         }
     }

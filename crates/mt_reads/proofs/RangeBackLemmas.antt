@@ -8,7 +8,7 @@ use Rattle.mt_types.specs.declared.limits.TheConstants.{MAX_KEY_BYTES}
 use Rattle.mt_types.specs.declared.row.Row.{Row}
 use Rattle.mt_promise.specs.History.{History, moment, rows}
 use Rattle.mt_index.specs.Stands.{MachineView, Stands}
-use Rattle.mt_reads.specs.Back.{BackView, IsBefore, IsPrevious, GivesPrevious}
+use Rattle.mt_reads.specs.Back.{BackView, IsPrevious, GivesPrevious}
 use Rattle.mt_reads.specs.Ranges.{IsNoneBefore, IsRangeBack, IsLast}
 
 abbrev Shown : Type 0

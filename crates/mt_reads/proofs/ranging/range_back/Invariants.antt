@@ -1,4 +1,3 @@
-use Rattle.std.proofs.Common.{◌≡◌, false}
 use Rattle.std.specs.Option.{option_copied}
 use Rattle.mt_walk.specs.Gathered.{AreKeys, pairs_of}
 use Rattle.mt_reads.proofs.RangeBackLemmas.{IsReturning}

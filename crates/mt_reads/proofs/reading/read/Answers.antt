@@ -1,8 +1,6 @@
-use Rattle.std.proofs.Common.{◌≡◌, ℕ, List, length, rules, arith, ◌++◌, ◌∷◌, [], ap, subst, sym, ◌∙◌, true, false}
+use Rattle.std.proofs.Common.{◌≡◌, ℕ, length, rules, arith, ◌++◌, ◌∷◌, [], ap, subst, sym, ◌∙◌, true, false}
 use Rattle.std.proofs.lemmas.Bool.{false≢true}
-use Rattle.std.specs.Borrow.{Bor}
 use Rattle.std.specs.Option.{option_copied}
-use Rattle.mt_types.specs.declared.row.Row.{Row}
 use Rattle.mt_promise.specs.History.{History, moment, rows}
 use Rattle.mt_index.specs.Stands.{Stands}
 use Rattle.mt_reads.specs.Walks.{GivesNext}

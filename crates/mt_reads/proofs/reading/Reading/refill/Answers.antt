@@ -1,4 +1,4 @@
-use Rattle.std.proofs.Common.{◌≡◌, List, ℕ, subst, sym, ap, ◌∙◌}
+use Rattle.std.proofs.Common.{List, ℕ, subst, sym}
 use Rattle.std.specs.Prelude.{Option, Some}
 use Rattle.mt_steps.specs.Lone.{IsLoneTree}
 use Rattle.mt_index.proofs.QuietStands.{quiet_tree}
