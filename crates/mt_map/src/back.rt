@@ -3,21 +3,19 @@
 ghost use Rattle.std.specs.Prelude.{◌≡◌, ◌<◌, ◌↔◌, IfErr, IfOk, IfSome, IsErr, IsTrue, None, MatchOption, OnSome, Err, [], unwrap_or};
 ghost use Rattle.std.specs.Option.{option_copied};
 ghost use Rattle.std.specs.Range.Bound.{bound_map};
-ghost use Rattle.mt_types.specs.Limits.{key_fault, request_fault};
-ghost use Rattle.mt_types.specs.declared.event.Request.TheVariants as Request;
+ghost use Rattle.mt_types.specs.Limits.{key_fault};
 ghost use Rattle.mt_promise.specs.History.{History, moment, rows};
 ghost use Rattle.mt_index.specs.Stands.{Stands};
 ghost use Rattle.mt_asked.specs.Bounds.{start_key};
 ghost use Rattle.mt_reads.specs.Back.{keys_before};
-ghost use Rattle.mt_reads.specs.Ranges.{IsLast, IsRangeBack};
+ghost use Rattle.mt_reads.specs.Ranges.{IsLast, IsRangeBack, back_fault};
 ghost use Rattle.mt_map.specs.Bounded.{BeginsUpTo, GivesWithinBack};
 
 use crate::map::Map;
-use mt_asked::asked::numbers_of;
 use mt_asked::bounds::{Bounds, is_from, start_key};
-use mt_asked::limits::{key_fault, range_fault};
+use mt_asked::limits::key_fault;
 pub use mt_reads::RowsBack;
-use mt_reads::{last_of, range_back};
+use mt_reads::{last_of, pairs_back};
 use mt_types::key::Key;
 use mt_types::refusal::{NoMemory, Refusal};
 use mt_types::row::{Pairs, Row};
@@ -129,19 +127,10 @@ impl Map {
     ) -> Result<Pairs, Refusal>
         ensures pairs { IfOk result (λ pairs. (h : History) → Stands self.now.machine h
             → IsRangeBack (rows self.now.machine.columns (moment h)) columns.now (option_copied before.entry) limit pairs) }
-        ensures fault { MatchOption (request_fault self.now.machine.columns
-            (Request.Range (unwrap_or (option_copied before.entry) []) limit columns.now))
+        ensures fault { MatchOption (back_fault self.now.machine.columns (option_copied before.entry) limit columns.now)
             (IfErr result (λ refusal. refusal ≡ Refusal.NoMemory)) (λ refusal. result ≡ Err refusal) }
     {
-        let key = before.unwrap_or(b"");
-        if let Some(refusal) = range_fault(self.columns(), key, limit, columns) {
-            return Err(refusal);
-        }
-        let columns = numbers_of(self.alloc, columns)?;
-        match range_back(self.alloc, &self.machine, before, limit, &columns) {
-            Ok(pairs) => Ok(pairs),
-            Err(_) => Err(Refusal::NoMemory),
-        }
+        pairs_back(self.alloc, &self.machine, before, limit, columns)
     }
 
     /// Returns the last key, or `None` if there are no rows.

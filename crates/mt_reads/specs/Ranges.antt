@@ -1,7 +1,10 @@
 -- A range against the order of keys, for its user.
-use Rattle.std.specs.Prelude.{ℕ, ◌≡◌, ◌≤◌, ◌-◌, ◌⊎◌, List, [], ◌∷◌, Option, Some, None, IsSome, false}
+use Rattle.std.specs.Prelude.{ℕ, ◌≡◌, ◌≤◌, ◌-◌, ◌⊎◌, List, [], ◌∷◌, Option, Some, None, IsSome, unwrap_or, false}
 use Rattle.std.specs.FinMap.{get}
+use Rattle.mt_types.specs.Limits.{request_fault}
 use Rattle.mt_types.specs.Rows.{Rows, shown}
+use Rattle.mt_types.specs.declared.event.Request.TheVariants.{Range}
+use Rattle.mt_types.specs.declared.refusal.Refusal.{Refusal}
 use Rattle.mt_types.specs.declared.row.Row.{Row}
 use Rattle.mt_reads.specs.Walks.{IsAfter}
 use Rattle.mt_reads.specs.Back.{IsBefore, IsPrevious}
@@ -23,3 +26,7 @@ abbrev pub IsLast : Rows → Option (List ℕ) → Type 0
 IsLast map (Some last) =
     IsSome (get map last) × ((key : List ℕ) (row : Row) → get map key ≡ Some row → IsAfter key false last)
 IsLast map None = (key : List ℕ) → get map key ≡ None
+
+-- WHY A RANGE BACK IS REFUSED: for the first limit that it breaks, as a range from the bound's key on
+abbrev pub back_fault : ℕ → Option (List ℕ) → ℕ → List ℕ → Option Refusal
+back_fault columns before limit asked = request_fault columns (Range (unwrap_or before []) limit asked)

@@ -8,5 +8,5 @@ mod reading;
 pub mod rows;
 
 pub use back::RowsBack;
-pub use ranging::{last_of, range_back};
+pub use ranging::{last_of, pairs_back, range_back};
 pub use rows::{Rows, first_of, key_of};

@@ -1,18 +1,20 @@
 //! The last key, and a range against the order of keys: a walk back with a limit.
 
-ghost use Rattle.std.specs.Prelude.{◌≤◌, ◌+◌, IfOk, IfSome, length};
+ghost use Rattle.std.specs.Prelude.{◌≡◌, ◌≤◌, ◌+◌, IfErr, IfOk, IfSome, MatchOption, Err, length};
 ghost use Rattle.std.specs.Option.{option_copied};
 ghost use Rattle.mt_types.specs.declared.limits.TheConstants.{MAX_KEY_BYTES};
 ghost use Rattle.mt_promise.specs.History.{History, moment, rows};
 ghost use Rattle.mt_index.specs.Alone.{IsQuiet};
 ghost use Rattle.mt_index.specs.Stands.{Stands};
-ghost use Rattle.mt_reads.specs.Ranges.{IsLast, IsRangeBack};
+ghost use Rattle.mt_reads.specs.Ranges.{IsLast, IsRangeBack, back_fault};
 
 use crate::back::RowsBack;
 use crate::rows::key_of;
+use mt_asked::asked::numbers_of;
+use mt_asked::limits::range_fault;
 use mt_index::machine::Machine;
 use mt_types::key::Key;
-use mt_types::refusal::NoMemory;
+use mt_types::refusal::{NoMemory, Refusal};
 use mt_types::row::{ColumnNumbers, Pairs};
 use mt_walk::pairs_of;
 use std::alloc::Global;
@@ -77,4 +79,35 @@ pub fn range_back(
         rows.push((keys.len(), row))?;
     }
     pairs_of(alloc, keys, rows.as_slice(), columns)
+}
+
+/// Returns what [`range_back`] returns, for columns in borrowed bytes, after the limits are tested.
+///
+/// # Errors
+///
+/// `KeyTooLong` if `before` has more than `MAX_KEY_BYTES` bytes; `BadColumn` if a column does not exist or is named twice;
+/// `BadLimit` if `limit` is 0 or more than `MAX_RANGE`; `NoMemory` if an allocation is refused. The first of these that
+/// applies.
+pub fn pairs_back(
+    alloc: Global,
+    machine: &Machine,
+    before: Option<&[u8]>,
+    limit: u16,
+    columns: &[u8],
+) -> Result<Pairs, Refusal>
+    requires quiet { IsQuiet machine.now }
+    ensures pairs { IfOk result (λ pairs. (h : History) → Stands machine.now h
+        → IsRangeBack (rows machine.now.columns (moment h)) columns.now (option_copied before.entry) limit pairs) }
+    ensures fault { MatchOption (back_fault machine.now.columns (option_copied before.entry) limit columns.now)
+        (IfErr result (λ refusal. refusal ≡ Refusal.NoMemory)) (λ refusal. result ≡ Err refusal) }
+{
+    let key = before.unwrap_or(b"");
+    if let Some(refusal) = range_fault(machine.columns(), key, limit, columns) {
+        return Err(refusal);
+    }
+    let columns = numbers_of(alloc, columns)?;
+    match range_back(alloc, machine, before, limit, &columns) {
+        Ok(pairs) => Ok(pairs),
+        Err(_) => Err(Refusal::NoMemory),
+    }
 }

@@ -6,6 +6,7 @@ pub mod Inner
 pub mod Drives
 pub mod Turns
 pub mod Feeds
+pub mod Backs
 pub mod Reads
 pub mod Inside
 pub mod Changes

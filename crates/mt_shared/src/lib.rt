@@ -4,6 +4,7 @@
 
 pub mod answers;
 pub mod asking;
+mod backs;
 pub mod changing;
 pub mod client;
 pub mod counters;

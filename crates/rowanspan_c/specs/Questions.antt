@@ -1,5 +1,5 @@
 -- What a reader asks, and which answers are right.
-use Rattle.std.specs.Prelude.{ℕ, ◌≡◌, nat_lt, List, [], take, drop, Result, Ok, Err, Option, Some, None, MatchOption, unwrap_or}
+use Rattle.std.specs.Prelude.{ℕ, ◌≡◌, nat_lt, List, [], take, drop, Result, Ok, Err, Option, Some, None, MatchOption}
 use Rattle.std.specs.Option.{option_copied, option_map, option_or}
 use Rattle.std.specs.FinMap.{get}
 use Rattle.mt_types.specs.Rows.{shown}
@@ -18,7 +18,7 @@ use Rattle.mt_view.specs.State.{StateView}
 use Rattle.mt_view.specs.Views.{state_at}
 use Rattle.mt_index.specs.Stands.{MachineView, Stands, ReadsView}
 use Rattle.mt_index.specs.Feed.{feed_fault}
-use Rattle.mt_reads.specs.Ranges.{IsRangeBack}
+use Rattle.mt_reads.specs.Ranges.{IsRangeBack, back_fault}
 use Rattle.rowanspan_c.specs.declared.reading.Question.{Question}
 use Rattle.rowanspan_c.specs.declared.reading.Question.TheVariants.{Rows, RowsBack, Page, Deltas}
 use Rattle.rowanspan_c.specs.Spelling.{row_spelling, pairs_spelling, totals_spelling, page_spelling, deltas_spelling}
@@ -72,15 +72,11 @@ ReadsRows s start limit asked (Ok bytes) =
     × (bytes ≡ Some (pairs_spelling pairs)) × (request_fault s.columns (Range start limit asked) ≡ None)
 ReadsRows s start limit asked (Err refusal) = IsCausedBy (request_fault s.columns (Range start limit asked)) refusal
 
--- why a range back is refused: for the first limit that it breaks
-abbrev pub back_refusal : MachineView → Option (List ℕ) → ℕ → List ℕ → Option Refusal
-back_refusal s before limit asked = request_fault s.columns (Range (unwrap_or before []) limit asked)
-
 abbrev pub ReadsRowsBack : MachineView → Option (List ℕ) → ℕ → List ℕ → Result (Option (List ℕ)) Refusal → Type 0
 ReadsRowsBack s before limit asked (Ok bytes) =
     (pairs : List (List ℕ × RowValue)) × ArePlainRowsBack s before limit asked pairs
-    × (bytes ≡ Some (pairs_spelling pairs)) × (back_refusal s before limit asked ≡ None)
-ReadsRowsBack s before limit asked (Err refusal) = IsCausedBy (back_refusal s before limit asked) refusal
+    × (bytes ≡ Some (pairs_spelling pairs)) × (back_fault s.columns before limit asked ≡ None)
+ReadsRowsBack s before limit asked (Err refusal) = IsCausedBy (back_fault s.columns before limit asked) refusal
 
 abbrev pub ReadsPage : MachineView → ℕ → ℕ → List ℕ → ℕ → Result (Option (List ℕ)) Refusal → Type 0
 ReadsPage s view floor start limit (Ok bytes) =
