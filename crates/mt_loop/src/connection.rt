@@ -1,8 +1,10 @@
 //! One connection: its stream, and its session.
 
+use crate::desk::Arrival;
 use crate::fault::ConnectionFault;
 use crate::limits::{Limits, is_over};
 use crate::parking::Parked;
+use crate::report::{Origin, Report};
 use crate::stream::Stream;
 use crate::weight::{TURN, only_reads, server_query, weight_of};
 use mt_serve::answerer::Answerer;
@@ -35,6 +37,10 @@ pub enum Front {
 #[derive(Drop)]
 pub struct Connection {
     pub stream: Stream,
+    /// Which connection it is.
+    pub origin: Origin,
+    /// How many queries it was answered.
+    pub queries: u64,
     pub(crate) talk: Talk,
     /// What the frame at the front asks for, as `find` has found.
     pub front: Front,
@@ -76,9 +82,12 @@ pub struct Connection {
 
 impl Connection {
     /// Returns a connection that was accepted at this time, whose client may do what `role` says.
-    pub fn new(alloc: Global, stream: Stream, now: u64, role: Option<Role>) -> Connection {
+    pub fn new(alloc: Global, arrival: Arrival, now: u64, role: Option<Role>) -> Connection {
+        let Arrival { stream, origin } = arrival;
         Connection {
             stream,
+            origin,
+            queries: 0,
             talk: Talk::new(alloc),
             front: Front::Nothing,
             is_listed: false,
@@ -311,9 +320,14 @@ impl Connection {
             && (self.fault.is_some() || self.has_ended && self.talk.is_between_frames())
     }
 
-    /// Returns why its session was broken off, if it was.
-    pub fn fault(&self) -> Option<ConnectionFault> {
-        self.fault
+    /// Returns what is said of its end, if its session was broken off.
+    pub fn broken_off(&self) -> Option<Report<'static>> {
+        let fault = self.fault?;
+        Some(Report::Ended {
+            origin: self.origin,
+            fault,
+            queries: self.queries,
+        })
     }
 
     /// Returns whether bytes are to go.

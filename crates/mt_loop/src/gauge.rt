@@ -7,6 +7,7 @@ ghost use Rattle.mt_loop.specs.Listing.{listed, ListsSomewhere};
 use crate::desk::Desk;
 use crate::durability::{DiskState, Durability};
 use crate::parking::{DURABLE, Parking};
+use crate::reporting::Reporter;
 use mt_shared::door::Door;
 use mt_shared::map::SharedMap;
 use mt_shared::moment::Moment;
@@ -51,9 +52,10 @@ impl Tally {
         }
     }
 
-    /// Counts a connection that was accepted.
-    pub fn accept(&self) {
-        self.accepted.fetch_add(1, Ordering::Relaxed);
+    /// Counts a connection that was accepted, and returns its number, from 1 on.
+    pub fn accept(&self) -> u64 {
+        let earlier = self.accepted.fetch_add(1, Ordering::Relaxed);
+        (earlier as u64).saturating_add(1)
     }
 
     /// Counts a connection that was one too many.
@@ -86,6 +88,8 @@ pub struct Gauge<'a, R> {
     pub index: &'a SharedMap,
     pub desks: &'a [Desk],
     pub tally: &'a Tally,
+    /// What writes what is said of the server.
+    pub reporter: &'a Reporter,
     pub start: Instant,
     /// What is known of the log, if commits go to one.
     pub durability: Option<&'a Durability>,

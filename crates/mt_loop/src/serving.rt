@@ -7,6 +7,7 @@ use crate::durability::Durability;
 use crate::gauge::{Gauge, Tally};
 use crate::limits::Limits;
 use crate::logging::{Log, keep_log};
+use crate::reporting::Reporter;
 use crate::stop::Stop;
 use crate::worker::{Worker, work};
 use mio::Poll;
@@ -64,8 +65,8 @@ fn accept<R: Wait + Clock + Eprint>(
     addresses: &[Address<'_>],
     stop: &Stop,
 ) -> io::Result<()> {
-    acceptor.say(gauge.rt, addresses)?;
-    acceptor.run(gauge.rt, gauge.desks, stop, gauge.tally)
+    acceptor.say(gauge, addresses)?;
+    acceptor.run(gauge, stop)
 }
 
 // A desk and a worker for each pass.
@@ -232,6 +233,7 @@ pub fn serve<'s, R, D>(
     access: Access<'s>,
     plan: Plan,
     log: Option<Log<D>>,
+    reporter: &'s Reporter,
 ) -> io::Result<Ended>
 where
     R: Net + Files + Threads + Wait + Clock + RandomSource + Sync + Eprint,
@@ -253,10 +255,12 @@ where
         index,
         desks: &desks,
         tally: &tally,
+        reporter,
         start: Instant::now(rt)?,
         durability,
     };
     let ended = run_logged(alloc, &gauge, &mut acceptor, addresses, workers, log);
     remove_sockets(rt, addresses);
+    reporter.finish(rt);
     ended
 }
