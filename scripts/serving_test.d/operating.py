@@ -1,4 +1,4 @@
-"""Cases of what an operator sees of a server, over a build of mtserve: the lines of `--log pairs`.
+"""Cases of what an operator sees of a server, over a build of mtserve: the lines of `--log pairs`, and wrong secrets.
 
 `CASES` are functions of a `Start`, which runs a server with these words, without `--sessions`. Each raises what is wrong.
 """
@@ -6,18 +6,22 @@ from __future__ import annotations
 
 import datetime
 import re
+import select
 import shlex
 import socket
 import subprocess
+import tempfile
 import time
+from pathlib import Path
 from typing import Any, Callable, ContextManager, Dict, List, Tuple
 
-from rowanspan import Client
+from rowanspan import Client, Hello, receive_body, request_frame
 
 SECONDS = 60.0
 # as many lines of a kind are written in a second at most
 MOST = 10
 BAD_FRAME = b"\0\0\0\x02\x01\x00"
+READER, OWNER = b"reader-0123456789", b"owner-0123456789a"
 
 # runs a server with these words; what it gives has a port, `next_line`, `rest_of_lines`, `ended` and `process`
 Start = Callable[..., ContextManager[Any]]
@@ -159,5 +163,39 @@ def standard_error_that_fails(start: Start) -> None:
                 process.kill()
 
 
+# ---- wrong secrets
+
+def wrong_secrets(start: Start) -> None:
+    """A hello with a wrong secret is answered a second later, also by a client that was admitted, and the connection ends
+    then; another client isn't delayed."""
+    with tempfile.TemporaryDirectory() as folder:
+        path = Path(folder, "tokens")
+        path.write_bytes(b"read " + READER + b"\nall " + OWNER + b"\n")
+        with start("--log", "pairs", "--workers", "1", "--token-file", str(path)) as server:
+            next_read(server, "listening", "info")
+            with Client(server.port, timeout=SECONDS, token=OWNER) as index:
+                for number, first in enumerate((b"", Hello(READER).spelled())):
+                    with socket.create_connection(("127.0.0.1", server.port), SECONDS) as guess:
+                        if first:
+                            guess.sendall(request_frame([first], 3))
+                            receive_body(guess)
+                        began = time.monotonic()
+                        guess.sendall(request_frame([Hello(b"a wrong secret..").spelled()], 3) * 5)
+                        said = next_read(server, "wrong_secret", "warn")
+                        want_same("how many there were", said["wrong_secrets"], str(number + 1))
+                        meanwhile = 0
+                        while not select.select([guess], [], [], 0)[0]:
+                            index.put(b"a", b"v")
+                            meanwhile += 1
+                        want(time.monotonic() - began >= 0.9, "a wrong secret is answered too early")
+                        want(meanwhile > 10, f"another client was answered {meanwhile} times meanwhile")
+                        receive_body(guess)
+                        want_same("what comes after one refusal", guess.recv(1), b"")
+                    ended = next_read(server, "ended", "warn")
+                    want_same("its end", (ended["connection"], ended["fault"]), (said["connection"], "8"))
+                index.stop()
+            server.ended()
+
+
 CASES: List[Callable[[Start], None]] = [lines_of_pairs, lines_of_the_end_of_input, many_bad_frames, faults_at_the_end,
-                                        standard_error_that_fails]
+                                        standard_error_that_fails, wrong_secrets]

@@ -50,6 +50,8 @@ pub struct Connection {
     pub parked: Option<Parked>,
     // How many commits are to be durable before its answers go.
     pub(crate) held: Option<u64>,
+    // The millisecond at which it ends, since its hello had a wrong secret.
+    pub(crate) ends_at: Option<u64>,
     // Whether a put or a remove was answered in this round that wasn't refused for the disk.
     pub(crate) has_changed: bool,
     // What the frame at the front waits for, since it was looked at.
@@ -93,6 +95,7 @@ impl Connection {
             is_listed: false,
             parked: None,
             held: None,
+            ends_at: None,
             has_changed: false,
             awaited: None,
             is_woken: false,
@@ -223,32 +226,40 @@ impl Connection {
     }
 
     /// Answers the frame at the front. A client that was not admitted, and says no hello with a right secret, is refused,
-    /// and its connection ends.
+    /// and its connection ends. Returns whether it was a hello with a wrong secret.
     pub fn answer<S: Shared>(
         &mut self,
         server: &mut Server<Answerer>,
         shared: &mut S,
         pass: &mut Pass,
-    ) {
+    ) -> bool {
+        let is_hello = matches!(self.server_query(), Some(ServerQuery::Hello { .. }));
         self.has_changed = self.has_changed || self.changes && server.keeper.read_only.is_none();
         self.front = Front::Nothing;
         self.awaited = None;
         self.is_woken = false;
         self.began = None;
         self.budget = self.budget.saturating_sub(self.weight);
-        server.keeper.role = self.role;
+        // (a hello gives a role, or none, whatever an earlier one has given)
+        server.keeper.role = if is_hello {
+            server.keeper.first_role()
+        } else {
+            self.role
+        };
         if let Err(fault) = self.talk.turn(server, shared, pass) {
             self.fail(ConnectionFault::from(fault));
         }
         self.role = server.keeper.role;
-        if self.role.is_none() {
-            self.fail(ConnectionFault::NoHello);
+        if self.role.is_some() || self.fault.is_some() {
+            return false;
         }
+        self.fail(ConnectionFault::NoHello);
+        is_hello
     }
 
     // Whether bytes are to go, and may go.
     fn may_write(&self) -> bool {
-        self.held.is_none() && !self.talk.output().is_empty()
+        self.held.is_none() && self.ends_at.is_none() && !self.talk.output().is_empty()
     }
 
     // Writes what is to go, as much as the system takes. Returns how much that was.
@@ -338,7 +349,7 @@ impl Connection {
     /// If one of the limits is over, breaks the session off, and returns whether one is. A session that waits between
     /// frames ends without a fault.
     pub fn is_late(&mut self, limits: Limits, now: u64) -> bool {
-        if self.held.is_some() {
+        if self.held.is_some() || self.ends_at.is_some() {
             return false;
         }
         if self.has_output() {

@@ -2,13 +2,16 @@
 
 use crate::connection::{Connection, Front};
 use crate::fault::ConnectionFault;
-use crate::parking::{DURABLE, Parked};
+use crate::parking::{DURABLE, LATER, Parked};
 use mt_talk::facts::Facts;
 use mt_wire::server::{Awaited, ServerQuery};
 use std::mem;
 
 // For how many milliseconds a change is put off when too many commits wait for the log.
 const DELAY: u64 = 2;
+
+// For how many milliseconds a connection whose hello had a wrong secret is kept before it ends.
+const SECRET_DELAY: u64 = 1000;
 
 impl Connection {
     /// Notes that what it waits for has come, or its time.
@@ -18,11 +21,29 @@ impl Connection {
 
     // Whether its answers, or the frame at the front, wait.
     pub(crate) fn is_waiting(&self) -> bool {
-        self.held.is_some() || self.awaited.is_some() && !self.is_woken
+        self.held.is_some() || self.ends_at.is_some() || self.awaited.is_some() && !self.is_woken
+    }
+
+    /// Its hello had a wrong secret: it ends after a while. Until then it isn't read, and its answers don't go.
+    pub fn end_later(&mut self, now: u64) {
+        self.fail(ConnectionFault::NoHello);
+        self.ends_at = Some(now.saturating_add(SECRET_DELAY));
+    }
+
+    /// If it is to end, it ends now.
+    pub fn end_soon(&mut self) {
+        self.ends_at = None;
     }
 
     /// Returns what its answers wait for, or the frame at the front, if they wait.
     pub fn awaited(&self) -> Option<Parked> {
+        if let Some(until) = self.ends_at {
+            return Some(Parked {
+                view: LATER,
+                number: u64::MAX,
+                until,
+            });
+        }
         if let Some(number) = self.held {
             return Some(Parked {
                 view: DURABLE,

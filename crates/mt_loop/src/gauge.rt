@@ -6,7 +6,7 @@ ghost use Rattle.mt_loop.specs.Listing.{listed, ListsSomewhere};
 
 use crate::desk::Desk;
 use crate::durability::{DiskState, Durability};
-use crate::parking::{DURABLE, Parking};
+use crate::parking::{DURABLE, LATER, Parking};
 use crate::reporting::Reporter;
 use mt_shared::door::Door;
 use mt_shared::map::SharedMap;
@@ -35,6 +35,7 @@ pub struct Tally {
     faults: AtomicUsize,
     input_bytes: AtomicUsize,
     output_bytes: AtomicUsize,
+    wrong_secrets: AtomicUsize,
 }
 
 impl Tally {
@@ -49,6 +50,7 @@ impl Tally {
             faults: AtomicUsize::new(0),
             input_bytes: AtomicUsize::new(0),
             output_bytes: AtomicUsize::new(0),
+            wrong_secrets: AtomicUsize::new(0),
         }
     }
 
@@ -73,6 +75,12 @@ impl Tally {
     pub fn move_bytes(&self, read: usize, written: usize) {
         self.input_bytes.fetch_add(read, Ordering::Relaxed);
         self.output_bytes.fetch_add(written, Ordering::Relaxed);
+    }
+
+    /// Counts a hello with a wrong secret, and returns how many there were.
+    pub fn refuse_secret(&self) -> u64 {
+        let earlier = self.wrong_secrets.fetch_add(1, Ordering::Relaxed);
+        (earlier as u64).saturating_add(1)
     }
 
     /// Counts a session that was broken off.
@@ -220,13 +228,14 @@ impl<'a, R: Wait + Clock> Gauge<'a, R> {
         let moment = door.moment();
         let mut reached = Vec::new(alloc);
         let mut next = parking.next_view(0);
-        for _ in 0..=MAX_VIEWS.saturating_add(1) {
+        for _ in 0..=MAX_VIEWS.saturating_add(2) {
             let Some(view) = next else {
                 break;
             };
             let at = match (view, moment.view(ViewNo(view))) {
                 (0, _) => moment.commits(),
                 (DURABLE, _) => self.durable().unwrap_or(0),
+                (LATER, _) => 0,
                 (_, Some(state)) => state.at(),
                 (_, None) => u64::MAX,
             };

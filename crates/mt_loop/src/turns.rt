@@ -2,7 +2,7 @@
 
 use crate::connection::{Connection, Front};
 use crate::gauge::Gauge;
-use crate::report::Origin;
+use crate::report::{Origin, Report};
 use crate::weight::TURN;
 use mt_serve::answerer::{Answerer, Keeping};
 use mt_shared::driving::{Hold, Shared};
@@ -123,14 +123,16 @@ impl Turns {
     }
 
     // Answers the frame at the front of a connection. Returns how many queries were answered.
-    fn answer_one<R: Wait + Clock, S: Shared>(
+    fn answer_one<R: Wait + Clock + Eprint, S: Shared>(
         &mut self,
         gauge: &Gauge<'_, R>,
         shared: &mut S,
         connection: &mut Connection,
     ) -> u64 {
         self.server.inner.count = 0;
-        connection.answer(&mut self.server, shared, &mut self.pass);
+        if connection.answer(&mut self.server, shared, &mut self.pass) {
+            refuse_secret(gauge, connection);
+        }
         let count = self.server.inner.count;
         connection.queries = connection.queries.saturating_add(count);
         self.queries = self.queries.saturating_add(count);
@@ -142,7 +144,7 @@ impl Turns {
     }
 
     // Answers the frames of one kind that `find_all` has found, in holdings of the lock that end after enough queries.
-    fn answer_those<R: Wait + Clock, S: Shared>(
+    fn answer_those<R: Wait + Clock + Eprint, S: Shared>(
         &mut self,
         gauge: &Gauge<'_, R>,
         shared: &mut S,
@@ -175,7 +177,7 @@ impl Turns {
     }
 
     /// Answers frames of the connections of this round, one of each after the other, until none is to be answered.
-    pub fn answer_all<R: Wait + Clock, S: Shared>(
+    pub fn answer_all<R: Wait + Clock + Eprint, S: Shared>(
         &mut self,
         gauge: &Gauge<'_, R>,
         shared: &mut S,
@@ -208,6 +210,16 @@ impl Turns {
             let _freed = shared.event(self.alloc, &mut self.pass, &Event::Collect);
         }
     }
+}
+
+// A hello had a wrong secret: that is counted and said, and the connection ends after a while.
+fn refuse_secret<R: Wait + Clock + Eprint>(gauge: &Gauge<'_, R>, connection: &mut Connection) {
+    connection.end_later(gauge.now());
+    let report = Report::WrongSecret {
+        origin: connection.origin,
+        count: gauge.tally.refuse_secret(),
+    };
+    gauge.reporter.say(gauge.rt, &report);
 }
 
 // What the lock is kept for while `frames` frames of one kind are answered.

@@ -120,7 +120,7 @@ impl Worker {
     // Ends a connection, and says why if its session was broken off.
     fn end<R: Wait + Clock + Eprint>(&mut self, gauge: &Gauge<'_, R>, key: usize, desk: &Desk) {
         self.turns.is_due = true;
-        self.unpark(key, desk);
+        let _parked = self.unpark(key, desk);
         if let Some(connection) = self.connections.try_remove(key) {
             if let Some(report) = connection.broken_off() {
                 gauge.tally.break_off();
@@ -328,6 +328,7 @@ impl Worker {
                 connection.is_listed = true;
                 connection.wake(true, false);
                 connection.end_wait();
+                connection.end_soon();
             }
         }
         self.again = keys;
