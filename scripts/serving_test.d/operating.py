@@ -1,6 +1,7 @@
-"""Cases of what an operator sees of a server, over a build of mtserve: the lines of `--log pairs`, and wrong secrets.
+"""Cases of what an operator sees of a server, over a build of mtserve: the lines of `--log pairs`, wrong
+secrets, and the limit of buffers.
 
-`CASES` are functions of a `Start`, which runs a server with these words, without `--sessions`. Each raises what is wrong.
+`CASES` are functions of a `Start`, which runs a server with these words, without end. Each raises what is wrong.
 """
 from __future__ import annotations
 
@@ -12,10 +13,11 @@ import socket
 import subprocess
 import tempfile
 import time
+from contextlib import ExitStack
 from pathlib import Path
 from typing import Any, Callable, ContextManager, Dict, List, Tuple
 
-from rowanspan import Client, Hello, receive_body, request_frame
+from rowanspan import Client, GetRange, Hello, Put, read_replies, receive_body, request_frame
 
 SECONDS = 60.0
 # as many lines of a kind are written in a second at most
@@ -166,8 +168,8 @@ def standard_error_that_fails(start: Start) -> None:
 # ---- wrong secrets
 
 def wrong_secrets(start: Start) -> None:
-    """A hello with a wrong secret is answered a second later, also by a client that was admitted, and the connection ends
-    then; another client isn't delayed."""
+    """A hello with a wrong secret is answered a second later, also that of a client that was admitted. Then the
+    connection ends. Another client isn't delayed."""
     with tempfile.TemporaryDirectory() as folder:
         path = Path(folder, "tokens")
         path.write_bytes(b"read " + READER + b"\nall " + OWNER + b"\n")
@@ -197,5 +199,61 @@ def wrong_secrets(start: Start) -> None:
             server.ended()
 
 
+# ---- the limit of buffers
+
+DEAF, BUFFERS = 20, 8_000_000
+
+
+def giant_answers(start: Start) -> None:
+    """Of clients that ask for giant answers and never read, those whose answers pass the limit are ended; another one
+    is served meanwhile, and afterwards."""
+    giant = request_frame([GetRange().spelled()] * 64)
+    with start("--log", "pairs", "--workers", "2", "--buffers", str(BUFFERS)) as server, ExitStack() as deaf:
+        next_read(server, "listening", "info")
+        with Client(server.port, timeout=SECONDS) as index:
+            for at in range(0, 1000, 50):
+                with index.pipeline() as pipeline:
+                    for number in range(at, at + 50):
+                        pipeline.put(number.to_bytes(2, "big"), bytes(64))
+            connections = []
+            for _ in range(DEAF):
+                connection = deaf.enter_context(socket.create_connection(("127.0.0.1", server.port), SECONDS))
+                connection.sendall(giant)
+                connections.append(connection)
+                index.get(b"no such key")
+            for _ in range(DEAF // 2):
+                ended = next_read(server, "ended", "warn")
+                want_same("its fault", (ended["fault"], ended["reason"]), ("10", "too much output"))
+            for number in range(100):
+                want_same("a put beside them", index.put(b"a", b"v"), 1001 + number)
+            for connection in connections:
+                connection.close()
+            want_same("a range afterwards", len([*index.range()]), 1001)
+
+
+def inputs_beyond_the_limit(start: Start) -> None:
+    """Of frames that lack a byte as many bytes are read as may be kept, and more when others have gone. A small one is
+    answered meanwhile."""
+    put = Put(b"k" * 1000, b"v")
+    frame = request_frame([put.spelled()] * 64)
+    count, kept = 6, 3
+    with start("--workers", "1", "--buffers", str(4 * len(frame))) as server, ExitStack() as open_ones:
+        with Client(server.port, timeout=SECONDS) as index:
+            connections = []
+            for _ in range(count):
+                connection = open_ones.enter_context(socket.create_connection(("127.0.0.1", server.port), SECONDS))
+                connection.sendall(frame[:-1])
+                connections.append(connection)
+            want_same("a put beside them", index.put(b"a", b"v"), 1)
+            for connection in connections[kept:]:
+                connection.close()
+            for connection in connections[:kept]:
+                connection.sendall(frame[-1:])
+            for connection in connections[:kept]:
+                want_same("the answers", len(read_replies(receive_body(connection), [put] * 64)), 64)
+            want_same("the commits", index.put(b"a", b"v"), 2 + 64 * kept)
+
+
 CASES: List[Callable[[Start], None]] = [lines_of_pairs, lines_of_the_end_of_input, many_bad_frames, faults_at_the_end,
-                                        standard_error_that_fails, wrong_secrets]
+                                        standard_error_that_fails, wrong_secrets, giant_answers,
+                                        inputs_beyond_the_limit]

@@ -1,5 +1,6 @@
 //! One connection: its stream, and its session.
 
+use crate::buffers::Buffers;
 use crate::desk::Arrival;
 use crate::fault::ConnectionFault;
 use crate::limits::{Limits, is_over};
@@ -50,6 +51,12 @@ pub struct Connection {
     pub parked: Option<Parked>,
     // How many commits are to be durable before its answers go.
     pub(crate) held: Option<u64>,
+    // How many bytes were read that may not be answered yet, of them by the last read, and how many are noted of it.
+    pub(crate) input: usize,
+    pub(crate) last_read: usize,
+    pub(crate) noted: usize,
+    // Until which millisecond it isn't read, since too many bytes are kept for all connections.
+    pub(crate) unread_until: Option<u64>,
     // The millisecond at which it ends, since its hello had a wrong secret.
     pub(crate) ends_at: Option<u64>,
     // Whether a put or a remove was answered in this round that wasn't refused for the disk.
@@ -95,6 +102,10 @@ impl Connection {
             is_listed: false,
             parked: None,
             held: None,
+            input: 0,
+            last_read: 0,
+            noted: 0,
+            unread_until: None,
             ends_at: None,
             has_changed: false,
             awaited: None,
@@ -166,6 +177,8 @@ impl Connection {
             Ok(count) => {
                 self.came = now;
                 self.moved.0 = self.moved.0.saturating_add(count);
+                self.input = self.kept_input().saturating_add(count);
+                self.last_read = count;
                 let is_all = count < piece.len();
                 self.take(&piece[..count], is_all);
             }
@@ -175,8 +188,9 @@ impl Connection {
         }
     }
 
-    /// Begins a round: writes what is to go, and reads one piece if no whole frame is there and bytes may be.
-    pub fn begin(&mut self, piece: &mut [u8], now: u64) {
+    /// Begins a round: writes what is to go, and reads one piece if no whole frame is there and bytes may be. Returns
+    /// whether it would read and may not, since too many bytes are kept for all connections.
+    pub fn begin(&mut self, piece: &mut [u8], now: u64, buffers: &Buffers) -> bool {
         self.is_listed = false;
         self.budget = TURN;
         self.has_changed = false;
@@ -190,8 +204,13 @@ impl Connection {
             && self.fault.is_none()
             && !self.is_full()
         {
+            // (the input of a client that has ended its stream is soon answered, or cut)
+            if self.kept_input() > 0 && !self.is_hung_up && !buffers.has_room(piece.len()) {
+                return true;
+            }
             self.read_piece(piece, now);
         }
+        false
     }
 
     /// Finds the frame at the front, if one is to be answered in this round.
@@ -232,6 +251,7 @@ impl Connection {
         server: &mut Server<Answerer>,
         shared: &mut S,
         pass: &mut Pass,
+        buffers: &Buffers,
     ) -> bool {
         let is_hello = matches!(self.server_query(), Some(ServerQuery::Hello { .. }));
         self.has_changed = self.has_changed || self.changes && server.keeper.read_only.is_none();
@@ -249,6 +269,8 @@ impl Connection {
         if let Err(fault) = self.talk.turn(server, shared, pass) {
             self.fail(ConnectionFault::from(fault));
         }
+        self.input = self.input.min(self.last_read);
+        self.limit_output(buffers);
         self.role = server.keeper.role;
         if self.role.is_some() || self.fault.is_some() {
             return false;
@@ -339,11 +361,6 @@ impl Connection {
             fault,
             queries: self.queries,
         })
-    }
-
-    /// Returns whether bytes are to go.
-    pub fn has_output(&self) -> bool {
-        !self.talk.output().is_empty()
     }
 
     /// If one of the limits is over, breaks the session off, and returns whether one is. A session that waits between

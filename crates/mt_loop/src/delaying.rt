@@ -13,6 +13,9 @@ const DELAY: u64 = 2;
 // For how many milliseconds a connection whose hello had a wrong secret is kept before it ends.
 const SECRET_DELAY: u64 = 1000;
 
+// After how many milliseconds a connection is looked at again that isn't read, since too many bytes are kept.
+const READ_DELAY: u64 = 20;
+
 impl Connection {
     /// Notes that what it waits for has come, or its time.
     pub fn end_wait(&mut self) {
@@ -21,7 +24,10 @@ impl Connection {
 
     // Whether its answers, or the frame at the front, wait.
     pub(crate) fn is_waiting(&self) -> bool {
-        self.held.is_some() || self.ends_at.is_some() || self.awaited.is_some() && !self.is_woken
+        self.held.is_some()
+            || self.ends_at.is_some()
+            || self.unread_until.is_some()
+            || self.awaited.is_some() && !self.is_woken
     }
 
     /// Its hello had a wrong secret: it ends after a while. Until then it isn't read, and its answers don't go.
@@ -30,14 +36,20 @@ impl Connection {
         self.ends_at = Some(now.saturating_add(SECRET_DELAY));
     }
 
-    /// If it is to end, it ends now.
-    pub fn end_soon(&mut self) {
+    /// It isn't read for a while, since too many bytes are kept for all connections.
+    pub fn read_later(&mut self, now: u64) {
+        self.unread_until = Some(now.saturating_add(READ_DELAY));
+    }
+
+    /// If it is to end, it ends now. If it isn't read, it is.
+    pub fn end_delay(&mut self) {
         self.ends_at = None;
+        self.unread_until = None;
     }
 
     /// Returns what its answers wait for, or the frame at the front, if they wait.
     pub fn awaited(&self) -> Option<Parked> {
-        if let Some(until) = self.ends_at {
+        if let Some(until) = self.ends_at.or(self.unread_until) {
             return Some(Parked {
                 view: LATER,
                 number: u64::MAX,

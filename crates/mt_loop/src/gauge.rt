@@ -4,6 +4,7 @@ ghost use Rattle.std.specs.Prelude.{◌≡◌, IfOk, IfSome, None, map};
 ghost use Rattle.mt_shared.specs.Moments.{machine_of};
 ghost use Rattle.mt_loop.specs.Listing.{listed, ListsSomewhere};
 
+use crate::buffers::Buffers;
 use crate::desk::Desk;
 use crate::durability::{DiskState, Durability};
 use crate::parking::{DURABLE, LATER, Parking};
@@ -96,6 +97,8 @@ pub struct Gauge<'a, R> {
     pub index: &'a SharedMap,
     pub desks: &'a [Desk],
     pub tally: &'a Tally,
+    /// What is kept for the connections.
+    pub buffers: &'a Buffers,
     /// What writes what is said of the server.
     pub reporter: &'a Reporter,
     pub start: Instant,

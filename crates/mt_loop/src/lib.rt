@@ -3,12 +3,14 @@
 
 pub mod accepting;
 pub mod address;
+mod buffers;
 pub mod connection;
 mod delaying;
 pub mod desk;
 pub mod durability;
 mod fault;
 mod gauge;
+mod keeping;
 pub mod limits;
 pub mod logging;
 mod parking;

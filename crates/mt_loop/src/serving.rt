@@ -2,6 +2,7 @@
 
 use crate::accepting::Acceptor;
 use crate::address::{Address, Listener, remove_sockets};
+use crate::buffers::Buffers;
 use crate::desk::Desk;
 use crate::durability::Durability;
 use crate::gauge::{Gauge, Tally};
@@ -248,6 +249,7 @@ where
     }
     let (desks, workers) = make_workers(rt, alloc, passes, plan.limits, access.tokens)?;
     let tally = Tally::new(run_name(rt)?);
+    let buffers = Buffers::new(plan.limits.buffers);
     let known = durability_of(&log);
     let durability = known.as_ref();
     let gauge = Gauge {
@@ -255,6 +257,7 @@ where
         index,
         desks: &desks,
         tally: &tally,
+        buffers: &buffers,
         reporter,
         start: Instant::now(rt)?,
         durability,

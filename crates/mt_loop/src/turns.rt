@@ -130,7 +130,8 @@ impl Turns {
         connection: &mut Connection,
     ) -> u64 {
         self.server.inner.count = 0;
-        if connection.answer(&mut self.server, shared, &mut self.pass) {
+        let (server, pass) = (&mut self.server, &mut self.pass);
+        if connection.answer(server, shared, pass, gauge.buffers) {
             refuse_secret(gauge, connection);
         }
         let count = self.server.inner.count;

@@ -36,7 +36,7 @@ impl Worker {
             desk.begin_wait();
         } else {
             connection.end_wait();
-            connection.end_soon();
+            connection.end_delay();
             self.list(key);
         }
         let _ = desk.wake();
@@ -47,7 +47,7 @@ impl Worker {
         let parked = self.unpark(key, desk);
         if let Some(connection) = self.connections.get_mut(key) {
             match parked {
-                Some(Parked { view: LATER, .. }) => connection.end_soon(),
+                Some(Parked { view: LATER, .. }) => connection.end_delay(),
                 _ => {
                     connection.end_wait();
                     connection.let_go();

@@ -122,6 +122,7 @@ impl Worker {
         self.turns.is_due = true;
         let _parked = self.unpark(key, desk);
         if let Some(connection) = self.connections.try_remove(key) {
+            gauge.buffers.note(connection.noted, 0);
             if let Some(report) = connection.broken_off() {
                 gauge.tally.break_off();
                 gauge.reporter.say(gauge.rt, &report);
@@ -181,10 +182,13 @@ impl Worker {
     }
 
     // Writes and reads the connections of this round.
-    fn begin_all(&mut self, keys: &[usize]) {
+    fn begin_all<R: Wait + Clock>(&mut self, gauge: &Gauge<'_, R>, keys: &[usize]) {
         for key in keys {
             if let Some(connection) = self.connections.get_mut(*key) {
-                connection.begin(self.piece.as_mut_slice(), self.now);
+                let piece = self.piece.as_mut_slice();
+                if connection.begin(piece, self.now, gauge.buffers) {
+                    connection.read_later(gauge.now());
+                }
             }
         }
     }
@@ -201,6 +205,7 @@ impl Worker {
                 continue;
             };
             connection.end(self.now);
+            connection.note_kept(gauge.buffers);
             let (read, written) = connection.take_moved();
             gauge.tally.move_bytes(read, written);
             if connection.is_over() {
@@ -289,7 +294,7 @@ impl Worker {
             self.welcome_all(gauge, desk);
         }
         let keys = mem::replace(&mut self.keys, Vec::new(self.alloc));
-        self.begin_all(&keys);
+        self.begin_all(gauge, &keys);
         self.turns
             .answer_all(gauge, shared, &mut self.connections, &keys);
         if self.turns.take_change() {
@@ -328,7 +333,7 @@ impl Worker {
                 connection.is_listed = true;
                 connection.wake(true, false);
                 connection.end_wait();
-                connection.end_soon();
+                connection.end_delay();
             }
         }
         self.again = keys;

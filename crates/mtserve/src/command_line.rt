@@ -48,6 +48,8 @@ pub struct Settings<'a> {
     pub sync: Option<&'a str>,
     /// How the lines on standard error are, if that is said.
     pub log: Option<&'a str>,
+    /// The most bytes that are kept for all connections together; 0 is no limit.
+    pub buffers: u64,
     /// The most seconds until a client has said hello, on a server with secrets; 0 is no limit.
     pub hello: u64,
     /// Whether all may do all wherever the server listens.
@@ -149,14 +151,18 @@ fn limit_options<'a>(command: Command<'a>, alloc: Global) -> Result<Command<'a>,
         .arg(number_option(alloc, "write-timeout", 0, 86400, write))
 }
 
-// The options of what an operator reads.
+// The options of what an operator reads and limits.
 fn operating_options<'a>(command: Command<'a>, alloc: Global) -> Result<Command<'a>, AllocError>
     ensures { IfOk result (λ r. app_of r ≡ with_operating_rules (app_of command.entry)) }
 {
     let log = "\
 How the lines on standard error are, after the first: plain, or pairs (with a time, a level and the connection) [default:
 plain]";
-    command.arg(text_option(alloc, "log", "FORM", log))
+    let buffers =
+        "The most bytes of input and output that are kept for all connections; 0 is no limit [default: 1073741824]";
+    command
+        .arg(text_option(alloc, "log", "FORM", log))?
+        .arg(number_option(alloc, "buffers", 0, 1099511627776, buffers))
 }
 
 // The options without a value.
@@ -211,6 +217,7 @@ fn settings_of<'a>(matches: &ArgMatches<'a>) -> Settings<'a>
         folder: matches.get_str("data"),
         sync: matches.get_str("sync"),
         log: matches.get_str("log"),
+        buffers: number(matches, "buffers", 1_073_741_824),
         hello: number(matches, "hello-timeout", 10),
         is_open: matches.get_flag("open"),
         idle: number(matches, "idle-timeout", 0),

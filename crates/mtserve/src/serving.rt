@@ -88,6 +88,7 @@ fn plan_of(settings: Settings<'_>) -> Plan {
             idle: settings.idle,
             frame: settings.frame,
             write: settings.write,
+            buffers: settings.buffers,
         },
         sessions: session_count(settings),
         watches_input: settings.watches_input,
