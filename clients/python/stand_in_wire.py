@@ -23,6 +23,7 @@ FAULTS = {
     6: "the body of a frame is not a list of queries",
     7: "out of memory",
     8: "no hello with a secret of the server",
+    10: "too much output",
     12: "the disk failed while changes waited to become durable",
 }
 

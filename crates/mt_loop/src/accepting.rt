@@ -1,15 +1,16 @@
 //! The thread that accepts: it hands each connection to the worker that has the fewest.
 
 use crate::address::{Address, Listener};
-use crate::desk::Desk;
-use crate::gauge::{Tally, open};
+use crate::desk::{Arrival, Desk};
+use crate::gauge::{Gauge, open};
+use crate::report::{Asker, Origin, Report, unserved};
 use crate::stop::Stop;
 use crate::stream::Stream;
 use mio::unix::SourceFd;
 use mio::{Events, Interest, Poll, Token};
-use mt_serve::fault::SessionFault;
 use std::alloc::Global;
 use std::io::ErrorKind;
+use std::net::SocketAddr;
 use std::sync::Wait;
 use std::time::{Clock, Duration};
 use std::{io, thread};
@@ -21,6 +22,9 @@ const INPUT: Token = Token(1);
 
 // How many milliseconds after an accept that failed the next one is made.
 const PAUSE: u64 = 10;
+
+// How many milliseconds a wait lasts at most while no line has said how many were left out.
+const LONGEST: u64 = 1000;
 
 /// What accepts connections.
 #[derive(Drop)]
@@ -71,10 +75,23 @@ impl Acceptor {
             .register(&mut SourceFd(&0), INPUT, Interest::READABLE)
     }
 
-    /// Prints where each listener listens, in the order of these addresses.
-    pub fn say<R: Eprint>(&self, rt: &R, addresses: &[Address<'_>]) -> io::Result<()> {
+    /// Prints where each listener listens, in the order of these addresses: `listening PORT` or `listening unix:PATH`.
+    /// Then reports it.
+    pub fn say<R: Wait + Clock + Eprint>(
+        &self,
+        gauge: &Gauge<'_, R>,
+        addresses: &[Address<'_>],
+    ) -> io::Result<()> {
+        let rt = gauge.rt;
         for (listener, address) in self.listeners.iter().zip(addresses) {
-            listener.say(rt, *address)?;
+            match listener.place(*address)? {
+                Address::Tcp(address) => eprintln!(rt; "listening {}", address.port())?,
+                Address::Unix(path) => eprintln!(rt; "listening unix:{path}")?,
+            }
+        }
+        for (listener, address) in self.listeners.iter().zip(addresses) {
+            let report = Report::Listening(listener.place(*address)?);
+            gauge.reporter.say(rt, &report);
         }
         Ok(())
     }
@@ -97,44 +114,45 @@ impl Acceptor {
     }
 
     // Hands a connection to a worker. One that is too many is closed at once, and isn't counted.
-    fn hand_over<R: Wait + Eprint>(
+    fn hand_over<R: Wait + Clock + Eprint>(
         &mut self,
-        rt: &R,
+        gauge: &Gauge<'_, R>,
         stream: Stream,
-        desks: &[Desk],
-        tally: &Tally,
+        peer: Option<SocketAddr>,
     ) {
-        if open(desks) >= self.most {
-            tally.turn_away();
+        let rt = gauge.rt;
+        if open(gauge.desks) >= self.most {
+            gauge.tally.turn_away();
+            gauge
+                .reporter
+                .say(rt, &Report::TurnedAway { most: self.most });
             return;
         }
-        tally.accept();
+        let number = gauge.tally.accept();
+        let origin = Origin { number, peer };
         self.count();
-        if let Some(desk) = least(desks) {
-            if desk.put(rt, stream).is_err() {
-                let fault = SessionFault::NoMemory;
-                let _ = eprintln!(rt; "session fault {}: {fault}", fault.number());
+        if let Some(desk) = least(gauge.desks) {
+            if desk.put(rt, Arrival { stream, origin }).is_err() {
+                gauge.reporter.say(rt, &unserved(origin));
             }
         }
     }
 
     // An accept failed, as it does without a free descriptor: says so once, and waits.
-    fn pause<R: Clock + Eprint>(&mut self, rt: &R, error: &io::Error) {
+    fn pause<R: Wait + Clock + Eprint>(&mut self, gauge: &Gauge<'_, R>, error: &io::Error) {
         if !self.has_failed {
-            let _ = eprintln!(rt; "accept failed: {error}");
+            gauge.reporter.say(gauge.rt, &Report::NotAccepted(error));
         }
-        thread::sleep(rt, Duration::from_millis(PAUSE));
+        thread::sleep(gauge.rt, Duration::from_millis(PAUSE));
     }
 
     // Accepts what waits at a listener. Returns whether an accept failed, so that it is to be tried again without an event.
     fn accept_from<R: Wait + Clock + Eprint>(
         &mut self,
-        rt: &R,
+        gauge: &Gauge<'_, R>,
         number: usize,
-        desks: &[Desk],
-        tally: &Tally,
     ) -> bool {
-        for _ in rt.forever() {
+        for _ in gauge.rt.forever() {
             let Some(listener) = self.listeners.get(number) else {
                 break;
             };
@@ -142,13 +160,13 @@ impl Acceptor {
                 break;
             }
             match listener.accept() {
-                Ok(stream) => self.hand_over(rt, stream, desks, tally),
+                Ok((stream, peer)) => self.hand_over(gauge, stream, peer),
                 Err(error) if error.kind() == ErrorKind::WouldBlock => break,
                 Err(error) if error.kind() == ErrorKind::Interrupted => {}
                 // (it was reset before it was accepted: its session has ended)
                 Err(error) if error.kind() == ErrorKind::ConnectionAborted => self.count(),
                 Err(error) => {
-                    self.pause(rt, &error);
+                    self.pause(gauge, &error);
                     return true;
                 }
             }
@@ -157,12 +175,23 @@ impl Acceptor {
     }
 
     // Accepts what waits.
-    fn accept_all<R: Wait + Clock + Eprint>(&mut self, rt: &R, desks: &[Desk], tally: &Tally) {
+    fn accept_all<R: Wait + Clock + Eprint>(&mut self, gauge: &Gauge<'_, R>) {
         let mut has_failed = false;
         for number in 0..self.listeners.len() {
-            has_failed = self.accept_from(rt, number, desks, tally) || has_failed;
+            has_failed = self.accept_from(gauge, number) || has_failed;
         }
         self.has_failed = has_failed;
+    }
+
+    // For how long to wait: not at all after an accept that failed.
+    fn timeout<R>(&self, gauge: &Gauge<'_, R>) -> Option<Duration> {
+        if self.has_failed {
+            return Some(Duration::ZERO);
+        }
+        gauge
+            .reporter
+            .has_left_out()
+            .then_some(Duration::from_millis(LONGEST))
     }
 
     /// Accepts connections until as many sessions as are to be have begun, or standard input ends, or all are to stop.
@@ -172,30 +201,27 @@ impl Acceptor {
     /// If a wait failed.
     pub fn run<R: Wait + Clock + Eprint>(
         &mut self,
-        rt: &R,
-        desks: &[Desk],
+        gauge: &Gauge<'_, R>,
         stop: &Stop,
-        tally: &Tally,
     ) -> io::Result<()> {
-        for _ in rt.forever() {
+        for _ in gauge.rt.forever() {
             if self.left == Some(0) || stop.is_stopping() {
                 break;
             }
-            let timeout = if self.has_failed {
-                Some(Duration::ZERO)
-            } else {
-                None
-            };
+            gauge.reporter.catch_up(gauge.rt);
+            let timeout = self.timeout(gauge);
             match self.poll.poll(&mut self.events, timeout) {
                 Ok(()) => {}
                 Err(error) if error.kind() == ErrorKind::Interrupted => {}
                 Err(error) => return Err(error),
             }
             if self.is_at_end() {
-                stop.stop(desks);
+                let report = Report::Stopping(Asker::EndOfInput);
+                gauge.reporter.say(gauge.rt, &report);
+                stop.stop(gauge.desks);
                 break;
             }
-            self.accept_all(rt, desks, tally);
+            self.accept_all(gauge);
         }
         Ok(())
     }

@@ -7,7 +7,7 @@ use std::io::ErrorKind;
 use std::net::{Net, SocketAddr};
 use std::os::unix::fs::FileTypeExt;
 use std::rt::Files;
-use std::{fs, io};
+use std::{fmt, fs, io};
 
 /// An address to listen at.
 #[derive(Clone, Copy, Debug)]
@@ -39,6 +39,15 @@ impl<'a> Address<'a> {
         match self {
             Address::Tcp(address) => address.ip().is_loopback(),
             Address::Unix(_) => true,
+        }
+    }
+}
+
+impl fmt::Display for Address<'_> {
+    fn fmt<W: fmt::Write>(&self, f: &mut fmt::Formatter<W>) -> fmt::Result {
+        match self {
+            Address::Tcp(address) => write!(f, "{address}"),
+            Address::Unix(path) => write!(f, "unix:{path}"),
         }
     }
 }
@@ -98,31 +107,27 @@ impl Listener {
         }
     }
 
-    /// Returns the next connection, or `WouldBlock` if none waits.
-    pub fn accept(&self) -> io::Result<Stream> {
+    /// Returns the next connection, and the address of its client if that has one, or `WouldBlock` if none waits.
+    pub fn accept(&self) -> io::Result<(Stream, Option<SocketAddr>)> {
         match self {
             Listener::Tcp(listener) => {
-                let (stream, _) = listener.accept()?;
+                let (stream, peer) = listener.accept()?;
                 // (a reply goes out in one write, and is not to wait for more)
                 let _ = stream.set_nodelay(true);
-                Ok(Stream::Tcp(stream))
+                Ok((Stream::Tcp(stream), Some(peer)))
             }
             Listener::Unix(listener) => {
                 let (stream, _) = listener.accept()?;
-                Ok(Stream::Unix(stream))
+                Ok((Stream::Unix(stream), None))
             }
         }
     }
 
-    /// Prints where it listens: `listening PORT`, or `listening unix:PATH` with the path of its address.
-    pub fn say<R: Eprint>(&self, rt: &R, address: Address<'_>) -> io::Result<()> {
-        match (self, address) {
-            (Listener::Tcp(listener), _) => {
-                let port = listener.local_addr()?.port();
-                eprintln!(rt; "listening {port}")
-            }
-            (Listener::Unix(_), Address::Unix(path)) => eprintln!(rt; "listening unix:{path}"),
-            (Listener::Unix(_), Address::Tcp(_)) => Ok(()),
+    /// Returns where it listens, if it was bound to this address: with its port, also if the system has chosen that.
+    pub fn place<'a>(&self, address: Address<'a>) -> io::Result<Address<'a>> {
+        match self {
+            Listener::Tcp(listener) => Ok(Address::Tcp(listener.local_addr()?)),
+            Listener::Unix(_) => Ok(address),
         }
     }
 }

@@ -1,8 +1,11 @@
 //! One connection: its stream, and its session.
 
+use crate::buffers::Buffers;
+use crate::desk::Arrival;
 use crate::fault::ConnectionFault;
 use crate::limits::{Limits, is_over};
 use crate::parking::Parked;
+use crate::report::{Origin, Report};
 use crate::stream::Stream;
 use crate::weight::{TURN, only_reads, server_query, weight_of};
 use mt_serve::answerer::Answerer;
@@ -35,6 +38,10 @@ pub enum Front {
 #[derive(Drop)]
 pub struct Connection {
     pub stream: Stream,
+    /// Which connection it is.
+    pub origin: Origin,
+    /// How many queries it was answered.
+    pub queries: u64,
     pub(crate) talk: Talk,
     /// What the frame at the front asks for, as `find` has found.
     pub front: Front,
@@ -44,6 +51,14 @@ pub struct Connection {
     pub parked: Option<Parked>,
     // How many commits are to be durable before its answers go.
     pub(crate) held: Option<u64>,
+    // How many bytes were read that may not be answered yet, of them by the last read, and how many are noted of it.
+    pub(crate) input: usize,
+    pub(crate) last_read: usize,
+    pub(crate) noted: usize,
+    // Until which millisecond it isn't read, since too many bytes are kept for all connections.
+    pub(crate) unread_until: Option<u64>,
+    // The millisecond at which it ends, since its hello had a wrong secret.
+    pub(crate) ends_at: Option<u64>,
     // Whether a put or a remove was answered in this round that wasn't refused for the disk.
     pub(crate) has_changed: bool,
     // What the frame at the front waits for, since it was looked at.
@@ -76,14 +91,22 @@ pub struct Connection {
 
 impl Connection {
     /// Returns a connection that was accepted at this time, whose client may do what `role` says.
-    pub fn new(alloc: Global, stream: Stream, now: u64, role: Option<Role>) -> Connection {
+    pub fn new(alloc: Global, arrival: Arrival, now: u64, role: Option<Role>) -> Connection {
+        let Arrival { stream, origin } = arrival;
         Connection {
             stream,
+            origin,
+            queries: 0,
             talk: Talk::new(alloc),
             front: Front::Nothing,
             is_listed: false,
             parked: None,
             held: None,
+            input: 0,
+            last_read: 0,
+            noted: 0,
+            unread_until: None,
+            ends_at: None,
             has_changed: false,
             awaited: None,
             is_woken: false,
@@ -154,6 +177,8 @@ impl Connection {
             Ok(count) => {
                 self.came = now;
                 self.moved.0 = self.moved.0.saturating_add(count);
+                self.input = self.kept_input().saturating_add(count);
+                self.last_read = count;
                 let is_all = count < piece.len();
                 self.take(&piece[..count], is_all);
             }
@@ -163,8 +188,9 @@ impl Connection {
         }
     }
 
-    /// Begins a round: writes what is to go, and reads one piece if no whole frame is there and bytes may be.
-    pub fn begin(&mut self, piece: &mut [u8], now: u64) {
+    /// Begins a round: writes what is to go, and reads one piece if no whole frame is there and bytes may be. Returns
+    /// whether it would read and may not, since too many bytes are kept for all connections.
+    pub fn begin(&mut self, piece: &mut [u8], now: u64, buffers: &Buffers) -> bool {
         self.is_listed = false;
         self.budget = TURN;
         self.has_changed = false;
@@ -178,8 +204,13 @@ impl Connection {
             && self.fault.is_none()
             && !self.is_full()
         {
+            // (the input of a client that has ended its stream is soon answered, or cut)
+            if self.kept_input() > 0 && !self.is_hung_up && !buffers.has_room(piece.len()) {
+                return true;
+            }
             self.read_piece(piece, now);
         }
+        false
     }
 
     /// Finds the frame at the front, if one is to be answered in this round.
@@ -214,32 +245,43 @@ impl Connection {
     }
 
     /// Answers the frame at the front. A client that was not admitted, and says no hello with a right secret, is refused,
-    /// and its connection ends.
+    /// and its connection ends. Returns whether it was a hello with a wrong secret.
     pub fn answer<S: Shared>(
         &mut self,
         server: &mut Server<Answerer>,
         shared: &mut S,
         pass: &mut Pass,
-    ) {
+        buffers: &Buffers,
+    ) -> bool {
+        let is_hello = matches!(self.server_query(), Some(ServerQuery::Hello { .. }));
         self.has_changed = self.has_changed || self.changes && server.keeper.read_only.is_none();
         self.front = Front::Nothing;
         self.awaited = None;
         self.is_woken = false;
         self.began = None;
         self.budget = self.budget.saturating_sub(self.weight);
-        server.keeper.role = self.role;
+        // (a hello gives a role, or none, whatever an earlier one has given)
+        server.keeper.role = if is_hello {
+            server.keeper.first_role()
+        } else {
+            self.role
+        };
         if let Err(fault) = self.talk.turn(server, shared, pass) {
             self.fail(ConnectionFault::from(fault));
         }
+        self.input = self.input.min(self.last_read);
+        self.limit_output(buffers);
         self.role = server.keeper.role;
-        if self.role.is_none() {
-            self.fail(ConnectionFault::NoHello);
+        if self.role.is_some() || self.fault.is_some() {
+            return false;
         }
+        self.fail(ConnectionFault::NoHello);
+        is_hello
     }
 
     // Whether bytes are to go, and may go.
     fn may_write(&self) -> bool {
-        self.held.is_none() && !self.talk.output().is_empty()
+        self.held.is_none() && self.ends_at.is_none() && !self.talk.output().is_empty()
     }
 
     // Writes what is to go, as much as the system takes. Returns how much that was.
@@ -311,20 +353,20 @@ impl Connection {
             && (self.fault.is_some() || self.has_ended && self.talk.is_between_frames())
     }
 
-    /// Returns why its session was broken off, if it was.
-    pub fn fault(&self) -> Option<ConnectionFault> {
-        self.fault
-    }
-
-    /// Returns whether bytes are to go.
-    pub fn has_output(&self) -> bool {
-        !self.talk.output().is_empty()
+    /// Returns what is said of its end, if its session was broken off.
+    pub fn broken_off(&self) -> Option<Report<'static>> {
+        let fault = self.fault?;
+        Some(Report::Ended {
+            origin: self.origin,
+            fault,
+            queries: self.queries,
+        })
     }
 
     /// If one of the limits is over, breaks the session off, and returns whether one is. A session that waits between
     /// frames ends without a fault.
     pub fn is_late(&mut self, limits: Limits, now: u64) -> bool {
-        if self.held.is_some() {
+        if self.held.is_some() || self.ends_at.is_some() {
             return false;
         }
         if self.has_output() {

@@ -2,13 +2,19 @@
 
 use crate::connection::{Connection, Front};
 use crate::fault::ConnectionFault;
-use crate::parking::{DURABLE, Parked};
+use crate::parking::{DURABLE, LATER, Parked};
 use mt_talk::facts::Facts;
 use mt_wire::server::{Awaited, ServerQuery};
 use std::mem;
 
 // For how many milliseconds a change is put off when too many commits wait for the log.
 const DELAY: u64 = 2;
+
+// For how many milliseconds a connection whose hello had a wrong secret is kept before it ends.
+const SECRET_DELAY: u64 = 1000;
+
+// After how many milliseconds a connection is looked at again that isn't read, since too many bytes are kept.
+const READ_DELAY: u64 = 20;
 
 impl Connection {
     /// Notes that what it waits for has come, or its time.
@@ -18,11 +24,38 @@ impl Connection {
 
     // Whether its answers, or the frame at the front, wait.
     pub(crate) fn is_waiting(&self) -> bool {
-        self.held.is_some() || self.awaited.is_some() && !self.is_woken
+        self.held.is_some()
+            || self.ends_at.is_some()
+            || self.unread_until.is_some()
+            || self.awaited.is_some() && !self.is_woken
+    }
+
+    /// Its hello had a wrong secret: it ends after a while. Until then it isn't read, and its answers don't go.
+    pub fn end_later(&mut self, now: u64) {
+        self.fail(ConnectionFault::NoHello);
+        self.ends_at = Some(now.saturating_add(SECRET_DELAY));
+    }
+
+    /// It isn't read for a while, since too many bytes are kept for all connections.
+    pub fn read_later(&mut self, now: u64) {
+        self.unread_until = Some(now.saturating_add(READ_DELAY));
+    }
+
+    /// If it is to end, it ends now. If it isn't read, it is.
+    pub fn end_delay(&mut self) {
+        self.ends_at = None;
+        self.unread_until = None;
     }
 
     /// Returns what its answers wait for, or the frame at the front, if they wait.
     pub fn awaited(&self) -> Option<Parked> {
+        if let Some(until) = self.ends_at.or(self.unread_until) {
+            return Some(Parked {
+                view: LATER,
+                number: u64::MAX,
+                until,
+            });
+        }
         if let Some(number) = self.held {
             return Some(Parked {
                 view: DURABLE,

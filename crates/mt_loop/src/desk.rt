@@ -1,5 +1,6 @@
 //! Where the thread that accepts leaves connections for a worker.
 
+use crate::report::Origin;
 use crate::stream::Stream;
 use mio::{Poll, Token, Waker};
 use std::alloc::Global;
@@ -11,10 +12,17 @@ use std::{io, mem};
 /// The token of a desk's waker: no key of a slab.
 pub const WAKER: Token = Token(usize::MAX);
 
+/// A connection that was accepted.
+#[derive(Drop)]
+pub struct Arrival {
+    pub stream: Stream,
+    pub origin: Origin,
+}
+
 /// New connections for a worker, and how many it has.
 #[derive(Drop)]
 pub struct Desk {
-    inbox: Mutex<Vec<Stream>>,
+    inbox: Mutex<Vec<Arrival>>,
     waker: Waker,
     load: AtomicUsize,
     waiting: AtomicUsize,
@@ -41,9 +49,9 @@ impl Desk {
     /// # Errors
     ///
     /// If out of memory: then the connection is closed.
-    pub fn put<R: Wait>(&self, rt: &R, stream: Stream) -> io::Result<()> {
+    pub fn put<R: Wait>(&self, rt: &R, arrival: Arrival) -> io::Result<()> {
         self.load.fetch_add(1, Ordering::Relaxed);
-        if self.inbox.lock(rt).push(stream).is_err() {
+        if self.inbox.lock(rt).push(arrival).is_err() {
             self.leave();
             return Err(ErrorKind::OutOfMemory.into());
         }
@@ -56,7 +64,7 @@ impl Desk {
     }
 
     /// Takes all that was left.
-    pub fn take<R: Wait>(&self, rt: &R, alloc: Global) -> Vec<Stream> {
+    pub fn take<R: Wait>(&self, rt: &R, alloc: Global) -> Vec<Arrival> {
         let mut inbox = self.inbox.lock(rt);
         mem::replace(&mut *inbox, Vec::new(alloc))
     }

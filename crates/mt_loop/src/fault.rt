@@ -13,6 +13,9 @@ pub enum ConnectionFault {
     /// It has said no hello with a secret of the server.
     #[error("no hello with a secret of the server")]
     NoHello,
+    /// Its answers would have passed what is kept for all connections.
+    #[error("too much output")]
+    TooMuchOutput,
     /// The disk failed before its changes were durable.
     #[error("the disk failed before its changes were durable")]
     NotDurable,
@@ -24,6 +27,7 @@ impl ConnectionFault {
         match self {
             ConnectionFault::Session(fault) => fault.number(),
             ConnectionFault::NoHello => 8,
+            ConnectionFault::TooMuchOutput => 10,
             ConnectionFault::NotDurable => 12,
         }
     }

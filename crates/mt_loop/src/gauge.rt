@@ -4,9 +4,11 @@ ghost use Rattle.std.specs.Prelude.{◌≡◌, IfOk, IfSome, None, map};
 ghost use Rattle.mt_shared.specs.Moments.{machine_of};
 ghost use Rattle.mt_loop.specs.Listing.{listed, ListsSomewhere};
 
+use crate::buffers::Buffers;
 use crate::desk::Desk;
 use crate::durability::{DiskState, Durability};
-use crate::parking::{DURABLE, Parking};
+use crate::parking::{DURABLE, LATER, Parking};
+use crate::reporting::Reporter;
 use mt_shared::door::Door;
 use mt_shared::map::SharedMap;
 use mt_shared::moment::Moment;
@@ -34,6 +36,7 @@ pub struct Tally {
     faults: AtomicUsize,
     input_bytes: AtomicUsize,
     output_bytes: AtomicUsize,
+    wrong_secrets: AtomicUsize,
 }
 
 impl Tally {
@@ -48,12 +51,14 @@ impl Tally {
             faults: AtomicUsize::new(0),
             input_bytes: AtomicUsize::new(0),
             output_bytes: AtomicUsize::new(0),
+            wrong_secrets: AtomicUsize::new(0),
         }
     }
 
-    /// Counts a connection that was accepted.
-    pub fn accept(&self) {
-        self.accepted.fetch_add(1, Ordering::Relaxed);
+    /// Counts a connection that was accepted, and returns its number, from 1 on.
+    pub fn accept(&self) -> u64 {
+        let earlier = self.accepted.fetch_add(1, Ordering::Relaxed);
+        (earlier as u64).saturating_add(1)
     }
 
     /// Counts a connection that was one too many.
@@ -73,6 +78,12 @@ impl Tally {
         self.output_bytes.fetch_add(written, Ordering::Relaxed);
     }
 
+    /// Counts a hello with a wrong secret, and returns how many there were.
+    pub fn refuse_secret(&self) -> u64 {
+        let earlier = self.wrong_secrets.fetch_add(1, Ordering::Relaxed);
+        (earlier as u64).saturating_add(1)
+    }
+
     /// Counts a session that was broken off.
     pub fn break_off(&self) {
         self.faults.fetch_add(1, Ordering::Relaxed);
@@ -86,6 +97,10 @@ pub struct Gauge<'a, R> {
     pub index: &'a SharedMap,
     pub desks: &'a [Desk],
     pub tally: &'a Tally,
+    /// What is kept for the connections.
+    pub buffers: &'a Buffers,
+    /// What writes what is said of the server.
+    pub reporter: &'a Reporter,
     pub start: Instant,
     /// What is known of the log, if commits go to one.
     pub durability: Option<&'a Durability>,
@@ -216,13 +231,14 @@ impl<'a, R: Wait + Clock> Gauge<'a, R> {
         let moment = door.moment();
         let mut reached = Vec::new(alloc);
         let mut next = parking.next_view(0);
-        for _ in 0..=MAX_VIEWS.saturating_add(1) {
+        for _ in 0..=MAX_VIEWS.saturating_add(2) {
             let Some(view) = next else {
                 break;
             };
             let at = match (view, moment.view(ViewNo(view))) {
                 (0, _) => moment.commits(),
                 (DURABLE, _) => self.durable().unwrap_or(0),
+                (LATER, _) => 0,
                 (_, Some(state)) => state.at(),
                 (_, None) => u64::MAX,
             };

@@ -3,19 +3,25 @@
 
 pub mod accepting;
 pub mod address;
+mod buffers;
 pub mod connection;
 mod delaying;
 pub mod desk;
 pub mod durability;
 mod fault;
 mod gauge;
+mod keeping;
 pub mod limits;
 pub mod logging;
 mod parking;
+mod quoting;
+pub mod report;
+pub mod reporting;
 pub mod serving;
 pub mod stop;
 mod stream;
 mod turns;
+pub mod utc;
 mod waiting;
 mod weight;
 pub mod worker;

@@ -15,6 +15,8 @@ pub struct Limits {
     pub frame: u64,
     /// The most seconds for which a peer may take no byte of what is to go.
     pub write: u64,
+    /// The most bytes of input and output that are kept for all connections together; 0 is no limit.
+    pub buffers: u64,
 }
 
 /// Returns whether more seconds than this limit have passed since a time.

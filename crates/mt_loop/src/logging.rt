@@ -2,6 +2,7 @@
 
 use crate::durability::{DiskState, Durability, Syncing};
 use crate::gauge::Gauge;
+use crate::report::Report;
 use mt_journal::error::JournalError;
 use mt_journal::journal::Journal;
 use mt_logger::error::LoggerError;
@@ -56,29 +57,41 @@ enum Written {
     Never,
 }
 
-// The result of an attempt that failed with this error. Prints a line if the disk is full, or if no attempt will succeed.
-fn judge<R: Eprint>(rt: &R, durability: &Durability, error: &LoggerError) -> Written {
+// The result of an attempt that failed with this error. Says so if the disk is full, or if no attempt will succeed.
+fn judge<R: Wait + Clock + Eprint>(
+    gauge: &Gauge<'_, R>,
+    durability: &Durability,
+    error: &LoggerError,
+) -> Written {
     match error {
         LoggerError::Fed(Refusal::NoMemory) | LoggerError::Journal(JournalError::NoMemory) => {
             Written::Later
         }
         LoggerError::Journal(JournalError::DiskFull) => {
             if durability.disk() == DiskState::Usable {
-                let _ = eprintln!(rt; "log: the disk is full, and rows can't be changed");
+                gauge.reporter.say(gauge.rt, &Report::DiskFull);
             }
             durability.note_full(true);
             Written::Later
         }
         _ => {
-            let _ = eprintln!(rt; "log: {error}");
+            gauge.reporter.say(gauge.rt, &Report::LogFailed(error));
             Written::Never
         }
     }
 }
 
+// The disk has room.
+fn note_room<R: Wait + Clock + Eprint>(gauge: &Gauge<'_, R>, durability: &Durability) {
+    if durability.disk() == DiskState::Full {
+        gauge.reporter.say(gauge.rt, &Report::DiskUsable);
+    }
+    durability.note_full(false);
+}
+
 // Writes the commits that the log lacks.
-fn write_all<R: Wait + Eprint, D: Disk + Drop>(
-    rt: &R,
+fn write_all<R: Wait + Clock + Eprint, D: Disk + Drop>(
+    gauge: &Gauge<'_, R>,
     door: &Door<'_, R>,
     durability: &Durability,
     logger: &mut Logger<D>,
@@ -86,13 +99,13 @@ fn write_all<R: Wait + Eprint, D: Disk + Drop>(
     for _ in 0..GROUPS {
         match logger.write(door) {
             Ok(count) => {
-                durability.note_full(false);
+                note_room(gauge, durability);
                 durability.note_written(logger.position().newest);
                 if count == 0 {
                     break;
                 }
             }
-            Err(error) => return judge(rt, durability, &error),
+            Err(error) => return judge(gauge, durability, &error),
         }
     }
     Written::All
@@ -111,8 +124,8 @@ fn is_due<R: Clock>(rt: &R, durability: &Durability, last: Instant) -> bool {
 }
 
 // Makes what was written durable. Returns whether it is.
-fn sync<R: Eprint, D: Disk + Drop>(
-    rt: &R,
+fn sync<R: Wait + Clock + Eprint, D: Disk + Drop>(
+    gauge: &Gauge<'_, R>,
     durability: &Durability,
     logger: &mut Logger<D>,
 ) -> bool {
@@ -122,7 +135,8 @@ fn sync<R: Eprint, D: Disk + Drop>(
             true
         }
         Err(error) => {
-            let _ = eprintln!(rt; "log: {error}");
+            let error = LoggerError::Journal(error);
+            gauge.reporter.say(gauge.rt, &Report::LogFailed(&error));
             false
         }
     }
@@ -160,7 +174,7 @@ fn sync_if_due<R: Wait + Clock + Eprint, D: Disk + Drop>(
     if at.durable >= at.newest || !is_due {
         return Some(last);
     }
-    if !sync(gauge.rt, durability, logger) {
+    if !sync(gauge, durability, logger) {
         return None;
     }
     gauge.wake_waiting();
@@ -182,7 +196,8 @@ fn keep<R: Wait + Clock + Eprint, D: Disk + Drop>(
     let mut tries = 0u32;
     for _ in rt.forever() {
         let is_ending = durability.is_ending();
-        match write_all(rt, &door, durability, logger) {
+        gauge.reporter.catch_up(rt);
+        match write_all(gauge, &door, durability, logger) {
             Written::All => {}
             Written::Later => thread::sleep(rt, Duration::from_millis(PAUSE)),
             Written::Never => return false,
@@ -193,7 +208,7 @@ fn keep<R: Wait + Clock + Eprint, D: Disk + Drop>(
             0
         };
         if tries > LAST_TRIES {
-            let _ = eprintln!(rt; "log: the last commits could not be written");
+            gauge.reporter.say(rt, &Report::Unwritten);
             return false;
         }
         let Some(synced) = sync_if_due(gauge, durability, logger, last) else {

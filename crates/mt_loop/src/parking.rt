@@ -6,10 +6,13 @@ use std::collections::{BTreeMap, BTreeSet};
 /// The number under which commits that are durable are waited for. No view has it.
 pub const DURABLE: u64 = u64::MAX;
 
+/// The number under which a time alone is waited for. No view has it.
+pub const LATER: u64 = u64::MAX - 1;
+
 /// What a connection waits for, and until when.
 #[derive(Clone, Copy, Debug, PartialEq, Eq)]
 pub struct Parked {
-    /// The number of the view whose commits are waited for, or 0 for those of the index, or `DURABLE`.
+    /// The number of the view whose commits are waited for, or 0 for those of the index, or `DURABLE`, or `LATER`.
     pub view: u64,
     /// The number of commits.
     pub number: u64,

@@ -2,11 +2,13 @@
 
 use crate::accepting::Acceptor;
 use crate::address::{Address, Listener, remove_sockets};
+use crate::buffers::Buffers;
 use crate::desk::Desk;
 use crate::durability::Durability;
 use crate::gauge::{Gauge, Tally};
 use crate::limits::Limits;
 use crate::logging::{Log, keep_log};
+use crate::reporting::Reporter;
 use crate::stop::Stop;
 use crate::worker::{Worker, work};
 use mio::Poll;
@@ -64,8 +66,8 @@ fn accept<R: Wait + Clock + Eprint>(
     addresses: &[Address<'_>],
     stop: &Stop,
 ) -> io::Result<()> {
-    acceptor.say(gauge.rt, addresses)?;
-    acceptor.run(gauge.rt, gauge.desks, stop, gauge.tally)
+    acceptor.say(gauge, addresses)?;
+    acceptor.run(gauge, stop)
 }
 
 // A desk and a worker for each pass.
@@ -232,6 +234,7 @@ pub fn serve<'s, R, D>(
     access: Access<'s>,
     plan: Plan,
     log: Option<Log<D>>,
+    reporter: &'s Reporter,
 ) -> io::Result<Ended>
 where
     R: Net + Files + Threads + Wait + Clock + RandomSource + Sync + Eprint,
@@ -246,6 +249,7 @@ where
     }
     let (desks, workers) = make_workers(rt, alloc, passes, plan.limits, access.tokens)?;
     let tally = Tally::new(run_name(rt)?);
+    let buffers = Buffers::new(plan.limits.buffers);
     let known = durability_of(&log);
     let durability = known.as_ref();
     let gauge = Gauge {
@@ -253,10 +257,13 @@ where
         index,
         desks: &desks,
         tally: &tally,
+        buffers: &buffers,
+        reporter,
         start: Instant::now(rt)?,
         durability,
     };
     let ended = run_logged(alloc, &gauge, &mut acceptor, addresses, workers, log);
     remove_sockets(rt, addresses);
+    reporter.finish(rt);
     ended
 }

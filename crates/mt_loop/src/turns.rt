@@ -2,6 +2,7 @@
 
 use crate::connection::{Connection, Front};
 use crate::gauge::Gauge;
+use crate::report::{Origin, Report};
 use crate::weight::TURN;
 use mt_serve::answerer::{Answerer, Keeping};
 use mt_shared::driving::{Hold, Shared};
@@ -38,6 +39,8 @@ pub struct Turns {
     pub is_stopping: bool,
     // Whether frames that may change rows or views were answered since those that wait were last woken.
     has_changed: bool,
+    // Which connection has asked that the server ends, and whether at once.
+    stop: Option<(Origin, bool)>,
 }
 
 impl Turns {
@@ -52,6 +55,7 @@ impl Turns {
             is_due: false,
             is_stopping: false,
             has_changed: false,
+            stop: None,
         }
     }
 
@@ -103,9 +107,9 @@ impl Turns {
         self.server.keeper.first_role()
     }
 
-    /// Returns whether a client has asked that the server ends, and then whether at once.
-    pub fn take_stop(&mut self) -> Option<bool> {
-        self.server.keeper.stop.take()
+    /// Returns which connection has asked that the server ends, and whether at once, if one has.
+    pub fn take_stop(&mut self) -> Option<(Origin, bool)> {
+        self.stop.take()
     }
 
     /// Returns the pass.
@@ -118,8 +122,30 @@ impl Turns {
         self.is_due = self.queries > 0;
     }
 
+    // Answers the frame at the front of a connection. Returns how many queries were answered.
+    fn answer_one<R: Wait + Clock + Eprint, S: Shared>(
+        &mut self,
+        gauge: &Gauge<'_, R>,
+        shared: &mut S,
+        connection: &mut Connection,
+    ) -> u64 {
+        self.server.inner.count = 0;
+        let (server, pass) = (&mut self.server, &mut self.pass);
+        if connection.answer(server, shared, pass, gauge.buffers) {
+            refuse_secret(gauge, connection);
+        }
+        let count = self.server.inner.count;
+        connection.queries = connection.queries.saturating_add(count);
+        self.queries = self.queries.saturating_add(count);
+        gauge.tally.answer(count);
+        if let Some(is_at_once) = self.server.keeper.stop.take() {
+            self.stop = Some((connection.origin, is_at_once));
+        }
+        count
+    }
+
     // Answers the frames of one kind that `find_all` has found, in holdings of the lock that end after enough queries.
-    fn answer_those<R: Wait + Clock, S: Shared>(
+    fn answer_those<R: Wait + Clock + Eprint, S: Shared>(
         &mut self,
         gauge: &Gauge<'_, R>,
         shared: &mut S,
@@ -141,12 +167,7 @@ impl Turns {
                 continue;
             }
             self.has_changed = self.has_changed || front == Front::Others;
-            self.server.inner.count = 0;
-            connection.answer(&mut self.server, shared, &mut self.pass);
-            let count = self.server.inner.count;
-            gauge.tally.answer(count);
-            held = held.saturating_add(count);
-            self.queries = self.queries.saturating_add(count);
+            held = held.saturating_add(self.answer_one(gauge, shared, connection));
             if held >= HELD {
                 shared.hold(Hold::Nothing);
                 let _number = gauge.log_changes();
@@ -157,7 +178,7 @@ impl Turns {
     }
 
     /// Answers frames of the connections of this round, one of each after the other, until none is to be answered.
-    pub fn answer_all<R: Wait + Clock, S: Shared>(
+    pub fn answer_all<R: Wait + Clock + Eprint, S: Shared>(
         &mut self,
         gauge: &Gauge<'_, R>,
         shared: &mut S,
@@ -190,6 +211,16 @@ impl Turns {
             let _freed = shared.event(self.alloc, &mut self.pass, &Event::Collect);
         }
     }
+}
+
+// A hello had a wrong secret: that is counted and said, and the connection ends after a while.
+fn refuse_secret<R: Wait + Clock + Eprint>(gauge: &Gauge<'_, R>, connection: &mut Connection) {
+    connection.end_later(gauge.now());
+    let report = Report::WrongSecret {
+        origin: connection.origin,
+        count: gauge.tally.refuse_secret(),
+    };
+    gauge.reporter.say(gauge.rt, &report);
 }
 
 // What the lock is kept for while `frames` frames of one kind are answered.

@@ -2,20 +2,19 @@
 
 use crate::desk::Desk;
 use crate::gauge::Gauge;
-use crate::parking::DURABLE;
+use crate::parking::{DURABLE, LATER, Parked};
 use crate::worker::Worker;
 use std::sync::Wait;
 use std::time::Clock;
 
 impl Worker {
-    // Takes a connection out of those that wait.
-    pub(crate) fn unpark(&mut self, key: usize, desk: &Desk) {
-        if let Some(connection) = self.connections.get_mut(key) {
-            if let Some(parked) = connection.parked.take() {
-                self.parking.leave(key, parked);
-                desk.end_wait();
-            }
-        }
+    // Takes a connection out of those that wait. Returns what it has waited for.
+    pub(crate) fn unpark(&mut self, key: usize, desk: &Desk) -> Option<Parked> {
+        let connection = self.connections.get_mut(key)?;
+        let parked = connection.parked.take()?;
+        self.parking.leave(key, parked);
+        desk.end_wait();
+        Some(parked)
     }
 
     // Puts a connection among those that wait, if it does, or takes it out. Then the worker looks again whether what it
@@ -28,7 +27,7 @@ impl Worker {
         if awaited == connection.parked {
             return;
         }
-        self.unpark(key, desk);
+        let _earlier = self.unpark(key, desk);
         let (Some(awaited), Some(connection)) = (awaited, self.connections.get_mut(key)) else {
             return;
         };
@@ -37,16 +36,30 @@ impl Worker {
             desk.begin_wait();
         } else {
             connection.end_wait();
+            connection.end_delay();
+            self.list(key);
         }
         let _ = desk.wake();
     }
 
     // The wait of a connection has ended: it is of the next round.
     fn release(&mut self, key: usize, desk: &Desk) {
-        self.unpark(key, desk);
+        let parked = self.unpark(key, desk);
         if let Some(connection) = self.connections.get_mut(key) {
-            connection.end_wait();
-            connection.let_go();
+            match parked {
+                Some(Parked { view: LATER, .. }) => connection.end_delay(),
+                _ => {
+                    connection.end_wait();
+                    connection.let_go();
+                }
+            }
+        }
+        self.list(key);
+    }
+
+    // A connection is of the next round.
+    fn list(&mut self, key: usize) {
+        if let Some(connection) = self.connections.get_mut(key) {
             if !connection.is_listed {
                 connection.is_listed = true;
                 let _ = self.again.push(key);

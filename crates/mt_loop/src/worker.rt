@@ -1,15 +1,14 @@
 //! A worker: it waits until some of its connections are ready, reads them, answers their frames, and writes.
 
 use crate::connection::Connection;
-use crate::desk::{Desk, WAKER};
+use crate::desk::{Arrival, Desk, WAKER};
 use crate::gauge::Gauge;
 use crate::limits::Limits;
 use crate::parking::Parking;
+use crate::report::{Asker, Report, unserved};
 use crate::stop::Stop;
-use crate::stream::Stream;
 use crate::turns::Turns;
 use mio::{Events, Poll, Token};
-use mt_serve::fault::SessionFault;
 use mt_shared::driving::Shared;
 use mt_shared::pass::Pass;
 use mt_talk::tokens::Token as Secret;
@@ -89,11 +88,11 @@ impl Worker {
     }
 
     // Takes a new connection, and waits for it.
-    fn welcome(&mut self, stream: Stream) -> io::Result<()> {
+    fn welcome(&mut self, arrival: Arrival) -> io::Result<()> {
         if self.make_room().is_err() {
             return Err(ErrorKind::OutOfMemory.into());
         }
-        let fresh = Connection::new(self.alloc, stream, self.now, self.turns.first_role());
+        let fresh = Connection::new(self.alloc, arrival, self.now, self.turns.first_role());
         let Ok(key) = self.connections.insert(fresh) else {
             return Err(ErrorKind::OutOfMemory.into());
         };
@@ -108,35 +107,37 @@ impl Worker {
     }
 
     // Takes the new connections of a desk. One that can't be served is closed.
-    fn welcome_all<R: Wait + Eprint>(&mut self, rt: &R, desk: &Desk) {
-        for stream in desk.take(rt, self.alloc) {
-            if self.welcome(stream).is_err() {
-                let fault = SessionFault::NoMemory;
-                let _ = eprintln!(rt; "session fault {}: {fault}", fault.number());
+    fn welcome_all<R: Wait + Clock + Eprint>(&mut self, gauge: &Gauge<'_, R>, desk: &Desk) {
+        for arrival in desk.take(gauge.rt, self.alloc) {
+            let origin = arrival.origin;
+            if self.welcome(arrival).is_err() {
+                gauge.reporter.say(gauge.rt, &unserved(origin));
                 desk.leave();
             }
         }
     }
 
     // Ends a connection, and says why if its session was broken off.
-    fn end<R: Eprint>(&mut self, gauge: &Gauge<'_, R>, key: usize, desk: &Desk) {
+    fn end<R: Wait + Clock + Eprint>(&mut self, gauge: &Gauge<'_, R>, key: usize, desk: &Desk) {
         self.turns.is_due = true;
-        self.unpark(key, desk);
+        let _parked = self.unpark(key, desk);
         if let Some(connection) = self.connections.try_remove(key) {
-            if let Some(fault) = connection.fault() {
+            gauge.buffers.note(connection.noted, 0);
+            if let Some(report) = connection.broken_off() {
                 gauge.tally.break_off();
-                let _ = eprintln!(gauge.rt; "session fault {}: {fault}", fault.number());
+                gauge.reporter.say(gauge.rt, &report);
             }
             desk.leave();
         }
     }
 
-    // For how long to wait: at most a second if there are connections, and no longer than the first of those that wait.
+    // For how long to wait: at most a second if there are connections, or lines were left out, and no longer than the first
+    // of those that wait.
     fn timeout<R: Wait + Clock>(&self, gauge: &Gauge<'_, R>, longest: u64) -> Option<Duration> {
         if !self.again.is_empty() {
             return Some(Duration::ZERO);
         }
-        if self.connections.is_empty() {
+        if self.connections.is_empty() && !gauge.reporter.has_left_out() {
             return None;
         }
         let longest = match self.parking.first_end() {
@@ -181,21 +182,30 @@ impl Worker {
     }
 
     // Writes and reads the connections of this round.
-    fn begin_all(&mut self, keys: &[usize]) {
+    fn begin_all<R: Wait + Clock>(&mut self, gauge: &Gauge<'_, R>, keys: &[usize]) {
         for key in keys {
             if let Some(connection) = self.connections.get_mut(*key) {
-                connection.begin(self.piece.as_mut_slice(), self.now);
+                let piece = self.piece.as_mut_slice();
+                if connection.begin(piece, self.now, gauge.buffers) {
+                    connection.read_later(gauge.now());
+                }
             }
         }
     }
 
     // Writes the connections of this round, and ends those that are over.
-    fn end_all<R: Eprint>(&mut self, gauge: &Gauge<'_, R>, keys: &[usize], desk: &Desk) {
+    fn end_all<R: Wait + Clock + Eprint>(
+        &mut self,
+        gauge: &Gauge<'_, R>,
+        keys: &[usize],
+        desk: &Desk,
+    ) {
         for key in keys {
             let Some(connection) = self.connections.get_mut(*key) else {
                 continue;
             };
             connection.end(self.now);
+            connection.note_kept(gauge.buffers);
             let (read, written) = connection.take_moved();
             gauge.tally.move_bytes(read, written);
             if connection.is_over() {
@@ -221,11 +231,12 @@ impl Worker {
     }
 
     // Once a second, ends the connections that are late.
-    fn look<R: Eprint>(&mut self, gauge: &Gauge<'_, R>, desk: &Desk) {
+    fn look<R: Wait + Clock + Eprint>(&mut self, gauge: &Gauge<'_, R>, desk: &Desk) {
         if self.now == self.looked {
             return;
         }
         self.looked = self.now;
+        gauge.reporter.catch_up(gauge.rt);
         self.turns.look();
         let keys = self.all_keys();
         for key in &keys {
@@ -240,11 +251,18 @@ impl Worker {
     }
 
     // Ends all threads, if a client has asked for it.
-    fn obey<R>(&mut self, gauge: &Gauge<'_, R>, stop: &Stop) {
-        match self.turns.take_stop() {
-            Some(true) => stop.stop_at_once(gauge.desks),
-            Some(false) => stop.stop(gauge.desks),
-            None => {}
+    fn obey<R: Wait + Clock + Eprint>(&mut self, gauge: &Gauge<'_, R>, stop: &Stop) {
+        let Some((origin, is_at_once)) = self.turns.take_stop() else {
+            return;
+        };
+        if !stop.is_stopping() {
+            let report = Report::Stopping(Asker::Query(origin));
+            gauge.reporter.say(gauge.rt, &report);
+        }
+        if is_at_once {
+            stop.stop_at_once(gauge.desks);
+        } else {
+            stop.stop(gauge.desks);
         }
     }
 
@@ -273,10 +291,10 @@ impl Worker {
         self.look(gauge, desk);
         self.release_all(gauge, desk);
         if self.gather() {
-            self.welcome_all(gauge.rt, desk);
+            self.welcome_all(gauge, desk);
         }
         let keys = mem::replace(&mut self.keys, Vec::new(self.alloc));
-        self.begin_all(&keys);
+        self.begin_all(gauge, &keys);
         self.turns
             .answer_all(gauge, shared, &mut self.connections, &keys);
         if self.turns.take_change() {
@@ -315,6 +333,7 @@ impl Worker {
                 connection.is_listed = true;
                 connection.wake(true, false);
                 connection.end_wait();
+                connection.end_delay();
             }
         }
         self.again = keys;
@@ -348,12 +367,12 @@ pub fn work<R: Wait + Clock + Eprint, S: Shared>(
             break;
         }
         if stop.is_stopping() {
-            worker.welcome_all(gauge.rt, desk);
+            worker.welcome_all(gauge, desk);
             worker.finish(gauge, desk, shared, stop)?;
             break;
         }
         if stop.is_closing() {
-            worker.welcome_all(gauge.rt, desk);
+            worker.welcome_all(gauge, desk);
             if worker.connections.is_empty() {
                 break;
             }

@@ -52,6 +52,13 @@ with_limit_rules app =
     (number_rule (codes "frame-timeout") 0 86400))
     (number_rule (codes "write-timeout") 0 86400)
 
+-- the options of what an operator reads and limits
+abbrev pub with_operating_rules : App → App
+with_operating_rules app =
+    with_rule
+    (with_rule app (text_rule (codes "log")))
+    (number_rule (codes "buffers") 0 1099511627776)
+
 -- the options without a value
 abbrev pub with_flag_rules : App → App
 with_flag_rules app =
@@ -63,7 +70,7 @@ with_flag_rules app =
 
 -- the options of mtserve
 abbrev pub mtserve_app : App
-mtserve_app = with_index_rules (with_flag_rules (with_limit_rules (with_data_rules (with_access_rules (with_socket_rules (new_app (codes "mtserve")))))))
+mtserve_app = with_index_rules (with_flag_rules (with_operating_rules (with_limit_rules (with_data_rules (with_access_rules (with_socket_rules (new_app (codes "mtserve"))))))))
 
 -- what was found on a command line
 pub record AreFound (matches : ArgMatches) (settings : Settings) : Type 0 where
@@ -75,6 +82,8 @@ pub record AreFound (matches : ArgMatches) (settings : Settings) : Type 0 where
   pub token_file : option_map (λ text. text.now) settings.token_file ≡ first_value (found_of matches) (codes "token-file")
   pub folder : option_map (λ text. text.now) settings.folder ≡ first_value (found_of matches) (codes "data")
   pub sync : option_map (λ text. text.now) settings.sync ≡ first_value (found_of matches) (codes "sync")
+  pub log : option_map (λ text. text.now) settings.log ≡ first_value (found_of matches) (codes "log")
+  pub buffers : IsNumber 64 (one_text (found_of matches) (codes "buffers")) 1073741824 settings.buffers
   pub hello : IsNumber 64 (one_text (found_of matches) (codes "hello-timeout")) 10 settings.hello
   pub idle : IsNumber 64 (one_text (found_of matches) (codes "idle-timeout")) 0 settings.idle
   pub frame : IsNumber 64 (one_text (found_of matches) (codes "frame-timeout")) 30 settings.frame

@@ -2,7 +2,7 @@
 
 ghost use Rattle.std.specs.Prelude.{◌≡◌, false, map, string_bytes, codes, IfOk};
 ghost use Rattle.clap.specs.Words.{app_of, new_app, rule_of};
-ghost use Rattle.mtserve.specs.CommandLine.{flag_rule, text_rule, with_socket_rules, with_access_rules, with_data_rules, with_limit_rules, with_flag_rules, mtserve_app, AreFound, AreSaid};
+ghost use Rattle.mtserve.specs.CommandLine.{flag_rule, text_rule, with_socket_rules, with_access_rules, with_data_rules, with_limit_rules, with_operating_rules, with_flag_rules, mtserve_app, AreFound, AreSaid};
 
 use clap::{Arg, ArgAction, ArgMatches, Command, Error};
 use mt_command_line::numbers::{number, number_option};
@@ -46,6 +46,10 @@ pub struct Settings<'a> {
     pub folder: Option<&'a str>,
     /// When its log is synced, if that is said.
     pub sync: Option<&'a str>,
+    /// How the lines on standard error are, if that is said.
+    pub log: Option<&'a str>,
+    /// The most bytes that are kept for all connections together; 0 is no limit.
+    pub buffers: u64,
     /// The most seconds until a client has said hello, on a server with secrets; 0 is no limit.
     pub hello: u64,
     /// Whether all may do all wherever the server listens.
@@ -147,6 +151,20 @@ fn limit_options<'a>(command: Command<'a>, alloc: Global) -> Result<Command<'a>,
         .arg(number_option(alloc, "write-timeout", 0, 86400, write))
 }
 
+// The options of what an operator reads and limits.
+fn operating_options<'a>(command: Command<'a>, alloc: Global) -> Result<Command<'a>, AllocError>
+    ensures { IfOk result (λ r. app_of r ≡ with_operating_rules (app_of command.entry)) }
+{
+    let log = "\
+How the lines on standard error are, after the first: plain, or pairs (with a time, a level and the connection) [default:
+plain]";
+    let buffers =
+        "The most bytes of input and output that are kept for all connections; 0 is no limit [default: 1073741824]";
+    command
+        .arg(text_option(alloc, "log", "FORM", log))?
+        .arg(number_option(alloc, "buffers", 0, 1099511627776, buffers))
+}
+
 // The options without a value.
 fn flag_options<'a>(command: Command<'a>, alloc: Global) -> Result<Command<'a>, AllocError>
     ensures { IfOk result (λ r. app_of r ≡ with_flag_rules (app_of command.entry)) }
@@ -174,7 +192,8 @@ fn command<'a>(alloc: Global) -> Result<Command<'a>, AllocError>
     let of_access = access_options(of_sockets, alloc)?;
     let of_data = data_options(of_access, alloc)?;
     let limited = limit_options(of_data, alloc)?;
-    let flagged = flag_options(limited, alloc)?;
+    let operated = operating_options(limited, alloc)?;
+    let flagged = flag_options(operated, alloc)?;
     index_options(flagged, alloc)
 }
 
@@ -197,6 +216,8 @@ fn settings_of<'a>(matches: &ArgMatches<'a>) -> Settings<'a>
         token_file: matches.get_str("token-file"),
         folder: matches.get_str("data"),
         sync: matches.get_str("sync"),
+        log: matches.get_str("log"),
+        buffers: number(matches, "buffers", 1_073_741_824),
         hello: number(matches, "hello-timeout", 10),
         is_open: matches.get_flag("open"),
         idle: number(matches, "idle-timeout", 0),

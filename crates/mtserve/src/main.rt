@@ -9,9 +9,11 @@ mod tokens;
 
 use crate::command_line::{Settings, settings_given};
 use crate::data::read_syncing;
-use crate::serving::{ServeError, serve_all};
+use crate::serving::{Manner, ServeError, serve_all};
 use mt_command_line::ending::{exit_code, status_without_run, words};
 use mt_loop::durability::Syncing;
+use mt_loop::report::Report;
+use mt_loop::reporting::{LineForm, Reporter};
 use mt_shared::settling::Totals;
 use std::io;
 use std::net::Net;
@@ -51,13 +53,35 @@ fn syncing_of(settings: Settings<'_>) -> Result<Syncing, &'static str> {
     )
 }
 
+// How the lines on standard error are, or why that can't be.
+fn form_of(settings: Settings<'_>) -> Result<LineForm, &'static str> {
+    match settings.log {
+        None | Some("plain") => Ok(LineForm::Plain),
+        Some("pairs") => Ok(LineForm::Pairs),
+        Some(_) => Err("--log takes plain or pairs"),
+    }
+}
+
+// What is read of texts of the command line, or why they can't be read.
+fn read_texts(settings: Settings<'_>) -> Result<(Syncing, LineForm), &'static str> {
+    Ok((syncing_of(settings)?, form_of(settings)?))
+}
+
 // Serves what the command line asks for, and returns the status.
 fn run<R>(host: &HostRuntime, rt: &R, settings: Settings<'_>) -> io::Result<u8>
 where
     R: Net + Threads + Wait + Clock + Files + RandomSource + AllocGlobal + Sync + Eprint,
 {
-    match syncing_of(settings) {
-        Ok(syncing) => tell(host, serve_all(host, rt, settings, syncing)),
+    match read_texts(settings) {
+        Ok((syncing, form)) => {
+            let reporter = Reporter::new(form);
+            let manner = Manner {
+                syncing,
+                reporter: &reporter,
+            };
+            let served = serve_all(host, rt, settings, manner);
+            tell(host, rt, &reporter, form, served)
+        }
         Err(fault) => {
             eprintln!(host; "mtserve: {fault}")?;
             Ok(2)
@@ -65,15 +89,40 @@ where
     }
 }
 
-// Prints how the serving ended, and returns the status.
-fn tell(rt: &HostRuntime, served: Result<Totals, ServeError>) -> io::Result<u8> {
+// Says why it failed, in a line of this form.
+fn tell_failure<R: Wait + Clock + Eprint>(
+    host: &HostRuntime,
+    rt: &R,
+    reporter: &Reporter,
+    form: LineForm,
+    error: &ServeError,
+) -> io::Result<()> {
+    match form {
+        LineForm::Plain => eprintln!(host; "mtserve: {error}"),
+        LineForm::Pairs => {
+            let reason = format!(in host.alloc(); "{error}")?;
+            reporter.say(rt, &Report::Failed(reason.as_str()));
+            Ok(())
+        }
+    }
+}
+
+// Says how the serving ended, and returns the status.
+fn tell<R: Wait + Clock + Eprint>(
+    host: &HostRuntime,
+    rt: &R,
+    reporter: &Reporter,
+    form: LineForm,
+    served: Result<Totals, ServeError>,
+) -> io::Result<u8> {
     match served {
-        Ok(totals) => {
-            println!(rt; "events {} commits {}", totals.events, totals.commits)?;
+        Ok(Totals { events, commits }) => {
+            reporter.say(rt, &Report::Stopped { events, commits });
+            println!(host; "events {events} commits {commits}")?;
             Ok(0)
         }
         Err(error) => {
-            eprintln!(rt; "mtserve: {error}")?;
+            tell_failure(host, rt, reporter, form, &error)?;
             Ok(3)
         }
     }

@@ -10,6 +10,7 @@ use mt_loop::address::Address;
 use mt_loop::durability::Syncing;
 use mt_loop::limits::Limits;
 use mt_loop::logging::Log;
+use mt_loop::reporting::Reporter;
 use mt_loop::serving::{Access, Ended, Plan, serve};
 use mt_shared::map::SharedMap;
 use mt_shared::pass::Pass;
@@ -87,6 +88,7 @@ fn plan_of(settings: Settings<'_>) -> Plan {
             idle: settings.idle,
             frame: settings.frame,
             write: settings.write,
+            buffers: settings.buffers,
         },
         sessions: session_count(settings),
         watches_input: settings.watches_input,
@@ -132,6 +134,15 @@ fn logged_options(options: Options) -> Options
     }
 }
 
+/// What is read of texts of the command line.
+#[derive(Clone, Copy)]
+pub struct Manner<'a> {
+    /// When the log is synced.
+    pub syncing: Syncing,
+    /// What writes the lines on standard error.
+    pub reporter: &'a Reporter,
+}
+
 type FileLog = Log<FileFrom<Unknown>>;
 
 // Opens the index: with the rows of the folder, and the log to which its commits go, or an empty one.
@@ -169,7 +180,7 @@ pub fn serve_all<R>(
     host: &HostRuntime,
     rt: &R,
     settings: Settings<'_>,
-    syncing: Syncing,
+    manner: Manner<'_>,
 ) -> Result<Totals, ServeError>
 where
     R: Net + Threads + Wait + Clock + Files + RandomSource + AllocGlobal + Sync + Eprint,
@@ -184,7 +195,7 @@ where
     if !may_listen(is_local, !tokens.is_empty(), settings.is_open) {
         return Err(ServeError::Open);
     }
-    let (index, passes, log) = open_index(host, rt, settings, syncing)?;
+    let (index, passes, log) = open_index(host, rt, settings, manner.syncing)?;
     let access = Access {
         addresses: &addresses,
         tokens: &tokens,
@@ -197,6 +208,7 @@ where
         access,
         plan_of(settings),
         log,
+        manner.reporter,
     )?;
     let totals = index.close(passes)?;
     if is_logged {

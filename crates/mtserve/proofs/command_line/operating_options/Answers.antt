@@ -1,0 +1,16 @@
+use Rattle.std.proofs.Common.{refl}
+use Rattle.std.specs.Prelude.{codes}
+use Rattle.std.proofs.lemmas.Result.{IfOk-weaker}
+use Rattle.clap.specs.Words.{app_of}
+use Rattle.clap.specs.declared.builder.command.Command.{Command}
+use Rattle.mtserve.specs.CommandLine.{text_rule}
+use Rattle.mt_command_line.specs.Numbers.{number_rule}
+use Rattle.mt_command_line.proofs.Options.{with_option}
+use Rattle.mtserve.proofs.command_line.operating_options.Goals as goal
+
+pub returns : goal.returns
+returns c =
+    let one = with_option c.args.command c.in_ok-arg.field-0 c.text_option.result (app_of c.args.command) (text_rule (codes "log")) c.text_option.ensures.local c.text_option.ensures.rule refl c.in_ok-arg.ensures in
+    IfOk-weaker c.arg-2.result _ _
+    (λ (new : Command). with_option c.in_ok-arg.field-0 new c.number_option.result _ (number_rule (codes "buffers") 0 1099511627776) c.number_option.ensures.local c.number_option.ensures.rule one)
+    c.arg-2.ensures

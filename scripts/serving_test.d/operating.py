@@ -1,0 +1,259 @@
+"""Cases of what an operator sees of a server, over a build of mtserve: the lines of `--log pairs`, wrong
+secrets, and the limit of buffers.
+
+`CASES` are functions of a `Start`, which runs a server with these words, without end. Each raises what is wrong.
+"""
+from __future__ import annotations
+
+import datetime
+import re
+import select
+import shlex
+import socket
+import subprocess
+import tempfile
+import time
+from contextlib import ExitStack
+from pathlib import Path
+from typing import Any, Callable, ContextManager, Dict, List, Tuple
+
+from rowanspan import Client, GetRange, Hello, Put, read_replies, receive_body, request_frame
+
+SECONDS = 60.0
+# as many lines of a kind are written in a second at most
+MOST = 10
+BAD_FRAME = b"\0\0\0\x02\x01\x00"
+READER, OWNER = b"reader-0123456789", b"owner-0123456789a"
+
+# runs a server with these words; what it gives has a port, `next_line`, `rest_of_lines`, `ended` and `process`
+Start = Callable[..., ContextManager[Any]]
+
+
+def want(is_so: bool, why: str) -> None:
+    if not is_so:
+        raise AssertionError(why)
+
+
+def want_same(what: str, got: object, wanted: object) -> None:
+    want(got == wanted, f"{what}: {str(got)[:300]} instead of {str(wanted)[:300]}")
+
+
+# ---- lines
+
+Line = Tuple[datetime.datetime, str, str, Dict[str, str]]
+
+
+def read_line(line: str) -> Line:
+    """The time, the level, the word and the pairs of a line."""
+    time_text, level, *words = shlex.split(line)
+    want(re.fullmatch(r"\d{4}-\d\d-\d\dT\d\d:\d\d:\d\dZ", time_text) is not None, f"{time_text!r} is no time")
+    want(level in ("info", "warn", "error"), f"{level!r} is no level")
+    pairs = dict(word.split("=", 1) for word in words if "=" in word)
+    named = [word for word in words if "=" not in word]
+    want(len(named) == 1 and len(pairs) + 1 == len(words), f"{line!r} isn't one word and pairs")
+    return datetime.datetime.strptime(time_text, "%Y-%m-%dT%H:%M:%SZ"), level, named[0], pairs
+
+
+def next_read(server: Any, word: str, level: str) -> Dict[str, str]:
+    """The pairs of the next line, which has this word and level, and is of these seconds."""
+    line = server.next_line()
+    at, found_level, found, pairs = read_line(line)
+    want_same(f"the word and the level of {line!r}", (found, found_level), (word, level))
+    now = datetime.datetime.now(datetime.timezone.utc).replace(tzinfo=None)
+    want(abs((now - at).total_seconds()) < SECONDS, f"{line!r} is dated wrongly at {now}")
+    return pairs
+
+
+def send_bad(port: int) -> int:
+    """Sends a bad frame over a connection of its own, and waits for its end. Returns the port of the client."""
+    with socket.create_connection(("127.0.0.1", port), SECONDS) as connection:
+        connection.sendall(BAD_FRAME)
+        want_same("the answer to a bad frame", connection.recv(1), b"")
+        return int(connection.getsockname()[1])
+
+
+def lines_of_pairs(start: Start) -> None:
+    """What a server says from its start to a stop that a client asks for."""
+    with start("--log", "pairs", "--workers", "2") as server:
+        listening = next_read(server, "listening", "info")
+        want_same("the address", listening, {"address": f"127.0.0.1:{server.port}"})
+        with Client(server.port, timeout=SECONDS) as index:
+            want_same("a put", index.put(b"a", b"v"), 1)
+        peer = send_bad(server.port)
+        ended = next_read(server, "ended", "warn")
+        want_same("the end of the second connection", ended,
+                  {"connection": "2", "fault": "6", "reason": "the body of a frame is not a list of queries",
+                   "queries": "0", "peer": f"127.0.0.1:{peer}"})
+        with Client(server.port, timeout=SECONDS) as index:
+            index.get(b"a")
+            index.stop()
+        stopping = next_read(server, "stopping", "info")
+        want_same("who stopped it", (stopping["connection"], stopping["by"]), ("3", "query"))
+        events, commits = server.ended()
+        stopped = next_read(server, "stopped", "info")
+        want_same("its end", stopped, {"events": str(events), "commits": str(commits)})
+        want_same("what comes after the end", server.rest_of_lines(), [])
+
+
+def lines_of_the_end_of_input(start: Start) -> None:
+    """A stop at the end of input, and a connection too many."""
+    words = ("--log", "pairs", "--connections", "1", "--stop-at-end-of-input")
+    with start(*words, stdin=subprocess.PIPE) as server:
+        next_read(server, "listening", "info")
+        with Client(server.port, timeout=SECONDS) as index:
+            index.put(b"a", b"v")
+            with socket.create_connection(("127.0.0.1", server.port), SECONDS) as other:
+                want_same("what comes on a connection too many", other.recv(1), b"")
+        want_same("a connection too many", next_read(server, "turned_away", "warn"), {"connections": "1"})
+        server.process.stdin.close()
+        want_same("who stopped it", next_read(server, "stopping", "info"), {"by": "end of input"})
+        next_read(server, "stopped", "info")
+
+
+def many_bad_frames(start: Start) -> None:
+    """Of a thousand faults at most ten a second are written, and a line of a later second counts the others."""
+    count = 1000
+    with start("--log", "pairs", "--workers", "2") as server:
+        next_read(server, "listening", "info")
+        began = time.monotonic()
+        for _ in range(count):
+            send_bad(server.port)
+        seconds = int(time.monotonic() - began) + 2
+        written = left_out = lines = 0
+        while written + left_out < count:
+            pairs = next_read(server, "ended", "warn")
+            lines += 1
+            left_out += int(pairs.get("left_out", 0))
+            written += "connection" in pairs
+        want_same("how many faults were told of", written + left_out, count)
+        want(lines <= MOST * (seconds + 1), f"{lines} lines in {seconds} seconds")
+        want(left_out > 0, "no line was left out")
+        with Client(server.port, timeout=SECONDS) as index:
+            want_same("a put afterwards", index.put(b"a", b"v"), 1)
+
+
+def faults_at_the_end(start: Start) -> None:
+    """At its end a server says how many lines it has left out, also in the last second."""
+    with start("--log", "pairs", "--stop-at-end-of-input", stdin=subprocess.PIPE) as server:
+        next_read(server, "listening", "info")
+        for _ in range(100):
+            send_bad(server.port)
+        server.process.stdin.close()
+        server.ended()
+        lines = [read_line(line) for line in server.rest_of_lines()]
+        ends = [pairs for _, _, word, pairs in lines if word == "ended"]
+        want_same("how many faults were told of", sum(int(pairs.get("left_out", 1)) for pairs in ends), 100)
+        want_same("the last line", lines[-1][2], "stopped")
+
+
+def standard_error_that_fails(start: Start) -> None:
+    """A server whose standard error is closed serves, whatever it has to say."""
+    with start() as server:
+        program = server.process.args[0]
+    for form in ("plain", "pairs"):
+        words = [program, "--log", form, "--forever"]
+        with subprocess.Popen(words, stdout=subprocess.DEVNULL, stderr=subprocess.PIPE) as process:
+            try:
+                assert process.stderr is not None
+                port = int(process.stderr.readline().split()[1])
+                process.stderr.close()
+                for _ in range(30):
+                    send_bad(port)
+                with Client(port, timeout=SECONDS) as index:
+                    want_same(f"a put with --log {form}", index.put(b"a", b"v"), 1)
+            finally:
+                process.kill()
+
+
+# ---- wrong secrets
+
+def wrong_secrets(start: Start) -> None:
+    """A hello with a wrong secret is answered a second later, also that of a client that was admitted. Then the
+    connection ends. Another client isn't delayed."""
+    with tempfile.TemporaryDirectory() as folder:
+        path = Path(folder, "tokens")
+        path.write_bytes(b"read " + READER + b"\nall " + OWNER + b"\n")
+        with start("--log", "pairs", "--workers", "1", "--token-file", str(path)) as server:
+            next_read(server, "listening", "info")
+            with Client(server.port, timeout=SECONDS, token=OWNER) as index:
+                for number, first in enumerate((b"", Hello(READER).spelled())):
+                    with socket.create_connection(("127.0.0.1", server.port), SECONDS) as guess:
+                        if first:
+                            guess.sendall(request_frame([first], 3))
+                            receive_body(guess)
+                        began = time.monotonic()
+                        guess.sendall(request_frame([Hello(b"a wrong secret..").spelled()], 3) * 5)
+                        said = next_read(server, "wrong_secret", "warn")
+                        want_same("how many there were", said["wrong_secrets"], str(number + 1))
+                        meanwhile = 0
+                        while not select.select([guess], [], [], 0)[0]:
+                            index.put(b"a", b"v")
+                            meanwhile += 1
+                        want(time.monotonic() - began >= 0.9, "a wrong secret is answered too early")
+                        want(meanwhile > 10, f"another client was answered {meanwhile} times meanwhile")
+                        receive_body(guess)
+                        want_same("what comes after one refusal", guess.recv(1), b"")
+                    ended = next_read(server, "ended", "warn")
+                    want_same("its end", (ended["connection"], ended["fault"]), (said["connection"], "8"))
+                index.stop()
+            server.ended()
+
+
+# ---- the limit of buffers
+
+DEAF, BUFFERS = 20, 8_000_000
+
+
+def giant_answers(start: Start) -> None:
+    """Of clients that ask for giant answers and never read, those whose answers pass the limit are ended; another one
+    is served meanwhile, and afterwards."""
+    giant = request_frame([GetRange().spelled()] * 64)
+    with start("--log", "pairs", "--workers", "2", "--buffers", str(BUFFERS)) as server, ExitStack() as deaf:
+        next_read(server, "listening", "info")
+        with Client(server.port, timeout=SECONDS) as index:
+            for at in range(0, 1000, 50):
+                with index.pipeline() as pipeline:
+                    for number in range(at, at + 50):
+                        pipeline.put(number.to_bytes(2, "big"), bytes(64))
+            connections = []
+            for _ in range(DEAF):
+                connection = deaf.enter_context(socket.create_connection(("127.0.0.1", server.port), SECONDS))
+                connection.sendall(giant)
+                connections.append(connection)
+                index.get(b"no such key")
+            for _ in range(DEAF // 2):
+                ended = next_read(server, "ended", "warn")
+                want_same("its fault", (ended["fault"], ended["reason"]), ("10", "too much output"))
+            for number in range(100):
+                want_same("a put beside them", index.put(b"a", b"v"), 1001 + number)
+            for connection in connections:
+                connection.close()
+            want_same("a range afterwards", len([*index.range()]), 1001)
+
+
+def inputs_beyond_the_limit(start: Start) -> None:
+    """Of frames that lack a byte as many bytes are read as may be kept, and more when others have gone. A small one is
+    answered meanwhile."""
+    put = Put(b"k" * 1000, b"v")
+    frame = request_frame([put.spelled()] * 64)
+    count, kept = 6, 3
+    with start("--workers", "1", "--buffers", str(4 * len(frame))) as server, ExitStack() as open_ones:
+        with Client(server.port, timeout=SECONDS) as index:
+            connections = []
+            for _ in range(count):
+                connection = open_ones.enter_context(socket.create_connection(("127.0.0.1", server.port), SECONDS))
+                connection.sendall(frame[:-1])
+                connections.append(connection)
+            want_same("a put beside them", index.put(b"a", b"v"), 1)
+            for connection in connections[kept:]:
+                connection.close()
+            for connection in connections[:kept]:
+                connection.sendall(frame[-1:])
+            for connection in connections[:kept]:
+                want_same("the answers", len(read_replies(receive_body(connection), [put] * 64)), 64)
+            want_same("the commits", index.put(b"a", b"v"), 2 + 64 * kept)
+
+
+CASES: List[Callable[[Start], None]] = [lines_of_pairs, lines_of_the_end_of_input, many_bad_frames, faults_at_the_end,
+                                        standard_error_that_fails, wrong_secrets, giant_answers,
+                                        inputs_beyond_the_limit]
