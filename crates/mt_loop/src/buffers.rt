@@ -32,6 +32,11 @@ impl Buffers {
         }
     }
 
+    /// Returns how many bytes are kept for all connections.
+    pub fn kept(&self) -> u64 {
+        self.kept.load(Ordering::Relaxed) as u64
+    }
+
     /// Returns whether as many more bytes may be kept.
     pub fn has_room(&self, more: usize) -> bool {
         self.most == 0 || self.kept.load(Ordering::Relaxed).saturating_add(more) <= self.most

@@ -279,6 +279,8 @@ impl<'a, R: Wait + Clock> Gauge<'a, R> {
             faults: self.tally.faults.load(Ordering::Relaxed) as u64,
             input_bytes: self.tally.input_bytes.load(Ordering::Relaxed) as u64,
             output_bytes: self.tally.output_bytes.load(Ordering::Relaxed) as u64,
+            wrong_secrets: self.tally.wrong_secrets.load(Ordering::Relaxed) as u64,
+            buffered_bytes: self.buffers.kept(),
             milliseconds: self.now(),
             views: None,
             watched: None,

@@ -85,7 +85,7 @@ abbrev pub numbers : Facts → List ℕ
 numbers facts =
     facts.commits ∷ facts.nodes ∷ facts.standing ∷ facts.logged ∷ facts.connections ∷ facts.accepted ∷ facts.turned_away
     ∷ facts.frames ∷ facts.queries ∷ facts.faults ∷ facts.input_bytes ∷ facts.output_bytes ∷ unwrap_or facts.durable 0
-    ∷ facts.milliseconds ∷ []
+    ∷ facts.wrong_secrets ∷ facts.buffered_bytes ∷ facts.milliseconds ∷ []
 
 -- the end of a wait for this number: whether the commits have reached it, or the view
 abbrev pub reached : ℕ → ℕ → Option ℕ → Response

@@ -28,13 +28,17 @@ pub struct Facts {
     pub connections: u64,
     pub accepted: u64,
     pub turned_away: u64,
-    /// How many frames and queries were answered, and how many sessions were broken off.
+    /// How many frames and queries were answered, how many sessions were broken off, and how many hellos had a wrong
+    /// secret.
     pub frames: u64,
     pub queries: u64,
     pub faults: u64,
+    pub wrong_secrets: u64,
     /// How many bytes were read of connections and written to them.
     pub input_bytes: u64,
     pub output_bytes: u64,
+    /// How many bytes of input and output are kept for all connections.
+    pub buffered_bytes: u64,
     /// The time since the start.
     pub milliseconds: u64,
     /// The views, if a client has asked for them.
@@ -78,6 +82,8 @@ impl Facts {
             count(b"input_bytes", self.input_bytes),
             count(b"output_bytes", self.output_bytes),
             count(b"durable", self.durable.unwrap_or(0)),
+            count(b"wrong_secrets", self.wrong_secrets),
+            count(b"buffered_bytes", self.buffered_bytes),
             count(b"uptime_ms", self.milliseconds),
         ]?)
     }
