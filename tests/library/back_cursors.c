@@ -229,7 +229,7 @@ static void all_removed(void) {
     ends("all_removed");
 }
 
-/* One cursor goes on and the other goes back. */
+/* One cursor returns the rows in the order of their keys, and the other against it. */
 static void both_ways(void) {
     rowanspan *index = numbered(3 * AT_ONCE);
     rowanspan_cursor *back = cursor_before(index, NULL, 0), *on = NULL;

@@ -94,7 +94,7 @@ def builds() -> None:
 
 
 def reads_back() -> None:
-    """Reads against the order of keys where memory ends: each returns its rows, or is refused."""
+    """Reads against the order of keys, while memory ends in them: each returns its rows, or is refused."""
     with Index() as index:
         library, refusals = wanting(index), 0
         for number in range(100):
