@@ -17,8 +17,9 @@
  *     The functions are thin: each passes its arguments to a function inside the library, of which it is proved what it
  *     does, by its contract in crates/rowanspan_c/src/exports.rt or view_exports.rt. (rowanspan_open also allocates
  *     what the pointer points to, rowanspan_get_column copies one column of the answer of rowanspan_get,
- *     rowanspan_totals reads its answer into a struct, and a cursor repeats rowanspan_range or rowanspan_view.) The
- *     thin functions, which are in bindings/c, and the inline functions of this header are only tested.
+ *     rowanspan_totals reads its answer into a struct, and a cursor repeats rowanspan_range, rowanspan_range_back or
+ *     rowanspan_view.) The thin functions, which are in bindings/c, and the inline functions of this header are only
+ *     tested.
  *
  * ORDER OF REFUSALS
  *     Limits are answered before memory. A call that breaks a limit of its keys, its columns, its test, its range or
@@ -255,13 +256,28 @@ rowanspan_status rowanspan_range(const rowanspan *index, const void *start, size
                                  const uint8_t *columns, size_t column_count, void *into, size_t room,
                                  uint64_t *length);
 
+/* rowanspan_range_back: writes the last rows whose keys are before a key to the buffer, the greatest key first, at most
+ * `limit` (1 to 1000). If `before` is null, they are the last rows of all, and `before_length` isn't used. If it isn't
+ * null and `before_length` is 0, it is the empty key, and no row is before that. The answer, the columns and *length
+ * are as of rowanspan_range.
+ *
+ * Cost: about twice that of a range. For each border of up to 15 rows there are a few visits of the nodes on the way to
+ * it. The memory for the answer is freed before the call returns.
+ *
+ * Returns OK, also if there are no rows. Returns NO_ROOM if the answer doesn't fit. Fails with KEY_TOO_LONG,
+ * BAD_COLUMN, BAD_LIMIT or NO_MEMORY. Unless it returns OK the buffer is as it was. */
+rowanspan_status rowanspan_range_back(const rowanspan *index, const void *before, size_t before_length, uint16_t limit,
+                                      const uint8_t *columns, size_t column_count, void *into, size_t room,
+                                      uint64_t *length);
+
 /* ---- cursors
  *
- * A cursor returns the rows from a key on, one after the other, in the order of their keys. It reads them by
- * rowanspan_range, or by rowanspan_view if it is a cursor over a view, up to 64 at a time, into a buffer of its own.
- * The index may be changed between two calls with a cursor: each key is still returned at most once, each key that has
- * a row throughout is returned, and each row is as it was when the cursor read it. A call with a cursor is a call on
- * its index too. A cursor has to be closed before its index is. */
+ * A cursor returns the rows from a key on, one after the other, in the order of their keys, or the rows before a key
+ * against that order. It reads them by rowanspan_range or rowanspan_range_back, or by rowanspan_view if it is a cursor
+ * over a view, up to 64 at a time, into a buffer of its own. The index may be changed between two calls with a cursor:
+ * each key is still returned at most once, each key that has a row throughout is returned, and each row is as it was
+ * when the cursor read it. A call with a cursor is a call on its index too. A cursor has to be closed before its index
+ * is. */
 
 /* A cursor, and a key with its row, which is defined at the end of this file. */
 typedef struct rowanspan_cursor rowanspan_cursor;
@@ -276,6 +292,18 @@ struct rowanspan_pair;
  * Returns OK, also if there are no rows. Fails with KEY_TOO_LONG, BAD_COLUMN or NO_MEMORY; *cursor is then null. */
 rowanspan_status rowanspan_cursor_open(const rowanspan *index, const void *start, size_t start_length,
                                        const uint8_t *columns, size_t column_count, rowanspan_cursor **cursor);
+
+/* rowanspan_cursor_open_back: opens a cursor over the rows whose keys are before a key, the greatest key first, and
+ * sets *cursor to it. If `before` is null, it is a cursor over all rows, as of rowanspan_range_back. The columns are as
+ * of rowanspan_get. The cursor is read by rowanspan_cursor_next, and the caller has to close it with
+ * rowanspan_cursor_close.
+ *
+ * Cost: that of a rowanspan_range_back of one row, by which the key and the columns are tested, and two allocations, of
+ * some 5,200 bytes together.
+ *
+ * Returns OK, also if there are no rows. Fails with KEY_TOO_LONG, BAD_COLUMN or NO_MEMORY; *cursor is then null. */
+rowanspan_status rowanspan_cursor_open_back(const rowanspan *index, const void *before, size_t before_length,
+                                            const uint8_t *columns, size_t column_count, rowanspan_cursor **cursor);
 
 /* rowanspan_view_cursor_open: opens a cursor over the rows that a view shows, from a key on, and sets *cursor to it. It
  * is read by rowanspan_cursor_next, and the caller has to close it with rowanspan_cursor_close.
@@ -295,8 +323,8 @@ rowanspan_status rowanspan_view_cursor_open(const rowanspan *index, uint64_t vie
 /* rowanspan_cursor_next: sets *pair to the next key and its row, whose columns rowanspan_read_bytes reads. Both point
  * into the cursor's buffer, and are good until the next call with this cursor.
  *
- * Cost: for the first row, and again after each 64 rows, that of a range or a page of 64 rows; of two, if the buffer
- * has to grow. The other calls only read the buffer.
+ * Cost: for the first row, and again after each 64 rows, that of a range, a range back or a page of 64 rows; of two, if
+ * the buffer has to grow. The other calls only read the buffer.
  *
  * Returns OK. Returns ABSENT if there are no more rows, and then each time. Fails with NO_MEMORY; the cursor is then as
  * it was, and can be asked again. Fails with NO_SUCH_VIEW, and then each time, if the view of the cursor was dropped

@@ -1,5 +1,5 @@
-/* cursor.c: a cursor, which reads some rows at a time by rowanspan_range or rowanspan_view, and returns one after the
- * other. */
+/* cursor.c: a cursor, which reads some rows at a time by rowanspan_range, rowanspan_range_back or rowanspan_view, and
+ * returns one after the other. */
 #include "rowanspan.h"
 
 #include <stdlib.h>
@@ -15,7 +15,9 @@ struct rowanspan_cursor {
     /* the rows that were read and not yet returned, and how many they are */
     struct rowanspan_reader reader;
     size_t left;
-    /* the key from which the next rows are read, if there may be more */
+    /* whether it returns rows against the order of their keys, and whether they are to be before a key */
+    bool is_back, is_bounded;
+    /* the key from which the next rows are read, or before which they are, if there may be more */
     bool may_have_more;
     uint8_t from[ROWANSPAN_MAX_KEY_BYTES];
     size_t from_length;
@@ -53,6 +55,10 @@ static rowanspan_status ask(const rowanspan_cursor *cursor, uint64_t *length) {
         return rowanspan_view(cursor->index, cursor->view, 0, cursor->from, cursor->from_length, ROWS, cursor->buffer,
                               cursor->size, length);
     }
+    if (cursor->is_back) {
+        return rowanspan_range_back(cursor->index, cursor->is_bounded ? cursor->from : NULL, cursor->from_length, ROWS,
+                                    cursor->columns, cursor->column_count, cursor->buffer, cursor->size, length);
+    }
     return rowanspan_range(cursor->index, cursor->from, cursor->from_length, ROWS, cursor->columns,
                            cursor->column_count, cursor->buffer, cursor->size, length);
 }
@@ -81,10 +87,16 @@ static rowanspan_status read_rows(rowanspan_cursor *cursor) {
     return ROWANSPAN_OK;
 }
 
-/* Sets `from` to the least key after this one. Returns whether there is one. */
+/* Sets `from` to the least key after this one, or to this one if the cursor goes back. Returns whether there can be a
+ * row from there on, or before it. */
 static bool continue_after(rowanspan_cursor *cursor, struct rowanspan_bytes key) {
     size_t length = key.length;
     memcpy(cursor->from, key.at, length);
+    if (cursor->is_back) {
+        cursor->is_bounded = true;
+        cursor->from_length = length;
+        return length > 0;
+    }
     if (length < ROWANSPAN_MAX_KEY_BYTES) {
         cursor->from[length] = 0;
         cursor->from_length = length + 1;
@@ -112,6 +124,8 @@ static rowanspan_status make(const rowanspan *index, uint64_t view, const void *
     made->index = index;
     made->view = view;
     made->left = 0;
+    made->is_back = false;
+    made->is_bounded = false;
     made->may_have_more = true;
     memcpy(made->from, rowanspan_bytes_at(start), start_length);
     made->from_length = start_length;
@@ -135,6 +149,21 @@ rowanspan_status rowanspan_cursor_open(const rowanspan *index, const void *start
     rowanspan_status status = rowanspan_range(index, start, start_length, 1, columns, column_count, NULL, 0, NULL);
     *cursor = NULL;
     return status == ROWANSPAN_NO_ROOM ? make(index, 0, start, start_length, columns, column_count, cursor) : status;
+}
+
+rowanspan_status rowanspan_cursor_open_back(const rowanspan *index, const void *before, size_t before_length,
+                                            const uint8_t *columns, size_t column_count, rowanspan_cursor **cursor) {
+    size_t length = before ? before_length : 0;
+    rowanspan_status status = rowanspan_range_back(index, before, length, 1, columns, column_count, NULL, 0, NULL);
+    *cursor = NULL;
+    if (status == ROWANSPAN_NO_ROOM) {
+        status = make(index, 0, before, length, columns, column_count, cursor);
+    }
+    if (*cursor) {
+        (*cursor)->is_back = true;
+        (*cursor)->is_bounded = before != NULL;
+    }
+    return status;
 }
 
 rowanspan_status rowanspan_view_cursor_open(const rowanspan *index, uint64_t view, const void *start,

@@ -29,6 +29,9 @@ uint16_t rowanspan_raw_get(raw_handle handle, const uint8_t *key, size_t key_len
                            size_t column_count, uint8_t *into, size_t room, uint64_t *told);
 uint16_t rowanspan_raw_range(raw_handle handle, const uint8_t *start, size_t start_length, uint16_t limit,
                              const uint8_t *columns, size_t column_count, uint8_t *into, size_t room, uint64_t *told);
+uint16_t rowanspan_raw_range_back(raw_handle handle, bool bounded, const uint8_t *before, size_t before_length,
+                                  uint16_t limit, const uint8_t *columns, size_t column_count, uint8_t *into,
+                                  size_t room, uint64_t *told);
 uint16_t rowanspan_raw_build_prefix(raw_handle handle, const uint8_t *prefix, size_t prefix_length,
                                     const struct rowanspan_test *test, uint64_t *told);
 uint16_t rowanspan_raw_build_from(raw_handle handle, const uint8_t *lo, size_t lo_length,

@@ -129,6 +129,17 @@ rowanspan_status rowanspan_range(const rowanspan *index, const void *start, size
                                                  into ? room : 0, length ? length : &unread);
 }
 
+rowanspan_status rowanspan_range_back(const rowanspan *index, const void *before, size_t before_length, uint16_t limit,
+                                      const uint8_t *columns, size_t column_count, void *into, size_t room,
+                                      uint64_t *length) {
+    uint64_t unread;
+    uint8_t none[1] = {0};
+    return (rowanspan_status)rowanspan_raw_range_back(raw_of(index), before != NULL, rowanspan_bytes_at(before),
+                                                      before ? before_length : 0, limit, rowanspan_bytes_at(columns),
+                                                      column_count, into ? into : none, into ? room : 0,
+                                                      length ? length : &unread);
+}
+
 /* ---- views */
 
 rowanspan_status rowanspan_build_prefix(rowanspan *index, const void *prefix, size_t prefix_length,

@@ -23,9 +23,10 @@ static PyObject *calls_get(Calls *self, PyObject *arguments) {
     return status == DONE ? value_in(self, answer, length, row_of) : undone();
 }
 
-/* A read of several rows: the range from `start` on, or the page of a view from there on. */
+/* A read of several rows: the range from `start` on, or that before it if it goes back (before the end if it has no
+ * bound), or the page of a view from there on. */
 struct query {
-    bool is_of_view;
+    bool is_of_view, is_back, is_bounded;
     uint64_t view, floor, limit;
     struct rowanspan_bytes start;
     uint8_t columns[COLUMNS];
@@ -36,6 +37,11 @@ static uint16_t ask(Calls *self, const struct query *query, const struct room *r
     if (query->is_of_view) {
         return self->library.view(self->handle, query->view, query->floor, query->start.at, query->start.length,
                                   (uint16_t)query->limit, room->at, room->size, length);
+    }
+    if (query->is_back) {
+        return self->library.range_back(self->handle, query->is_bounded, query->start.at, query->start.length,
+                                        (uint16_t)query->limit, query->columns, query->count, room->at, room->size,
+                                        length);
     }
     return self->library.range(self->handle, query->start.at, query->start.length, (uint16_t)query->limit,
                                query->columns, query->count, room->at, room->size, length);
@@ -85,6 +91,20 @@ static PyObject *calls_range(Calls *self, PyObject *arguments) {
         return NULL;
     }
     if (!bytes_in(PyTuple_GetItem(arguments, 0), &query.start) ||
+        !number_in(PyTuple_GetItem(arguments, 1), UINT16_MAX, &query.limit) ||
+        !columns_in(PyTuple_GetItem(arguments, 2), query.columns, &query.count)) {
+        return undone();
+    }
+    return answer_to(self, &query, pairs_of);
+}
+
+static PyObject *calls_range_back(Calls *self, PyObject *arguments) {
+    struct query query = {.is_back = true, .start = {(const uint8_t *)"", 0}};
+    if (!takes(arguments, 3)) {
+        return NULL;
+    }
+    query.is_bounded = PyTuple_GetItem(arguments, 0) != Py_None;
+    if ((query.is_bounded && !bytes_in(PyTuple_GetItem(arguments, 0), &query.start)) ||
         !number_in(PyTuple_GetItem(arguments, 1), UINT16_MAX, &query.limit) ||
         !columns_in(PyTuple_GetItem(arguments, 2), query.columns, &query.count)) {
         return undone();
@@ -197,6 +217,7 @@ static PyObject *calls_remove(Calls *self, PyObject *arguments) {
 PyMethodDef calls_methods[] = {
     {"get", (PyCFunction)calls_get, METH_VARARGS, "get(key, columns): the row, or None"},
     {"range", (PyCFunction)calls_range, METH_VARARGS, "range(start, limit, columns): pairs of a key and its row"},
+    {"range_back", (PyCFunction)calls_range_back, METH_VARARGS, "range_back(stop, limit, columns): pairs"},
     {"view", (PyCFunction)calls_view, METH_VARARGS, "view(number, floor, start, limit): the page"},
     {"totals", (PyCFunction)calls_totals, METH_VARARGS, "totals(number, floor): at, count and sums"},
     {"put", (PyCFunction)calls_put, METH_VARARGS, "put(index, key, sets): the number of the commit"},

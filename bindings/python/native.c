@@ -24,8 +24,9 @@ static bool address_in(PyObject *addresses, const char *name, void *to) {
 static bool functions_in(PyObject *addresses, struct functions *library) {
     return address_in(addresses, "get", &library->get) && address_in(addresses, "put", &library->put) &&
            address_in(addresses, "put_if", &library->put_if) && address_in(addresses, "remove", &library->remove) &&
-           address_in(addresses, "range", &library->range) && address_in(addresses, "view", &library->view) &&
-           address_in(addresses, "totals", &library->totals) &&
+           address_in(addresses, "range", &library->range) &&
+           address_in(addresses, "range_back", &library->range_back) &&
+           address_in(addresses, "view", &library->view) && address_in(addresses, "totals", &library->totals) &&
            address_in(addresses, "apply", &library->apply);
 }
 

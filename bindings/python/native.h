@@ -1,9 +1,9 @@
 /* native.h: what the files of the extension module rowanspan._native share.
  *
- * The module makes the most frequent calls of an embedded index: get, put, put_if, remove, range, and those of a view.
- * Its type Calls, of which an index has one, calls the library that ctypes has loaded: it is passed the addresses of
- * the library's functions, and of the index's handle. So there is one copy of the library in a process, and an index
- * takes calls of both kinds.
+ * The module makes the most frequent calls of an embedded index: get, put, put_if, remove, range, range_back, and those
+ * of a view. Its type Calls, of which an index has one, calls the library that ctypes has loaded: it is passed the
+ * addresses of the library's functions, and of the index's handle. So there is one copy of the library in a process,
+ * and an index takes calls of both kinds.
  *
  * Each call returns NotImplemented if it has changed nothing and has no answer: an argument isn't of the usual type,
  * another thread is in a call of the index, the library refuses the call, or memory ends. The caller then makes the
@@ -48,6 +48,7 @@ struct functions {
     __typeof__(rowanspan_raw_put_if) *put_if;
     __typeof__(rowanspan_raw_remove) *remove;
     __typeof__(rowanspan_raw_range) *range;
+    __typeof__(rowanspan_raw_range_back) *range_back;
     __typeof__(rowanspan_raw_view) *view;
     __typeof__(rowanspan_raw_totals) *totals;
     __typeof__(rowanspan_raw_apply) *apply;

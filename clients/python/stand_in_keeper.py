@@ -44,6 +44,7 @@ class Keeper:
         # of each connection since the start
         self.sessions: List[Session] = []
         self.open_connections = self.faults = self.frames = self.input_bytes = self.output_bytes = 0
+        self.wrong_secrets = 0
         # how the server ends, once it was asked to, and whether nothing more is answered then
         self.is_at_once = False
         self.stop: Callable[[bool], None] = lambda at_once: None
@@ -97,6 +98,7 @@ class Keeper:
         token, session.name = bytes_of(hello.token), bytes_of(hello.name)
         role = self._tokens.get(token) if self._tokens else Role.ALL
         if role is None:
+            self.wrong_secrets += 1
             return spelled_refusal(NotAllowed())
         session.role = role
         commits = self._index.commits
@@ -131,6 +133,7 @@ class Keeper:
                 "views": len(self._index.listing().views), "input_bytes": self.input_bytes,
                 "output_bytes": self.output_bytes,
                 "durable": 0 if self._index.log is None else self._index.log.durable,
+                "wrong_secrets": self.wrong_secrets, "buffered_bytes": 0,  # (each frame is answered before the next is read)
                 "uptime_ms": int(1000 * (time.monotonic() - self._began))}
 
 

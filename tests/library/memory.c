@@ -27,7 +27,7 @@ static bool is_same(const struct shown *a, const struct shown *b) {
         && memcmp(a->rows, b->rows, sizeof a->rows) == 0 && memcmp(a->page, b->page, sizeof a->page) == 0;
 }
 
-enum { KINDS = 11 };
+enum { KINDS = 12 };
 
 /* A call of each kind that allocates. The keys continue in new layers, and nodes are full. */
 static rowanspan_status call_of(rowanspan *index, int kind, uint64_t view, uint8_t *room, size_t size,
@@ -44,6 +44,7 @@ static rowanspan_status call_of(rowanspan *index, int kind, uint64_t view, uint8
     case 7: return rowanspan_view(index, view, 0, NULL, 0, 5, room, size, number);
     case 8: return rowanspan_feed(index, 0, 5, room, size, number);
     case 9: return rowanspan_get_column(index, "k03", 3, 0, room, size, number);
+    case 10: return rowanspan_range_back(index, "k09", 3, 5, NULL, 0, room, size, number);
     default: return rowanspan_apply(index, view, number);
     }
 }
@@ -221,15 +222,23 @@ static void totals_take_no_memory(void) {
     ends("totals_take_no_memory");
 }
 
-/* Opens a cursor over a view; if `view` is 0, over the rows of the index. */
-static rowanspan_status open_cursor(const rowanspan *index, uint64_t view, const char *start, size_t length,
-                                    rowanspan_cursor **cursor) {
-    return view ? rowanspan_view_cursor_open(index, view, start, length, cursor)
-                : rowanspan_cursor_open(index, start, length, NULL, 0, cursor);
+/* The kinds of cursors. */
+enum kind { OVER_ROWS, BACK, OVER_VIEW };
+
+/* Opens a cursor from a key on, or before it, over the rows of the index or of the view. */
+static rowanspan_status open_cursor(const rowanspan *index, enum kind kind, uint64_t view, const char *key,
+                                    size_t length, rowanspan_cursor **cursor) {
+    switch (kind) {
+    case BACK: return rowanspan_cursor_open_back(index, key, length, NULL, 0, cursor);
+    case OVER_VIEW: return rowanspan_view_cursor_open(index, view, key, length, cursor);
+    default: return rowanspan_cursor_open(index, key, length, NULL, 0, cursor);
+    }
 }
 
 /* A cursor that is refused holds no memory, and its limits are answered before memory. */
-static void no_memory_to_open_a_cursor(bool is_over_view) {
+static void no_memory_to_open_a_cursor(enum kind kind) {
+    static const char *const names[] = {"no_memory_to_open_a_cursor", "no_memory_to_open_a_cursor_back",
+                                        "no_memory_to_open_a_cursor_over_a_view"};
     static const uint8_t none_such[1] = {1};
     static const char long_key[ROWANSPAN_MAX_KEY_BYTES + 1];
     rowanspan *index = opened(1, 16, 0);
@@ -237,26 +246,27 @@ static void no_memory_to_open_a_cursor(bool is_over_view) {
     long allocations, before;
     rowanspan_status status = ROWANSPAN_NO_MEMORY;
     begins();
-    WANT_SAME(rowanspan_build_prefix(index, NULL, 0, rowanspan_any(), is_over_view ? &view : NULL), ROWANSPAN_OK);
+    WANT_SAME(rowanspan_build_prefix(index, NULL, 0, rowanspan_any(), &view), ROWANSPAN_OK);
     before = memory_held();
     for (allocations = 0; status == ROWANSPAN_NO_MEMORY && allocations < 100; allocations++) {
         rowanspan_cursor *cursor;
         memory_ends_after(allocations);
-        status = open_cursor(index, view, "key", 3, &cursor);
+        status = open_cursor(index, kind, view, "key", 3, &cursor);
         memory_ends_after(-1);
         WANT((cursor != NULL) == (status == ROWANSPAN_OK));
         rowanspan_cursor_close(cursor);
         WANT_SAME(memory_held(), before);
         memory_ends_after(allocations);
         WANT_SAME(rowanspan_cursor_open(index, "key", 3, none_such, 1, &cursor), ROWANSPAN_BAD_COLUMN);
+        WANT_SAME(rowanspan_cursor_open_back(index, "key", 3, none_such, 1, &cursor), ROWANSPAN_BAD_COLUMN);
         WANT_SAME(rowanspan_view_cursor_open(index, 9, "key", 3, &cursor), ROWANSPAN_NO_SUCH_VIEW);
-        WANT_SAME(open_cursor(index, view, long_key, sizeof long_key, &cursor), ROWANSPAN_KEY_TOO_LONG);
+        WANT_SAME(open_cursor(index, kind, view, long_key, sizeof long_key, &cursor), ROWANSPAN_KEY_TOO_LONG);
         memory_ends_after(-1);
     }
     WANT(allocations > 2);
     WANT_SAME(status, ROWANSPAN_OK);
     rowanspan_close(index);
-    ends(is_over_view ? "no_memory_to_open_a_cursor_over_a_view" : "no_memory_to_open_a_cursor");
+    ends(names[kind]);
 }
 
 enum { CURSOR_ROWS = 150 };
@@ -285,7 +295,9 @@ static long refusals_of_next(rowanspan_cursor *cursor, int number) {
 
 /* A cursor that was refused memory returns the same row when it is asked again. It allocates only when it reads rows,
  * and not at the end. Its buffer, which has to grow here, is freed when it is closed. */
-static void no_memory_for_a_cursor(bool is_over_view) {
+static void no_memory_for_a_cursor(enum kind kind) {
+    static const char *const names[] = {"no_memory_for_a_cursor", "no_memory_for_a_cursor_back",
+                                        "no_memory_for_a_cursor_over_a_view"};
     rowanspan *index = opened(COLUMNS, 1024, 0);
     rowanspan_cursor *cursor;
     struct rowanspan_pair pair;
@@ -299,11 +311,11 @@ static void no_memory_for_a_cursor(bool is_over_view) {
         snprintf(key, sizeof key, "k%03d", i);
         put_greatest(index, key);
     }
-    WANT_SAME(rowanspan_build_prefix(index, NULL, 0, rowanspan_any(), is_over_view ? &view : NULL), ROWANSPAN_OK);
+    WANT_SAME(rowanspan_build_prefix(index, NULL, 0, rowanspan_any(), &view), ROWANSPAN_OK);
     before = memory_held();
-    WANT_SAME(open_cursor(index, view, NULL, 0, &cursor), ROWANSPAN_OK);
+    WANT_SAME(open_cursor(index, kind, view, NULL, 0, &cursor), ROWANSPAN_OK);
     for (i = 0; i < CURSOR_ROWS; i++) {
-        WANT((refusals_of_next(cursor, i) > 0) == (i % 64 == 0));
+        WANT((refusals_of_next(cursor, kind == BACK ? CURSOR_ROWS - 1 - i : i) > 0) == (i % 64 == 0));
     }
     memory_ends_after(0);
     status = rowanspan_cursor_next(cursor, &pair);
@@ -312,7 +324,7 @@ static void no_memory_for_a_cursor(bool is_over_view) {
     rowanspan_cursor_close(cursor);
     WANT_SAME(memory_held(), before);
     rowanspan_close(index);
-    ends(is_over_view ? "no_memory_for_a_cursor_over_a_view" : "no_memory_for_a_cursor");
+    ends(names[kind]);
 }
 
 /* What an index held is freed when it is closed, a thousand times. */
@@ -354,6 +366,7 @@ static void removed_rows_are_freed(void) {
 }
 
 int main(void) {
+    int kind;
     memory_ends_after = (void (*)(long))dlsym(RTLD_DEFAULT, "memory_ends_after");
     memory_held = (long (*)(void))dlsym(RTLD_DEFAULT, "memory_held");
     if (!memory_ends_after || !memory_held) {
@@ -365,10 +378,10 @@ int main(void) {
     no_memory_to_open();
     gets_take_no_memory();
     totals_take_no_memory();
-    no_memory_to_open_a_cursor(false);
-    no_memory_to_open_a_cursor(true);
-    no_memory_for_a_cursor(false);
-    no_memory_for_a_cursor(true);
+    for (kind = OVER_ROWS; kind <= OVER_VIEW; kind++) {
+        no_memory_to_open_a_cursor((enum kind)kind);
+        no_memory_for_a_cursor((enum kind)kind);
+    }
     opened_and_closed();
     removed_rows_are_freed();
     return all_told();

@@ -93,6 +93,25 @@ def builds() -> None:
             assert index.view(number).page(index.commits()).count == 10
 
 
+def reads_back() -> None:
+    """Reads against the order of keys, while memory ends in them: each returns its rows, or is refused."""
+    with Index() as index:
+        library, refusals = wanting(index), 0
+        for number in range(100):
+            index.put(b"%06d" % number, b"v")
+        rows = list(index.range())[::-1]
+        for allowed in range(2000):
+            library.allowed = {"range_back": allowed}
+            try:
+                assert index.last(b"000070", 50) == rows[30:80]
+                assert index.last_item(b"00000") == rows[90]
+                assert list(index.range(reverse=True)) == rows
+                break
+            except NoMemory:
+                refusals += 1
+        assert 2 < refusals < 1999, refusals
+
+
 def wanted(allowed: int, call: Callable[[], Any]) -> Any:
     """What a call of the extension module returns where memory ends after so many allocations."""
     PRELOADED.memory_ends_after(allowed)
@@ -125,18 +144,21 @@ def calls_of_the_module() -> None:
             if view.at < commit:
                 lags += 1
                 assert index._views_lag
-        first = index.first(b"", 100)
+        first, last = index.first(b"", 100), index.last(None, 100)
         for allowed in range(200):
             for limit in (1, 100):
                 pairs = wanted(allowed, lambda: calls.range(b"", limit, None))
                 ends += pairs is None or pairs is NotImplemented
                 assert pairs is None or pairs is NotImplemented or pairs == first[:limit]
+                pairs = wanted(allowed, lambda: calls.range_back(None, limit, None))
+                ends += pairs is None or pairs is NotImplemented
+                assert pairs is None or pairs is NotImplemented or pairs == last[:limit]
         index.keep_views()
         assert lags > 10 and refusals > 10 and ends > 1, (lags, refusals, ends)
         assert dict(index.range()) == plain and view.page(index.commits()).count == len(plain)
 
 
-CASES = (puts, builds, calls_of_the_module)
+CASES = (puts, builds, reads_back, calls_of_the_module)
 
 
 def main() -> int:

@@ -223,8 +223,9 @@ impl Index {
         }
     }
 
-    /// The rows whose keys are in a range, in the order of their keys. A range that ends before it begins has none.
-    /// They are read by 32 at first, and then by more, up to 1000 at a time.
+    /// The rows whose keys are in a range, in the order of their keys, or against it by [`rev`](Iterator::rev). A range
+    /// that ends before it begins has none. They are read by 32 at first, and then by more, up to 1000 at a time, from
+    /// either end.
     ///
     /// ```
     /// # let mut index = rowanspan::Index::open(rowanspan::Options::default())?;
@@ -234,13 +235,16 @@ impl Index {
     /// assert_eq!(index.range("b"..).count(), 2);
     /// assert_eq!(index.range((Bound::Excluded("a"), Bound::Included("c"))).count(), 2);
     /// assert_eq!(index.range(..).count(), 3);
+    /// let (key, _) = index.range(.."c").next_back().expect("there are keys before c")?;
+    /// assert_eq!(key, b"b");
     /// # Ok::<(), rowanspan::Error>(())
     /// ```
     ///
     /// # Errors
     ///
-    /// The call doesn't fail. An item of the iterator may be [`NoMemory`](Error::NoMemory), and the first one is
-    /// [`KeyTooLong`](Error::KeyTooLong) if the key is that the range begins with. After an error the iterator ends.
+    /// The call doesn't fail. An item of the iterator may be [`NoMemory`](Error::NoMemory), and the first one of either
+    /// end is [`KeyTooLong`](Error::KeyTooLong) if the key is that the range begins with. After an error the iterator
+    /// ends.
     pub fn range(&self, range: impl KeyRange) -> Pairs<'_> {
         Pairs::of_range(Source::Own(self), &range)
     }
@@ -302,6 +306,67 @@ impl Index {
             |room| self.library.range(start.as_ref(), limit, columns, room),
             |mut reader| reader.pairs(),
         )
+    }
+
+    /// The last rows whose keys are before a key, or the last rows of all if `before` is none; the greatest key first.
+    /// Limit and columns are as of [`first`](Index::first). It costs about twice as much.
+    ///
+    /// ```
+    /// # let mut index = rowanspan::Index::open(rowanspan::Options::default())?;
+    /// # for key in ["a", "b", "c"] { index.put(key, &[])?; }
+    /// let pairs = index.last(Some(b"c"), 1000, &[])?;
+    /// assert_eq!((pairs.len(), &pairs[0].0[..], &pairs[1].0[..]), (2, &b"b"[..], &b"a"[..]));
+    /// assert_eq!(index.last(None, 1, &[])?[0].0, b"c");
+    /// # Ok::<(), rowanspan::Error>(())
+    /// ```
+    ///
+    /// # Errors
+    ///
+    /// Those of [`first`](Index::first).
+    pub fn last(
+        &self,
+        before: Option<&[u8]>,
+        limit: u16,
+        columns: &[u8],
+    ) -> Result<Vec<(Vec<u8>, Row)>, Error> {
+        some_answer(
+            |room| self.library.range_back(before, limit, columns, room),
+            |mut reader| reader.pairs(),
+        )
+    }
+
+    /// The row with the least key, or none if there are no rows.
+    ///
+    /// ```
+    /// # let mut index = rowanspan::Index::open(rowanspan::Options::default())?;
+    /// assert_eq!(index.first_key_value()?, None);
+    /// # for key in ["a", "b", "c"] { index.put(key, &[])?; }
+    /// assert_eq!(index.first_key_value()?.expect("there are rows").0, b"a");
+    /// # Ok::<(), rowanspan::Error>(())
+    /// ```
+    ///
+    /// # Errors
+    ///
+    /// [`NoMemory`](Error::NoMemory).
+    pub fn first_key_value(&self) -> Result<Option<(Vec<u8>, Row)>, Error> {
+        Ok(self.first("", 1, &[])?.pop())
+    }
+
+    /// The row with the greatest key, or none if there are no rows.
+    ///
+    /// ```
+    /// # let mut index = rowanspan::Index::open(rowanspan::Options::default())?;
+    /// assert_eq!(index.last_key_value()?, None);
+    /// # for key in ["a", "b", "c"] { index.put(key, &[])?; }
+    /// assert_eq!(index.last_key_value()?.expect("there are rows").0, b"c");
+    /// # Ok::<(), rowanspan::Error>(())
+    /// ```
+    ///
+    /// # Errors
+    ///
+    /// [`NoMemory`](Error::NoMemory).
+    pub fn last_key_value(&self) -> Result<Option<(Vec<u8>, Row)>, Error> {
+        Ok(self.last(None, 1, &[])?.pop())
     }
 }
 

@@ -81,8 +81,18 @@ fn after_key(key: &[u8]) -> Option<Vec<u8>> {
     }
 }
 
-// How many rows are read first; the next times four times as many, up to MAX_LIMIT.
-const FIRST_LIMIT: u16 = 32;
+// The key before which all keys of this end are, and no others; none if that holds for all keys.
+fn key_at_end(end: &Bound<Vec<u8>>) -> Option<Vec<u8>> {
+    match end {
+        // (no key is as long, so those before it are those up to what it begins with)
+        Bound::Included(key) | Bound::Excluded(key) if key.len() > MAX_KEY_BYTES => {
+            after_key(&key[..MAX_KEY_BYTES])
+        }
+        Bound::Included(key) => after_key(key),
+        Bound::Excluded(key) => Some(key.clone()),
+        Bound::Unbounded => None,
+    }
+}
 
 /// The index that a range reads.
 #[derive(Clone, Copy, Debug)]
@@ -98,46 +108,23 @@ impl Source<'_> {
             Source::Shared(index) => index.first(start, limit, &[]),
         }
     }
-}
 
-/// The rows of a range, in the order of their keys: see [`Index::range`] and [`Index::prefix`]. After an error it ends.
-#[derive(Debug)]
-#[must_use = "an iterator reads no rows before it is asked for them"]
-pub struct Pairs<'a> {
-    source: Source<'a>,
-    // the key from which the next rows are read, if there may be more
-    next: Option<Vec<u8>>,
-    end: Bound<Vec<u8>>,
-    limit: u16,
-    read: IntoIter<(Vec<u8>, Row)>,
-}
-
-impl<'a> Pairs<'a> {
-    pub(crate) fn of_range(source: Source<'a>, range: &impl KeyRange) -> Pairs<'a> {
-        let (start, end) = range.bounds();
-        let next = match start {
-            Bound::Included(key) => Some(key),
-            Bound::Excluded(key) => after_key(&key),
-            Bound::Unbounded => Some(Vec::new()),
-        };
-        Pairs::new(source, next, end)
-    }
-
-    pub(crate) fn of_prefix(source: Source<'a>, prefix: &[u8]) -> Pairs<'a> {
-        let end = after_prefix(prefix).map_or(Bound::Unbounded, Bound::Excluded);
-        Pairs::new(source, Some(prefix.to_vec()), end)
-    }
-
-    fn new(source: Source<'a>, next: Option<Vec<u8>>, end: Bound<Vec<u8>>) -> Pairs<'a> {
-        Pairs {
-            source,
-            next,
-            end,
-            limit: FIRST_LIMIT,
-            read: Vec::new().into_iter(),
+    fn last(self, before: Option<&[u8]>, limit: u16) -> Result<Vec<(Vec<u8>, Row)>, Error> {
+        match self {
+            Source::Own(index) => index.last(before, limit, &[]),
+            Source::Shared(index) => index.last(before, limit, &[]),
         }
     }
+}
 
+// The keys of a range that weren't read yet.
+#[derive(Debug)]
+struct Unread {
+    start: Vec<u8>,
+    end: Bound<Vec<u8>>,
+}
+
+impl Unread {
     fn is_past_end(&self, key: &[u8]) -> bool {
         match &self.end {
             Bound::Included(end) => key > &end[..],
@@ -146,19 +133,121 @@ impl<'a> Pairs<'a> {
         }
     }
 
-    fn read_more(&mut self, from: &[u8]) -> Result<(), Error> {
-        let mut pairs = self.source.first(from, self.limit)?;
-        if pairs.len() == usize::from(self.limit) {
-            self.next = pairs.last().and_then(|(key, _)| after_key(key));
-            self.limit = self.limit.saturating_mul(4).min(MAX_LIMIT);
+    fn is_empty(&self) -> bool {
+        self.is_past_end(&self.start)
+    }
+}
+
+// How many rows are read first; the next times four times as many, up to MAX_LIMIT.
+const FIRST_LIMIT: u16 = 32;
+
+// The rows that one end of an iterator has read and not yet returned, and how many it reads next.
+#[derive(Debug)]
+struct End {
+    read: IntoIter<(Vec<u8>, Row)>,
+    limit: u16,
+}
+
+impl End {
+    fn new() -> End {
+        End {
+            read: Vec::new().into_iter(),
+            limit: FIRST_LIMIT,
         }
-        let inside = pairs.partition_point(|(key, _)| !self.is_past_end(key));
-        if inside < pairs.len() {
-            pairs.truncate(inside);
-            self.next = None;
-        }
+    }
+
+    // Keeps the rows that were read, of which the first ones are of the range. Returns the key of the last one if there
+    // may be more after it.
+    fn keep(&mut self, mut pairs: Vec<(Vec<u8>, Row)>, inside: usize) -> Option<Vec<u8>> {
+        let last = match inside == usize::from(self.limit) {
+            true => pairs.last().map(|(key, _)| key.clone()),
+            false => None,
+        };
+        pairs.truncate(inside);
         self.read = pairs.into_iter();
+        self.limit = self.limit.saturating_mul(4).min(MAX_LIMIT);
+        last
+    }
+}
+
+/// The rows of a range, in the order of their keys: see [`Index::range`] and [`Index::prefix`]. It is read from both
+/// ends: [`rev`](Iterator::rev) returns the rows against that order, and
+/// [`next_back`](DoubleEndedIterator::next_back) the last one. Each row is returned once. After an error it ends.
+#[derive(Debug)]
+#[must_use = "an iterator reads no rows before it is asked for them"]
+pub struct Pairs<'a> {
+    source: Source<'a>,
+    // the keys between those that both ends have read, if there may be any
+    unread: Option<Unread>,
+    front: End,
+    // (its rows are against the order of their keys)
+    back: End,
+}
+
+impl<'a> Pairs<'a> {
+    pub(crate) fn of_range(source: Source<'a>, range: &impl KeyRange) -> Pairs<'a> {
+        let (start, end) = range.bounds();
+        let start = match start {
+            Bound::Included(key) => Some(key),
+            Bound::Excluded(key) => after_key(&key),
+            Bound::Unbounded => Some(Vec::new()),
+        };
+        Pairs::new(source, start, end)
+    }
+
+    pub(crate) fn of_prefix(source: Source<'a>, prefix: &[u8]) -> Pairs<'a> {
+        let end = after_prefix(prefix).map_or(Bound::Unbounded, Bound::Excluded);
+        Pairs::new(source, Some(prefix.to_vec()), end)
+    }
+
+    fn new(source: Source<'a>, start: Option<Vec<u8>>, end: Bound<Vec<u8>>) -> Pairs<'a> {
+        Pairs {
+            source,
+            unread: start.map(|start| Unread { start, end }),
+            front: End::new(),
+            back: End::new(),
+        }
+    }
+
+    fn read_front(&mut self, unread: Unread) -> Result<(), Error> {
+        let pairs = self.source.first(&unread.start, self.front.limit)?;
+        let inside = pairs.partition_point(|(key, _)| !unread.is_past_end(key));
+        let next = self.front.keep(pairs, inside);
+        self.unread = next.and_then(|key| after_key(&key)).map(|start| Unread {
+            start,
+            end: unread.end,
+        });
         Ok(())
+    }
+
+    fn read_back(&mut self, unread: Unread) -> Result<(), Error> {
+        if unread.start.len() > MAX_KEY_BYTES {
+            return Err(Error::KeyTooLong);
+        }
+        let before = key_at_end(&unread.end);
+        let pairs = self.source.last(before.as_deref(), self.back.limit)?;
+        let inside = pairs.partition_point(|(key, _)| *key >= unread.start);
+        self.unread = self.back.keep(pairs, inside).map(|key| Unread {
+            start: unread.start,
+            end: Bound::Excluded(key),
+        });
+        Ok(())
+    }
+
+    // Reads rows by this function if there may be some that weren't read. After an error none are left.
+    fn read_more(
+        &mut self,
+        read: impl FnOnce(&mut Self, Unread) -> Result<(), Error>,
+    ) -> Result<(), Error> {
+        let Some(unread) = self.unread.take().filter(|unread| !unread.is_empty()) else {
+            return Ok(());
+        };
+        let done = read(self, unread);
+        if done.is_err() {
+            self.front = End::new();
+            self.back = End::new();
+        }
+        done
     }
 }
 
@@ -166,17 +255,27 @@ impl Iterator for Pairs<'_> {
     type Item = Result<(Vec<u8>, Row), Error>;
 
     fn next(&mut self) -> Option<Self::Item> {
-        if let Some(pair) = self.read.next() {
+        if let Some(pair) = self.front.read.next() {
             return Some(Ok(pair));
         }
-        let from = self.next.take()?;
-        if self.is_past_end(&from) {
-            return None;
+        if let Err(error) = self.read_more(Self::read_front) {
+            return Some(Err(error));
         }
-        match self.read_more(&from) {
-            Ok(()) => self.read.next().map(Ok),
-            Err(error) => Some(Err(error)),
+        let pair = self.front.read.next();
+        pair.or_else(|| self.back.read.next_back()).map(Ok)
+    }
+}
+
+impl DoubleEndedIterator for Pairs<'_> {
+    fn next_back(&mut self) -> Option<Self::Item> {
+        if let Some(pair) = self.back.read.next() {
+            return Some(Ok(pair));
         }
+        if let Err(error) = self.read_more(Self::read_back) {
+            return Some(Err(error));
+        }
+        let pair = self.back.read.next();
+        pair.or_else(|| self.front.read.next_back()).map(Ok)
     }
 }
 

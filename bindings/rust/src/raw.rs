@@ -102,6 +102,8 @@ extern "C" {
                             length: Number) -> c_uint;
     fn rowanspan_range(index: Handle, start: *const u8, start_length: usize, limit: u16, columns: *const u8,
                        column_count: usize, into: *mut u8, room: usize, length: Number) -> c_uint;
+    fn rowanspan_range_back(index: Handle, before: *const u8, before_length: usize, limit: u16, columns: *const u8,
+                            column_count: usize, into: *mut u8, room: usize, length: Number) -> c_uint;
     fn rowanspan_build_prefix(index: Handle, prefix: *const u8, prefix_length: usize, test: ViewTest<'_>,
                               view: Number) -> c_uint;
     fn rowanspan_build_from(index: Handle, lo: *const u8, lo_length: usize, test: ViewTest<'_>,
@@ -145,8 +147,9 @@ unsafe impl Send for Library {}
 macro_rules! call {
     ($library:expr, $symbol:ident $(, $argument:expr)*) => {
         // SAFETY: the index is one that `open` has made and that isn't closed, and no other call is open: `Library`
-        // isn't `Sync`. Pointers are those of references that live during the call, with their lengths. Those that the
-        // call writes through are of `&mut`, so that none overlaps another.
+        // isn't `Sync`. Pointers are those of references that live during the call, with their lengths, or null for the
+        // key that a range back may be without. Those that the call writes through are of `&mut`, so that none overlaps
+        // another.
         unsafe { $symbol($library.index.as_ptr() $(, $argument)*) }
     };
 }
@@ -199,6 +202,14 @@ impl Library {
     pub(crate) fn range(&self, start: &[u8], limit: u16, columns: &[u8], into: &mut [u8]) -> (u32, u64) {
         answered!(self, rowanspan_range, start.as_ptr(), start.len(), limit, columns.as_ptr(), columns.len(),
                   into.as_mut_ptr(), into.len())
+    }
+
+    pub(crate) fn range_back(&self, before: Option<&[u8]>, limit: u16, columns: &[u8],
+                             into: &mut [u8]) -> (u32, u64) {
+        // (the pointer of a key is never null, also if the key is empty)
+        let (at, length) = before.map_or((std::ptr::null(), 0), |key| (key.as_ptr(), key.len()));
+        answered!(self, rowanspan_range_back, at, length, limit, columns.as_ptr(), columns.len(), into.as_mut_ptr(),
+                  into.len())
     }
 
     pub(crate) fn build_prefix(&mut self, prefix: &[u8], test: ViewTest<'_>) -> (u32, u64) {

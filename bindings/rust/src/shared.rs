@@ -81,6 +81,9 @@ impl SharedIndex {
         fn get_column(key: impl AsRef<[u8]>, column: u8) -> Option<Vec<u8>>;
         fn contains_key(key: impl AsRef<[u8]>) -> bool;
         fn first(start: impl AsRef<[u8]>, limit: u16, columns: &[u8]) -> Vec<(Vec<u8>, Row)>;
+        fn last(before: Option<&[u8]>, limit: u16, columns: &[u8]) -> Vec<(Vec<u8>, Row)>;
+        fn first_key_value() -> Option<(Vec<u8>, Row)>;
+        fn last_key_value() -> Option<(Vec<u8>, Row)>;
         fn build(keys: Keys<'_>, test: RowTest<'_>) -> View;
         fn apply(view: Option<View>) -> Option<u64>;
         fn keep_views() -> u64;

@@ -1,6 +1,6 @@
 //! Ranges and prefixes against a `BTreeMap`, and what errors and the version say.
 
-use rowanspan::{Error, Index, Options, MAX_KEY_BYTES};
+use rowanspan::{Error, Index, Options, Row, MAX_KEY_BYTES};
 use std::collections::{BTreeMap, BTreeSet};
 use std::ops::Bound;
 
@@ -14,8 +14,13 @@ fn index_of(keys: &[Vec<u8>]) -> Result<Index, Error> {
     Ok(index)
 }
 
-fn keys_of(pairs: rowanspan::Pairs<'_>) -> Result<Keys, Error> {
+fn keys_of(pairs: impl Iterator<Item = Result<(Vec<u8>, Row), Error>>) -> Result<Keys, Error> {
     pairs.map(|pair| Ok(pair?.0)).collect()
+}
+
+fn reversed(mut keys: Keys) -> Keys {
+    keys.reverse();
+    keys
 }
 
 #[test]
@@ -109,8 +114,13 @@ fn bounds_against_a_map() -> Result<(), Error> {
                         false => Keys::new(),
                     };
                     assert_eq!(
-                        keys_of(index.range((start.clone(), end)))?,
+                        keys_of(index.range((start.clone(), end.clone())))?,
                         wanted,
+                        "{lo:?} {hi:?}"
+                    );
+                    assert_eq!(
+                        keys_of(index.range((start.clone(), end)).rev())?,
+                        reversed(wanted),
                         "{lo:?} {hi:?}"
                     );
                 }
@@ -132,6 +142,7 @@ fn prefixes_against_a_map() -> Result<(), Error> {
             .collect();
         assert!(!wanted.is_empty());
         assert_eq!(keys_of(index.prefix(prefix))?, wanted, "{prefix:?}");
+        assert_eq!(keys_of(index.prefix(prefix).rev())?, reversed(wanted));
     }
     Ok(())
 }
@@ -150,6 +161,14 @@ fn ends_among_many() -> Result<(), Error> {
         assert_eq!(
             keys_of(index.range(key(7)..=key(count)))?,
             keys[7..(count + 1).clamp(7, 3000)]
+        );
+        assert_eq!(
+            keys_of(index.range(..key(count)).rev())?,
+            reversed(keys[..count].to_vec())
+        );
+        assert_eq!(
+            keys_of(index.range(key(count)..).rev())?,
+            reversed(keys[count..].to_vec())
         );
     }
     let mut pairs = index.range(key(2999)..);
@@ -170,7 +189,15 @@ fn keys_that_are_too_long() -> Result<(), Error> {
         assert_eq!(pairs.next(), Some(Err(Error::KeyTooLong)));
         assert_eq!(pairs.next(), None);
     }
-    assert_eq!(index.range(..long).count(), 1);
+    for mut pairs in [index.range(long.clone()..), index.prefix(&long)] {
+        assert_eq!(pairs.next_back(), Some(Err(Error::KeyTooLong)));
+        assert_eq!((pairs.next_back(), pairs.next()), (None, None));
+    }
+    assert_eq!(index.range(..long.clone()).count(), 1);
+    assert_eq!(index.range(..long.clone()).rev().count(), 1);
+    assert_eq!(index.range(..=long).rev().count(), 1);
+    assert_eq!(index.range(..vec![u8::MAX; 2000]).rev().count(), 1);
+    assert_eq!(index.range(..vec![b'j'; 2000]).rev().count(), 0);
     Ok(())
 }
 

@@ -105,6 +105,7 @@ PARAMETERS: Dict[str, List[Any]] = {
     "tidy": BYTES,
     "get": [*BYTES, *BYTES, *ROOM],
     "range": [*BYTES, U16, *BYTES, *ROOM],
+    "range_back": [ctypes.c_bool, *BYTES, U16, *BYTES, *ROOM],
     "build_prefix": [*BYTES, ctypes.POINTER(ViewTest)],
     "build_from": [*BYTES, ctypes.POINTER(ViewTest)],
     "build_between": [*BYTES, *BYTES, ctypes.POINTER(ViewTest)],

@@ -158,10 +158,7 @@ class RowMap(abc.ABC):
 
         It reads by calls of `first`, of 1000 rows at most. If something is changed between two calls, after the last
         key that was returned, the iterator may see it or not. Arguments are checked at once."""
-        front = b"" if prefix is None else checked_key(prefix, "a prefix")
-        begin = max(front, checked_key(start))
-        ends = [prefix_end(front), None if stop is None else checked_key(stop)]
-        end = min((one for one in ends if one is not None), default=None)
+        begin, end = bounds_of(start, stop, prefix)
         most = None if limit is None else checked_count(limit, "a limit")
         numbers = None if columns is None else checked_columns(columns)
         return scanned(lambda key, count: self.first(key, count, numbers), begin, end, most)
@@ -312,6 +309,14 @@ def number_of_view(index: RowMap, view: Union[View, int]) -> int:
     if view.index is not index:
         raise WrongIndex(f"this is a view of another index: {view!r}")
     return view.number
+
+
+def bounds_of(start: bytes, stop: Optional[bytes], prefix: Optional[bytes]) -> Tuple[bytes, Optional[bytes]]:
+    """The key from which on a range has rows, and the one before which it has them, if there is one."""
+    front = b"" if prefix is None else checked_key(prefix, "a prefix")
+    begin = max(front, checked_key(start))
+    ends = [prefix_end(front), None if stop is None else checked_key(stop)]
+    return begin, min((one for one in ends if one is not None), default=None)
 
 
 def scanned(read: Callable[[bytes, int], Pairs], start: bytes, stop: Optional[bytes] = None,

@@ -18,7 +18,7 @@ from .places import PACKAGE, checkout
 SUFFIX = ".abi3.so"
 NAME = f"_native{SUFFIX}"
 # the functions of the library that it calls
-FUNCTIONS = ("get", "put", "put_if", "remove", "range", "view", "totals", "apply")
+FUNCTIONS = ("get", "put", "put_if", "remove", "range", "range_back", "view", "totals", "apply")
 
 
 class NoCalls:
@@ -28,6 +28,9 @@ class NoCalls:
         return NotImplemented
 
     def range(self, start: Any, limit: Any, columns: Any) -> Any:
+        return NotImplemented
+
+    def range_back(self, stop: Any, limit: Any, columns: Any) -> Any:
         return NotImplemented
 
     def view(self, number: Any, floor: Any, start: Any, limit: Any) -> Any:
