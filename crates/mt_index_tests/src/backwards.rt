@@ -57,7 +57,10 @@ fn walks_back(rt: HostRuntime) -> Result<(), Fail> {
     let map = filled(rt.alloc())?;
     assert_eq!(rt; walks(&map, None, &KEYS), Ok(true));
     assert_eq!(rt; walks(&map, Some(b"pear"), &KEYS[..7]), Ok(true));
-    assert_eq!(rt; walks(&map, Some(b"apricots/dried/2"), &KEYS[..5]), Ok(true));
+    assert_eq!(rt;
+        walks(&map, Some(b"apricots/dried/2"), &KEYS[..5]),
+        Ok(true)
+    );
     assert_eq!(rt; walks(&map, Some(b"apricots/dried/"), &KEYS[..4]), Ok(true));
     assert_eq!(rt; walks(&map, Some(b"apricots/"), &KEYS[..3]), Ok(true));
     assert_eq!(rt; walks(&map, Some(b"apricots"), &KEYS[..2]), Ok(true));
@@ -92,7 +95,11 @@ fn bounds_of_walks_back(rt: HostRuntime) -> Result<(), Fail> {
     let turned = (Bound::Included(KEYS[4]), Bound::Included(KEYS[1]));
     assert_eq!(rt; within(&map, turned, b""), Ok((0, false)));
     let long = [7; 1025];
-    assert_eq!(rt; map.range_back((Bound::Unbounded, Bound::Excluded(&long))).is_err(), true);
+    assert_eq!(rt;
+        map.range_back((Bound::Unbounded, Bound::Excluded(&long)))
+            .is_err(),
+        true
+    );
     let longest = [7; 1024];
     let end = (Bound::Unbounded, Bound::Included(longest.as_slice()));
     assert_eq!(rt; within(&map, end, b""), Ok((1, true)));
@@ -117,7 +124,10 @@ fn ranges_back(rt: HostRuntime) -> Result<(), Fail> {
     let pairs = map.pairs_back(Some(b"apricots/b"), 2, &[0])?;
     assert_eq!(rt; pairs.len(), 2);
     assert_eq!(rt; pairs[0].0.as_slice(), b"apricots/a".as_slice());
-    assert_eq!(rt; (pairs[0].1.version, pairs[0].1.columns.get_or_empty(0).len()), (5, 1));
+    assert_eq!(rt;
+        (pairs[0].1.version, pairs[0].1.columns.get_or_empty(0).len()),
+        (5, 1)
+    );
     assert_eq!(rt; pairs[1].0.as_slice(), b"apricots".as_slice());
     assert_eq!(rt; map.pairs_back(None, 1000, &[])?.len(), 8);
     assert_eq!(rt; map.pairs_back(Some(b""), 1000, &[])?.len(), 0);
