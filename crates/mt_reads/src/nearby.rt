@@ -18,6 +18,9 @@ use std::alloc::Global;
 // How many borders are looked at for one begin, at most.
 const LOOKS: u32 = 8;
 
+// For how many bytes of a key there is room at first.
+const ROOM: usize = 64;
+
 // What is in front of a place of a layer.
 #[derive(Drop)]
 enum Front {
@@ -32,15 +35,13 @@ enum Front {
 // Appends the greatest bytes, to the end of a slice and for one slice more.
 fn pad(bytes: &mut Vec<u8>) -> Result<(), NoMemory> {
     let most = 2 * SLICE_BYTES - bytes.len() % SLICE_BYTES;
-    for _ in 0..most {
-        bytes.push(u8::MAX)?;
-    }
+    bytes.extend_from_slice(&[u8::MAX; 2 * SLICE_BYTES][..most])?;
     Ok(())
 }
 
 // Returns the bytes after which nearly no key is before `end`, or nearly no key is.
 fn just_before(alloc: Global, end: Option<&[u8]>) -> Result<Vec<u8>, NoMemory> {
-    let mut bytes = Vec::new(alloc);
+    let mut bytes = Vec::with_capacity(alloc, ROOM)?;
     if let Some(end) = end {
         bytes.extend_from_slice(end)?;
         match bytes.pop() {
@@ -91,9 +92,9 @@ fn push_entry(bytes: &mut Vec<u8>, entry: &Entry) -> Result<(), NoMemory> {
     let slice = entry.slice.to_be_bytes();
     match &entry.content {
         Content::Short(length, _) => {
-            for byte in slice.into_iter().take(length.get()) {
-                bytes.push(byte)?;
-            }
+            let before = bytes.len();
+            bytes.extend_from_slice(&slice)?;
+            bytes.truncate(before + length.get());
         }
         Content::Long(suffix, _) => {
             bytes.extend_from_slice(&slice)?;
@@ -137,7 +138,7 @@ fn begin_in(
 {
     let rest = rest_of(key, layer);
     let above = &key_bytes(key)[..SLICE_BYTES * layer];
-    let mut bytes = Vec::new(alloc);
+    let mut bytes = Vec::with_capacity(alloc, ROOM)?;
     bytes.extend_from_slice(above)?;
     match look(border, rest) {
         Front::From(place) if place < border.len() => {

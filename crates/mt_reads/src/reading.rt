@@ -20,8 +20,10 @@ use mt_types::refusal::NoMemory;
 use mt_types::row::Row;
 use std::alloc::Global;
 
-// For how many rows there is room at first: those of a border.
+// For how many rows there is room at first, those of a border, and for how many bytes of their keys.
 const ROOM: usize = 16;
+
+const ROOM_BYTES: usize = 512;
 
 /// Rows in the order of their keys, each with the place at which its key begins in the bytes.
 #[derive(Drop)]
@@ -77,7 +79,7 @@ fn read<'m>(
 {
     let _stands = machine.is_idle();
     let mut walk = Rows::of(alloc, machine, start)?;
-    let mut keys = Vec::new(alloc);
+    let mut keys = Vec::with_capacity(alloc, ROOM_BYTES)?;
     let mut rows = Vec::with_capacity(alloc, ROOM)?;
     while let Some(row) = walk.next()? {
         let key = walk.key();

@@ -105,12 +105,13 @@ pub fn all_phases<S: Store>(kind: Kind, count: usize, views: usize) -> Outcome<F
 }
 
 fn without_views<S: Store>(plan: &Plan, rounds: usize) -> Outcome<Figures> {
-    let [mut new, mut over, mut get, mut absent, mut range, mut remove] = [
+    let [mut new, mut over, mut get, mut absent, mut range, mut back, mut remove] = [
         "put new",
         "put over",
         "get",
         "get absent",
         "range of 100",
+        "range back of 100",
         "remove",
     ]
     .map(Phase::new);
@@ -131,11 +132,15 @@ fn without_views<S: Store>(plan: &Plan, rounds: usize) -> Outcome<Figures> {
             let rows = black_box(store.range(key, ROWS_OF_RANGE)?);
             expect(!rows.is_empty(), "a range")
         })?;
+        back.measure(&plan.starts, |key| {
+            let _rows = black_box(store.range_back(key, ROWS_OF_RANGE)?);
+            Ok(())
+        })?;
         remove.measure(&plan.over, |(key, _)| {
             expect(store.remove(key)?, "a remove")
         })?;
     }
-    let phases = [new, over, get, absent, range, remove];
+    let phases = [new, over, get, absent, range, back, remove];
     let mut figures: Figures = phases.iter().map(Phase::figure).collect();
     figures.push(("bytes a key", bytes.unwrap_or(0.0)));
     Ok(figures)

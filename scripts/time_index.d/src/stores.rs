@@ -28,6 +28,9 @@ pub trait Store: Sized {
     /// Copies of the first rows from a key on, with their keys.
     fn range(&self, start: &[u8], limit: u16) -> Outcome<Vec<(Vec<u8>, Self::Row)>>;
 
+    /// Copies of the last rows before a key, with their keys, that of the greatest key first.
+    fn range_back(&self, before: &[u8], limit: u16) -> Outcome<Vec<(Vec<u8>, Self::Row)>>;
+
     /// Ends the row of a key; whether there was one.
     fn remove(&self, key: &[u8]) -> Outcome<bool>;
 
@@ -82,6 +85,10 @@ impl Store for Indexed {
 
     fn range(&self, start: &[u8], limit: u16) -> Outcome<Vec<(Vec<u8>, rowanspan::Row)>> {
         Ok(locked(&self.index).first(start, limit, &[])?)
+    }
+
+    fn range_back(&self, before: &[u8], limit: u16) -> Outcome<Vec<(Vec<u8>, rowanspan::Row)>> {
+        Ok(locked(&self.index).last(Some(before), limit, &[])?)
     }
 
     fn remove(&self, key: &[u8]) -> Outcome<bool> {
@@ -176,6 +183,19 @@ impl Store for Mapped {
             .rows
             .range::<[u8], _>((std::ops::Bound::Included(start), std::ops::Bound::Unbounded));
         Ok(rows
+            .take(limit.into())
+            .map(|(key, columns)| (key.clone(), columns.clone()))
+            .collect())
+    }
+
+    fn range_back(&self, before: &[u8], limit: u16) -> Outcome<Vec<(Vec<u8>, Columns)>> {
+        let map = locked(&self.map);
+        let rows = map.rows.range::<[u8], _>((
+            std::ops::Bound::Unbounded,
+            std::ops::Bound::Excluded(before),
+        ));
+        Ok(rows
+            .rev()
             .take(limit.into())
             .map(|(key, columns)| (key.clone(), columns.clone()))
             .collect())

@@ -26,7 +26,7 @@ loop-rows-preserved c =
 pub returns : goal.returns
 returns c =
     let walk = c.loop-rows.walk in
-    elim c.match-branch-4.branch [
+    elim c.match-branch-5.branch [
       | in-Some+then-not-is_before w ↦ reading_stops c.args.machine.now c.args.start.now (option_copied c.args.end) walk c.next.new.self c.loop-rows.keys.items c.loop-rows.rows.items c.loop-rows.invariant.read
           w.in-Some.row.now w.key-key.result.now c.requires.before
           (subst (λ row. (h : History) → Stands walk.machine h → GivesNext (rows walk.machine.columns (moment h)) walk.at (option_copied row) c.next.new.self.at) w.in-Some.is c.in_ok-row.ensures.row)
