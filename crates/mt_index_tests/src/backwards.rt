@@ -4,7 +4,9 @@ use mt_asked::borrowed::Set;
 use mt_asked::bounds::Bounds;
 use mt_index::options::Options;
 use mt_map::map::Map;
+use mt_types::key::Key;
 use mt_types::refusal::Refusal;
+use mt_types::row::Row;
 use std::alloc::Global;
 use std::ops::Bound;
 use std::test::Fail;
@@ -118,26 +120,30 @@ fn last_of_a_map(rt: HostRuntime) -> Result<(), Fail> {
     Ok(())
 }
 
+// Whether this is the pair of a key, with a row of this version.
+fn is_pair(pair: Option<&(Key, Row)>, key: &[u8], version: u64) -> bool {
+    match pair {
+        Some((found, row)) => found.as_slice() == key && row.version == version,
+        None => false,
+    }
+}
+
 #[test]
 fn ranges_back(rt: HostRuntime) -> Result<(), Fail> {
     let map = filled(rt.alloc())?;
     let pairs = map.pairs_back(Some(b"apricots/b"), 2, &[0])?;
     assert_eq!(rt; pairs.len(), 2);
-    assert_eq!(rt; pairs[0].0.as_slice(), b"apricots/a".as_slice());
-    assert_eq!(rt;
-        (pairs[0].1.version, pairs[0].1.columns.get_or_empty(0).len()),
-        (5, 1)
-    );
-    assert_eq!(rt; pairs[1].0.as_slice(), b"apricots".as_slice());
+    assert!(rt; is_pair(pairs.as_slice().first(), b"apricots/a", 5));
+    assert!(rt; is_pair(pairs.as_slice().get(1), b"apricots", 6));
     assert_eq!(rt; map.pairs_back(None, 1000, &[])?.len(), 8);
     assert_eq!(rt; map.pairs_back(Some(b""), 1000, &[])?.len(), 0);
-    assert_eq!(rt; map.pairs_back(None, 0, &[]).is_err(), true);
-    assert_eq!(rt; map.pairs_back(None, 1, &[1]).is_err(), true);
-    assert_eq!(rt; map.pairs_back(Some(&[7; 1025]), 1, &[]).is_err(), true);
+    assert!(rt; map.pairs_back(None, 0, &[]).is_err());
+    assert!(rt; map.pairs_back(None, 1, &[1]).is_err());
+    assert!(rt; map.pairs_back(Some(&[7; 1025]), 1, &[]).is_err());
     Ok(())
 }
 
-// The key of a number: of one to 24 bytes, so that there are layers, of which the numbers are spread.
+// The key of a number: of four to 20 bytes, so that there are layers, of which the numbers are spread.
 fn key_of(alloc: Global, number: u32) -> Result<Vec<u8>, Refusal> {
     let mut key = Vec::new(alloc);
     for _ in 0..number % 3 {
