@@ -260,7 +260,7 @@ impl Connection {
         self.is_woken = false;
         self.began = None;
         self.budget = self.budget.saturating_sub(self.weight);
-        // (a hello gives a role, or none, whatever an earlier one has given)
+        // (a hello decides the role again)
         server.keeper.role = if is_hello {
             server.keeper.first_role()
         } else {

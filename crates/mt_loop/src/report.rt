@@ -31,7 +31,7 @@ pub enum Asker {
 pub enum Report<'a> {
     /// The server listens at an address.
     Listening(Address<'a>),
-    /// A session was broken off, after so many queries were answered.
+    /// A session was broken off, after this number of queries was answered.
     Ended {
         origin: Origin,
         fault: ConnectionFault,

@@ -14,7 +14,7 @@ pub struct Utc {
 }
 
 impl Utc {
-    /// Returns the second that it is now. A clock that fails gives the first second of 1970.
+    /// Returns the second that it is now. The first second of 1970 if the clock fails.
     pub fn now<R: Clock>(rt: &R) -> Utc {
         let seconds = match SystemTime::now(rt) {
             Ok(time) => match time.duration_since(UNIX_EPOCH) {
