@@ -153,6 +153,43 @@ fn views_of_a_client(rt: HostRuntime) -> Result<(), Fail> {
     Ok(())
 }
 
+// Puts some rows, and reads ranges back of them: how many rows each has, and the version of its first one.
+fn put_and_read_back<R: Wait>(
+    client: &mut Client<Door<'_, R>>,
+    before: Option<&[u8]>,
+) -> Result<Option<(usize, u64, u64)>, Refusal> {
+    for key in [b"a", b"b", b"c", b"d"] {
+        let _ = client.put(key, &RED)?;
+    }
+    let Some(read) = client.pairs_back(before, 2, &[0])? else {
+        return Ok(None);
+    };
+    let first = read.value.as_slice().first().map(|(_, row)| row.version);
+    Ok(Some((read.value.len(), first.unwrap_or(0), read.to)))
+}
+
+#[test]
+fn ranges_back_of_a_client(rt: HostRuntime) -> Result<(), Fail> {
+    let alloc = rt.alloc();
+    let (index, mut passes) = SharedMap::start(alloc, Options::default(), 1)?;
+    let pass = passes.pop().ok_or("pass")?;
+    let mut client = Client::new(alloc, Door::new(&index, &rt, 64), pass);
+    assert_eq!(rt; put_and_read_back(&mut client, None), Ok(Some((2, 4, 4))));
+    assert_eq!(rt;
+        put_and_read_back(&mut client, Some(b"c")),
+        Ok(Some((2, 6, 8)))
+    );
+    assert_eq!(rt;
+        put_and_read_back(&mut client, Some(b"b")),
+        Ok(Some((1, 9, 12)))
+    );
+    assert_eq!(rt; client.pairs_back(Some(&[7; 1025]), 1, &[]).is_err(), true);
+    assert_eq!(rt; client.pairs_back(None, 0, &[]).is_err(), true);
+    passes.push(client.pass)?;
+    assert_eq!(rt; index.close(passes)?.commits, 12);
+    Ok(())
+}
+
 // Builds a view, puts, and reads a page. Returns the page, and how many events that made.
 fn put_and_page<R: Wait>(client: &mut Client<Door<'_, R>>) -> Result<(Page, u64), Refusal> {
     let view = value(client.build(&BEGINS_WITH_A))?;
