@@ -270,6 +270,18 @@ rowanspan_status rowanspan_range_back(const rowanspan *index, const void *before
                                       const uint8_t *columns, size_t column_count, void *into, size_t room,
                                       uint64_t *length);
 
+/* rowanspan_count: counts the rows whose keys are from `start` on and before `end`, up to `most`: *count is their
+ * number, or `most` if there are more. If `end` is null, the range has no end, and `end_length` isn't used. If it isn't
+ * null and `end_length` is 0, it is the empty key, and no row is before that.
+ *
+ * Cost: a walk, one step for each row that is counted and one more, and memory for the key at which it is, which is
+ * freed before the call returns. It copies no row. Threads that share the index by a mutex wait until it returns, which
+ * `most` bounds. A view has its count ready (rowanspan_totals).
+ *
+ * Returns OK, also if there are no rows or `most` is 0. Fails with KEY_TOO_LONG, for either key, or NO_MEMORY. */
+rowanspan_status rowanspan_count(const rowanspan *index, const void *start, size_t start_length, const void *end,
+                                 size_t end_length, uint32_t most, uint32_t *count);
+
 /* ---- cursors
  *
  * A cursor returns the rows from a key on, one after the other, in the order of their keys, or the rows before a key

@@ -32,6 +32,8 @@ uint16_t rowanspan_raw_range(raw_handle handle, const uint8_t *start, size_t sta
 uint16_t rowanspan_raw_range_back(raw_handle handle, bool bounded, const uint8_t *before, size_t before_length,
                                   uint16_t limit, const uint8_t *columns, size_t column_count, uint8_t *into,
                                   size_t room, uint64_t *told);
+uint16_t rowanspan_raw_count(raw_handle handle, const uint8_t *start, size_t start_length, bool bounded,
+                             const uint8_t *end, size_t end_length, uint32_t most, uint64_t *told);
 uint16_t rowanspan_raw_build_prefix(raw_handle handle, const uint8_t *prefix, size_t prefix_length,
                                     const struct rowanspan_test *test, uint64_t *told);
 uint16_t rowanspan_raw_build_from(raw_handle handle, const uint8_t *lo, size_t lo_length,

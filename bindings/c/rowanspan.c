@@ -140,6 +140,19 @@ rowanspan_status rowanspan_range_back(const rowanspan *index, const void *before
                                                       length ? length : &unread);
 }
 
+rowanspan_status rowanspan_count(const rowanspan *index, const void *start, size_t start_length, const void *end,
+                                 size_t end_length, uint32_t most, uint32_t *count) {
+    uint64_t counted = 0;
+    rowanspan_status status = (rowanspan_status)rowanspan_raw_count(raw_of(index), rowanspan_bytes_at(start),
+                                                                    start_length, end != NULL, rowanspan_bytes_at(end),
+                                                                    end ? end_length : 0, most, &counted);
+    if (count) {
+        /* (it is at most `most`) */
+        *count = (uint32_t)counted;
+    }
+    return status;
+}
+
 /* ---- views */
 
 rowanspan_status rowanspan_build_prefix(rowanspan *index, const void *prefix, size_t prefix_length,

@@ -112,6 +112,25 @@ static PyObject *calls_range_back(Calls *self, PyObject *arguments) {
     return answer_to(self, &query, pairs_of);
 }
 
+static PyObject *calls_count(Calls *self, PyObject *arguments) {
+    struct rowanspan_bytes start, stop = {(const uint8_t *)"", 0};
+    uint64_t most, count;
+    bool is_bounded;
+    uint16_t status;
+    if (!takes(arguments, 3)) {
+        return NULL;
+    }
+    is_bounded = PyTuple_GetItem(arguments, 1) != Py_None;
+    if (!bytes_in(PyTuple_GetItem(arguments, 0), &start) ||
+        (is_bounded && !bytes_in(PyTuple_GetItem(arguments, 1), &stop)) ||
+        !number_in(PyTuple_GetItem(arguments, 2), UINT32_MAX, &most) || !is_free(&self->lock)) {
+        return undone();
+    }
+    status = self->library.count(self->handle, start.at, start.length, is_bounded, stop.at, stop.length,
+                                 most < COUNTED_ROWS ? (uint32_t)most : COUNTED_ROWS, &count);
+    return status == DONE && count < COUNTED_ROWS ? PyLong_FromUnsignedLongLong(count) : undone();
+}
+
 static PyObject *calls_view(Calls *self, PyObject *arguments) {
     struct query query = {.is_of_view = true};
     if (!takes(arguments, 4)) {
@@ -218,6 +237,7 @@ PyMethodDef calls_methods[] = {
     {"get", (PyCFunction)calls_get, METH_VARARGS, "get(key, columns): the row, or None"},
     {"range", (PyCFunction)calls_range, METH_VARARGS, "range(start, limit, columns): pairs of a key and its row"},
     {"range_back", (PyCFunction)calls_range_back, METH_VARARGS, "range_back(stop, limit, columns): pairs"},
+    {"count", (PyCFunction)calls_count, METH_VARARGS, "count(start, stop, most): how many rows"},
     {"view", (PyCFunction)calls_view, METH_VARARGS, "view(number, floor, start, limit): the page"},
     {"totals", (PyCFunction)calls_totals, METH_VARARGS, "totals(number, floor): at, count and sums"},
     {"put", (PyCFunction)calls_put, METH_VARARGS, "put(index, key, sets): the number of the commit"},

@@ -1,13 +1,14 @@
 /* native.h: what the files of the extension module rowanspan._native share.
  *
- * The module makes the most frequent calls of an embedded index: get, put, put_if, remove, range, range_back, and those
- * of a view. Its type Calls, of which an index has one, calls the library that ctypes has loaded: it is passed the
- * addresses of the library's functions, and of the index's handle. So there is one copy of the library in a process,
- * and an index takes calls of both kinds.
+ * The module makes the most frequent calls of an embedded index: get, put, put_if, remove, range, range_back, count,
+ * and those of a view. Its type Calls, of which an index has one, calls the library that ctypes has loaded: it is
+ * passed the addresses of the library's functions, and of the index's handle. So there is one copy of the library in a
+ * process, and an index takes calls of both kinds.
  *
  * Each call returns NotImplemented if it has changed nothing and has no answer: an argument isn't of the usual type,
- * another thread is in a call of the index, the library refuses the call, or memory ends. The caller then makes the
- * call by ctypes, which waits for the other thread, or raises what has to be raised.
+ * another thread is in a call of the index, the library refuses the call, memory ends, or there are COUNTED_ROWS rows
+ * or more to count. The caller then makes the call by ctypes, which waits for the other thread, or raises what has to be
+ * raised.
  *
  * A call holds the interpreter's lock from its first to its last call of the library, and no code in Python runs in
  * between. A call by ctypes releases the interpreter's lock: it holds the index's lock, which a call here tests. Code
@@ -30,7 +31,10 @@ enum {
     ROW_BYTES = 16 + 72 * COLUMNS,
     /* the most bytes of the totals of a view */
     TOTALS_BYTES = 24 + 16 * COLUMNS,
-    FIRST_ROOM = 4096
+    FIRST_ROOM = 4096,
+    /* a call counts fewer rows than that. To count them takes about as long as a call by ctypes takes besides: so it
+     * costs little that ctypes counts them again, and other threads of the interpreter don't wait for a long count. */
+    COUNTED_ROWS = 256
 };
 
 /* The lock of an index: the thread that holds it may take it again. Only threads that hold the interpreter's lock read
@@ -49,6 +53,7 @@ struct functions {
     __typeof__(rowanspan_raw_remove) *remove;
     __typeof__(rowanspan_raw_range) *range;
     __typeof__(rowanspan_raw_range_back) *range_back;
+    __typeof__(rowanspan_raw_count) *count;
     __typeof__(rowanspan_raw_view) *view;
     __typeof__(rowanspan_raw_totals) *totals;
     __typeof__(rowanspan_raw_apply) *apply;

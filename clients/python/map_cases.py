@@ -59,6 +59,20 @@ class MapCases:
             with self.assertRaises(TypeError):
                 call()
 
+    def test_get_many(self) -> None:
+        index = self.index
+        self.assertEqual((index.get_many([]), index.get_many([b"a", b""])), ([], [None, None]))
+        a, b = index.put(b"a", {0: b"v", 1: b"w"}), index.put(b"", b"x")
+        self.assertEqual(index.get_many([b"b", b"a", b"", b"a"]), [
+            None, Row(a, (b"v", b"w")), Row(b, (b"x", b"")), Row(a, (b"v", b"w"))])
+        self.assertEqual(index.get_many((key for key in (b"a", bytearray(b"a"))), [1]), [Row(a, (b"w",))] * 2)
+        self.assertEqual(index.get_many([b"a"] * 1000), [Row(a, (b"v", b"w"))] * 1000)
+        for kind, arguments in (
+                (KeyTooLong, ([b"a", bytes(MAX_KEY_BYTES + 1)],)), (BadColumn, ([b"a"], [2])), (TypeError, (b"ab",)),
+                (BadLimit, ([b"a"] * 1001,)), (TypeError, (["a"],)), (TypeError, (5,)), (TypeError, ([b"a"], 1))):
+            with self.subTest(kind=kind), self.assertRaises(kind):
+                index.get_many(*arguments)  # type: ignore[arg-type]
+
     def test_changes_by_brackets(self) -> None:
         index = self.index
         index[b"a"] = b"v"

@@ -11,10 +11,11 @@ import time
 from contextlib import ExitStack
 from typing import Any, Callable, ContextManager, Dict, List, Mapping, Sequence
 
-from rowanspan import (AnyRow, AtLeast, Build, Client, ConnectionLost, Equals, Get, GetInfo, GetRange, Hello, InMemory,
-                       ListViews, NoSuchView, NotAllowed, Outcome, Ping, Prefix, Put, PutIf, Query, Range, Refused,
-                       Remove, Reply, Role, Row, StandingView, Stop, Tidy, TooMuchAtOnce, ViewDrop, ViewRead, Wait,
-                       WaitDurable, read_replies, receive_body, request_frame)
+from rowanspan import (AnyRow, AtLeast, BadLimit, Build, Client, ConnectionLost, CountRange, Equals, Get, GetInfo,
+                       GetMany, GetRange, GetRangeBack, Hello, InMemory, ListViews, NoSuchView, NotAllowed, Outcome,
+                       Ping, Prefix, Put, PutIf, Query, Range, Refused, Remove, Reply, Role, Row, StandingView, Stop,
+                       Tidy, TooMuchAtOnce, ViewDrop, ViewRead, Wait, WaitDurable, read_replies, receive_body,
+                       request_frame)
 
 # a token of each role
 READER, WRITER, OWNER = b"reader-0123456789", b"writer-0123456789", b"owner-0123456789a"
@@ -27,7 +28,8 @@ COLUMNS = 2
 Start = Callable[[Mapping[bytes, Role]], ContextManager[int]]
 Case = Callable[[Start], None]
 
-READS: Sequence[Query[Any]] = (Get(b"a"), GetRange(), ViewRead(1), Ping(5), GetInfo())
+READS: Sequence[Query[Any]] = (Get(b"a"), GetRange(), GetMany([b"a"]), GetRangeBack(), CountRange(), ViewRead(1),
+                               Ping(5), GetInfo())
 LISTS: Sequence[Query[Any]] = (ListViews(), Wait(0))
 WRITES: Sequence[Query[Any]] = (Put(b"b", b"v"), PutIf(b"c", b"v", 0), Remove(b"b"), Tidy(b"b"), Build(Prefix(b"")),
                                 ViewDrop(2))
@@ -195,6 +197,52 @@ def info(start: Start) -> None:
         want_same("commits", after["commits"], 2)
 
 
+# ---- reads of one moment
+
+def reads_of_one_moment(start: Start) -> None:
+    """Gets of many keys, ranges back and counts, against a sorted list."""
+    keys = [b"%04d" % number for number in range(1200)]
+    rows = [Row(number, (key, b"")) for number, key in enumerate(keys, 1)]
+    with start(OPEN) as port, client(port) as index, client(port) as other:
+        want_same("no rows", (index.get_many([b"a", b""]), index.last(), index.count()), ([None, None], [], 0))
+        for at in range(0, len(keys), 64):
+            other.call_all([Put(key, key) for key in keys[at:at + 64]])
+        want_same("gets", index.get_many([b"a", *keys[999:0:-1]]), [None, *rows[999:0:-1]])
+        want_same("gets of a column", index.get_many([keys[5], keys[5]], [1]), [Row(6, (b"",))] * 2)
+        want_same("a range back", list(index.range(reverse=True)), list(zip(keys, rows))[::-1])
+        want_same("one between keys", [key for key, _ in index.range(keys[100], keys[1150], reverse=True)],
+                  keys[1149:99:-1])
+        want_same("counts", (index.count(), index.count(keys[7], keys[900]), index.count(prefix=b"01", most=50)),
+                  (1200, 893, 50))
+        refused = index.call_all([GetMany([b""] * 1001), GetRangeBack(None, 1001), CountRange(most=1_000_001),
+                                  Get(b"a")])
+        want_same("what is refused", [type(one) for one in refused], [BadLimit] * 3 + [Reply])
+
+
+def reads_among_changes(start: Start) -> None:
+    """Two rows that are changed one after the other: no answer has the second change without the first."""
+    with start(OPEN) as port, client(port) as index, client(port) as other:
+        ended: List[int] = []
+
+        def change() -> None:
+            for number in range(1, 301):
+                value = number.to_bytes(2, "big")
+                other.put(b"a", value)
+                other.put(b"b", value)
+            ended.append(300)
+
+        changing, seen = later(0, change), 0
+        while not ended:
+            found = [0 if row is None else int.from_bytes(row.columns[0], "big")
+                     for row in index.get_many([b"b", b"a"])]
+            want(seen <= found[0] <= found[1] <= found[0] + 1, f"{found} after {seen}")
+            pairs = {key: int.from_bytes(row.columns[0], "big") for key, row in index.last()}
+            want(found[1] <= pairs.get(b"a", 0) <= pairs.get(b"b", 0) + 1, f"{pairs} after {found}")
+            seen = pairs.get(b"b", 0)
+        changing.join()
+        want_same("the count afterwards", index.count(b"a", b"b"), 1)
+
+
 # ---- the list of views
 
 def lists_by_role(start: Start) -> None:
@@ -333,5 +381,5 @@ def stops(start: Start) -> None:
 
 CASES: List[Case] = [
     hello_without_tokens, hello_with_tokens, nothing_before_hello, what_a_reader_may, what_a_writer_may, hello_again,
-    versions_after_hello, alone_in_its_frame, pings, info, lists_by_role, views, wait_for_commits, wait_for_a_view,
-    waits_of_many, nothing_is_durable, stops]
+    versions_after_hello, alone_in_its_frame, pings, info, reads_of_one_moment, reads_among_changes, lists_by_role,
+    views, wait_for_commits, wait_for_a_view, waits_of_many, nothing_is_durable, stops]

@@ -6,11 +6,12 @@ import threading
 from typing import Any, Dict, List, Optional, Sequence, Tuple
 
 import rowanspan as wire
-from rowanspan import (AnswerKind, AnyRow, AtLeast, Equals, Get, GetRange, Listing, Page, Pairs, Prefix, Put, PutIf,
-                       Query, Refused, Remove, Row, RowTest, Settled, StandingView, Tidied, Tidy, ViewDrop, ViewNo,
-                       ViewRead, ViewSpec, Wait, Waited, WaitDurable, set_pairs, spelled_number)
+from rowanspan import (AnswerKind, AnyRow, AtLeast, CountRange, Equals, Get, GetMany, GetRange, GetRangeBack, Listing,
+                       Page, Pairs, Prefix, Put, PutIf, Query, Refused, Remove, Row, RowsAt, RowTest, Settled,
+                       StandingView, Tidied, Tidy, ViewDrop, ViewNo, ViewRead, ViewSpec, Wait, Waited, WaitDurable,
+                       set_pairs, spelled_number)
 from stand_in_log import Change, FileLog, Log
-from stand_in_wire import spelled_done, spelled_page, spelled_pairs, spelled_refusal, spelled_row
+from stand_in_wire import spelled_done, spelled_page, spelled_pairs, spelled_refusal, spelled_row, spelled_rows_at
 
 MAX_COLUMN_BYTES = 64
 MAX_VIEWS = 64
@@ -129,6 +130,15 @@ class PlainIndex:
         if isinstance(query, Tidy):
             self._check_key(query.key)
             return self._done(AnswerKind.TIDIED, self.commits, spelled_number(Tidied.NOTHING, 1))
+        return self._answer_of_moment(query)
+
+    def _answer_of_moment(self, query: Query[Any]) -> bytes:
+        if isinstance(query, GetMany):
+            return self._get_many(query)
+        if isinstance(query, GetRangeBack):
+            return self._range_back(query)
+        if isinstance(query, CountRange):
+            return self._count(query)
         return self._answer_of_view(query)
 
     def _answer_of_view(self, query: Query[Any]) -> bytes:
@@ -204,6 +214,15 @@ class PlainIndex:
             return self._done(AnswerKind.ABSENT, self.commits)
         return self._done(AnswerKind.ROW, self.commits, spelled_row(shown(row, query.columns)))
 
+    def _get_many(self, query: GetMany) -> bytes:
+        for key in query.keys:
+            self._check_key(key)
+        self._check_columns(query.columns)
+        if len(query.keys) > wire.MAX_LIMIT:
+            raise wire.BadLimit()
+        rows = [self._rows.get(key) for key in query.keys]
+        return spelled_rows_at(RowsAt(self.commits, [row and shown(row, query.columns) for row in rows]))
+
     def _put(self, key: bytes, sets: List[Tuple[int, bytes]]) -> bytes:
         self._check_sets(key, sets)
         before = self._rows.get(key)
@@ -234,6 +253,22 @@ class PlainIndex:
         keys = sorted(key for key in self._rows if key >= query.start)[:query.limit]
         pairs = [(key, shown(self._rows[key], query.columns)) for key in keys]
         return self._done(AnswerKind.ROWS, self.commits, spelled_pairs(pairs))
+
+    def _range_back(self, query: GetRangeBack) -> bytes:
+        self._check_key(query.stop or b"")
+        self._check_columns(query.columns)
+        self._check_limit(query.limit)
+        keys = sorted((key for key in self._rows if query.stop is None or key < query.stop), reverse=True)
+        pairs = [(key, shown(self._rows[key], query.columns)) for key in keys[:query.limit]]
+        return self._done(AnswerKind.ROWS, self.commits, spelled_pairs(pairs))
+
+    def _count(self, query: CountRange) -> bytes:
+        if query.most > wire.MAX_COUNT:
+            raise wire.BadLimit()
+        self._check_key(query.start)
+        self._check_key(query.stop or b"")
+        count = sum(query.start <= key and (query.stop is None or key < query.stop) for key in self._rows)
+        return self._done(AnswerKind.COUNTED, self.commits, spelled_number(min(count, query.most), 4))
 
     def _build(self, spec: ViewSpec) -> bytes:
         self._check_spec(spec)

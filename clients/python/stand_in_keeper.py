@@ -8,8 +8,9 @@ import time
 from dataclasses import dataclass
 from typing import TYPE_CHECKING, Any, Callable, Dict, List, Mapping, Optional, Sequence, Union
 
-from rowanspan import (DiskFailed, Get, GetInfo, GetRange, Greeting, Hello, ListViews, NotAllowed, Ping, Pong, Put,
-                       PutIf, Query, Refused, Remove, Role, Stop, TooMuchAtOnce, ViewRead, Wait, WaitDurable)
+from rowanspan import (CountRange, DiskFailed, Get, GetInfo, GetMany, GetRange, GetRangeBack, Greeting, Hello, ListViews,
+                       NotAllowed, Ping, Pong, Put, PutIf, Query, Refused, Remove, Role, Stop, TooMuchAtOnce, ViewRead,
+                       Wait, WaitDurable)
 from stand_in_wire import (DISK_FAILED, SessionFault, spelled_greeting, spelled_info, spelled_listing, spelled_pong,
                            spelled_refusal, spelled_settled, spelled_stopped, spelled_waited)
 
@@ -17,7 +18,7 @@ if TYPE_CHECKING:
     from stand_in_index import PlainIndex
 
 RUN_BYTES = 16
-READS = (Get, GetRange, ViewRead, Ping, GetInfo, ListViews, Wait, WaitDurable)
+READS = (Get, GetRange, GetMany, GetRangeBack, CountRange, ViewRead, Ping, GetInfo, ListViews, Wait, WaitDurable)
 CHANGES = (Put, PutIf, Remove)
 
 
@@ -134,7 +135,7 @@ class Keeper:
                 "output_bytes": self.output_bytes,
                 "durable": 0 if self._index.log is None else self._index.log.durable,
                 "wrong_secrets": self.wrong_secrets, "buffered_bytes": 0,  # (each frame is answered before the next is read)
-                "uptime_ms": int(1000 * (time.monotonic() - self._began))}
+                "resident_bytes": 0, "uptime_ms": int(1000 * (time.monotonic() - self._began))}
 
 
 def bytes_of(value: Any) -> bytes:

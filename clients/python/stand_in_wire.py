@@ -5,12 +5,12 @@ import socket
 import struct
 from typing import Any, Callable, Dict, List, Mapping, Optional, Sequence, Tuple
 
-from rowanspan import (MAX_QUERIES, MAX_REQUEST_BODY, SERVER_VERSION, AnswerKind, Build, Get, GetInfo, GetRange,
-                       Greeting, Hello, Listing, ListViews, Page, Pairs, Ping, Pong, Put, PutIf, Query, Reader, Refused,
-                       Remove, Row, Settled, StandingView, Stop, Tidy, ViewDrop, ViewRead, Wait, Waited, WaitDurable,
-                       spelled_bytes, spelled_key, spelled_number)
-from rowanspan.server_queries import read_flag, read_spec
-from rowanspan.wire import spelled_spec
+from rowanspan import (MAX_QUERIES, MAX_REQUEST_BODY, SERVER_VERSION, AnswerKind, Build, CountRange, Get, GetInfo,
+                       GetMany, GetRange, GetRangeBack, Greeting, Hello, Listing, ListViews, Page, Pairs, Ping, Pong,
+                       Put, PutIf, Query, Reader, Refused, Remove, Row, RowsAt, Settled, StandingView, Stop, Tidy,
+                       ViewDrop, ViewRead, Wait, Waited, WaitDurable, spelled_bytes, spelled_key, spelled_number)
+from rowanspan.fields import spelled_spec
+from rowanspan.server_queries import read_spec
 
 READ_FAILED, WRITE_FAILED, CUT, BAD_LENGTH, BAD_VERSION, BAD_BODY, NO_HELLO, DISK_FAILED = 1, 2, 3, 4, 5, 6, 8, 12
 # what the server says of each fault
@@ -80,6 +80,15 @@ def read_put_if(reader: Reader) -> PutIf:
     return PutIf(key, read_sets(reader), version)
 
 
+def read_end(reader: Reader) -> Optional[bytes]:
+    return reader.key() if reader.flag() else None
+
+
+def read_get_many(reader: Reader) -> GetMany:
+    keys = [reader.key() for _ in range(reader.number(2))]
+    return GetMany(keys, read_columns(reader))
+
+
 def read_hello(reader: Reader) -> Hello:
     newest, token = reader.number(1), reader.key()
     return Hello(token, reader.key(), newest)
@@ -106,12 +115,15 @@ READERS: Dict[int, Callable[[Reader], Query[Any]]] = {
     7: lambda reader: ViewRead(reader.number(8), reader.number(8), reader.key(), reader.number(2)),
     8: lambda reader: ViewDrop(reader.number(8)),
     9: read_put_if,
+    13: read_get_many,
+    14: lambda reader: GetRangeBack(read_end(reader), reader.number(2), read_columns(reader)),
+    15: lambda reader: CountRange(reader.key(), read_end(reader), reader.number(4)),
     16: read_hello,
     17: lambda reader: Ping(reader.number(8)),
     18: lambda reader: GetInfo(),
     19: lambda reader: ListViews(),
     20: read_wait,
-    21: lambda reader: Stop(read_flag(reader)),
+    21: lambda reader: Stop(reader.flag()),
 }
 
 
@@ -150,6 +162,15 @@ def spelled_row(row: Row) -> bytes:
 
 def spelled_pairs(pairs: Pairs) -> bytes:
     return spelled_number(len(pairs), 2) + b"".join(spelled_key(key) + spelled_row(row) for key, row in pairs)
+
+
+def spelled_found(row: Optional[Row]) -> bytes:
+    return b"\0" if row is None else b"\1" + spelled_row(row)
+
+
+def spelled_rows_at(found: RowsAt) -> bytes:
+    return (spelled_number(AnswerKind.FOUND, 1) + spelled_number(found.at, 8) + spelled_number(len(found.rows), 2)
+            + b"".join(map(spelled_found, found.rows)))
 
 
 def spelled_page(page: Page) -> bytes:

@@ -1,6 +1,7 @@
 #!/usr/bin/env python3
 """Tests of the embedded index, over the built library: also those of map_cases, test_embedded_views,
-test_embedded_back, test_embedded_threads and test_embedded_native. Prints 'N passed, M failed' last."""
+test_embedded_back, test_embedded_count, test_embedded_threads and test_embedded_native. Prints 'N passed, M failed'
+last."""
 from __future__ import annotations
 
 import ctypes
@@ -20,6 +21,7 @@ import rowanspan.core
 import rowanspan.embedded
 import rowanspan.mapping
 import test_embedded_back
+import test_embedded_count
 import test_embedded_native
 import test_embedded_threads
 import test_embedded_views
@@ -226,19 +228,15 @@ def wrong_types() -> None:
 
 
 def names_of_the_client() -> None:
-    """Each method of a map has the same parameters for the client and here, with the same defaults and a text; only a
-    range can be reversed here, too. Rows, views and what is raised are the same classes."""
+    """Each method of a map has the same parameters for the client and here, with the same defaults and a text. Rows,
+    views and what is raised are the same classes."""
     methods = [name for name in vars(RowMap) if not name.startswith("__") or name.endswith(("item__", "contains__"))]
-    assert {"get", "put", "put_if", "update", "remove", "first", "range", "tidy", "build", "view", "pop", "setdefault",
-            "items", "keys", "values", "__getitem__", "__setitem__", "__delitem__", "__contains__"} <= set(methods)
+    assert {"get", "get_many", "put", "put_if", "update", "remove", "first", "last", "range", "count", "tidy", "build",
+            "view", "pop", "setdefault", "items", "keys", "values", "__getitem__", "__setitem__", "__delitem__",
+            "__contains__"} <= set(methods)
     for name in [name for name in methods if callable(getattr(RowMap, name))]:
         client, own = getattr(rowanspan.Client, name), getattr(Index, name)
-        taken = inspect.signature(own)
-        if name == "range":
-            *kept, reverse = taken.parameters.values()
-            assert (reverse.name, reverse.kind, reverse.default) == ("reverse", reverse.KEYWORD_ONLY, False)
-            taken = taken.replace(parameters=kept)
-        assert taken == inspect.signature(client) == inspect.signature(getattr(RowMap, name)), name
+        assert inspect.signature(own) == inspect.signature(client) == inspect.signature(getattr(RowMap, name)), name
         assert inspect.getdoc(own) and inspect.getdoc(client), name
     for name in (*rowanspan.core.__all__, *rowanspan.mapping.__all__):
         assert getattr(rowanspan.embedded, name) is getattr(rowanspan, name), name
@@ -365,6 +363,7 @@ def main() -> int:
     cases = unittest.TestSuite(unittest.FunctionTestCase(case) for case in CASES)
     return run_counted(unittest.TestSuite([cases, load.loadTestsFromTestCase(EmbeddedMapTest),
                                            load.loadTestsFromModule(test_embedded_back),
+                                           load.loadTestsFromModule(test_embedded_count),
                                            load.loadTestsFromModule(test_embedded_threads),
                                            load.loadTestsFromModule(test_embedded_native)]))
 

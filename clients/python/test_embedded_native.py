@@ -39,6 +39,7 @@ def calls(index, view, times):
         if number % 10 == 0:
             index.remove(key), index.remove(key), index.first(key, 20), list(index.range(prefix=b"0000"))
             index.last(key, 20), index.last(), list(index.range(prefix=b"0000", reverse=True))
+            index.count(key, most=20), index.count(prefix=b"0000"), index.count()
 with Index(columns=2) as index:
     view = index.build(Prefix(b""))
     calls(index, view, 20000)
@@ -80,6 +81,8 @@ CALLS: List[Tuple[str, Sequence[Any]]] = [
     *[("last", (stop, limit, columns)) for stop in (None, b"", b"b", Key(b"b"), bytearray(b"c"), bytes(1025), 5)
       for limit in (0, 1, 1000, 1001, 65535, 65536, -1, 2 ** 70, True, Number(2), "1", None)
       for columns in (None, [1], (2,), "0")],
+    *[("count", (start, stop)) for start in (b"", b"b", Key(b"b"), bytearray(b"c"), bytes(1025), "a", None)
+      for stop in (None, b"", b"b", Key(b"c"), bytearray(b"c"), bytes(1025), 5)],
     *[("_page", (number, floor, start, limit)) for number in (1, 2, 0, -1, 2 ** 64, True, "1")
       for floor in (0, 5, 2 ** 64 - 1, 2 ** 64, Number(3)) for start in (b"", Key(b"b"), bytes(1025))
       for limit in (1, 1000, 0, "1")],
@@ -200,6 +203,7 @@ class NativeTest(unittest.TestCase):
         self.assertTrue(held.wait(SECONDS))
         for call in (lambda: self.index._native.get(b"a", None), lambda: self.index._native.range(b"", 1, None),
                      lambda: self.index._native.range_back(None, 1, None),
+                     lambda: self.index._native.count(b"", None, 1),
                      lambda: self.index._native.put(self.index, b"a", b"w"), lambda: self.index._native.totals(1, 0)):
             self.assertIs(call(), NotImplemented)
         before = signal.signal(signal.SIGALRM, handler)
@@ -231,7 +235,7 @@ class NativeTest(unittest.TestCase):
         index: Any = self.index
         made, calls = type(index._native), index._native
         for call in (calls.get, lambda: calls.get(b"a"), lambda: calls.range(b"", 1), lambda: calls.view(1),
-                     lambda: calls.range_back(b"", 1),
+                     lambda: calls.range_back(b"", 1), lambda: calls.count(b"", None),
                      lambda: calls.put(b"a", b"v"), lambda: calls.totals(), lambda: calls.remove(b"a"),
                      lambda: calls.put_if(b"a", b"v", 0), made, lambda: made(handle=1)):
             with self.assertRaises(TypeError):

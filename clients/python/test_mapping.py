@@ -6,7 +6,7 @@ from typing import List, Sequence
 
 from map_cases import MapCases, keys_of
 from rowanspan import MAX_KEY_BYTES, Client, Closed, GetRange, Pairs, Prefix, Put, Row, ViewRead, key_after
-from rowanspan.mapping import scanned
+from rowanspan.scans import scanned
 from stand_in import Options, StandIn
 
 SECONDS = 20.0

@@ -23,6 +23,7 @@ import test_mirror_reading
 import test_mirror_rows
 import test_names
 import test_pool
+import test_reads
 import test_server_command
 import test_server_queries
 import test_shell
@@ -290,7 +291,7 @@ class PipelineTest(unittest.TestCase):
 
 def main() -> int:
     load = unittest.defaultTestLoader.loadTestsFromModule
-    modules = (test_wire, sys.modules[__name__], test_server_queries, test_pool, test_aio, test_aio_server,
+    modules = (test_wire, sys.modules[__name__], test_server_queries, test_reads, test_pool, test_aio, test_aio_server,
                test_mapping, test_names, test_shell, test_server_command, test_bad_input, test_board,
                test_board_server, test_durable, test_mirror_rows, test_mirror, test_mirror_reading, test_mirror_model,
                test_stand_in_log, test_wheel)

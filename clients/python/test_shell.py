@@ -13,8 +13,9 @@ from pathlib import Path
 from typing import Any, List, Sequence, Tuple
 
 import rowanspan
-from rowanspan import (MAX_KEY_BYTES, AtLeast, Behind, Build, Equals, Get, GetRange, OtherVersion, Page, Prefix, Put,
-                       PutIf, Query, Range, Remove, Reply, Row, Tidied, Tidy, ViewDrop, ViewRead)
+from rowanspan import (MAX_KEY_BYTES, AtLeast, Behind, Build, CountRange, Equals, Get, GetMany, GetRange, GetRangeBack,
+                       OtherVersion, Page, Prefix, Put, PutIf, Query, Range, Remove, Reply, Row, RowsAt, Tidied, Tidy,
+                       ViewDrop, ViewRead)
 from rowanspan.text import HEX, TEXT, BadLine, outcome_line, page_receipt_line, read_query, receipt_line, spec_text
 from stand_in import Options, StandIn
 
@@ -30,7 +31,9 @@ class TextTest(unittest.TestCase):
            "putif 61 0=76 0", "range - 65536 all", "range - +1 all", "range - \u0661 all", "remove",
            "remove 61 61", "build", "build range - none", "build range - none any any", "build prefix 61 equals 0",
            "build prefix 61 atleast 0 18446744073709551616", "view 1 0 -", "view 1 0 - 65536", "drop", "drop x",
-           "get 61 all\r", "step 1", "view " + "9" * 5000 + " 0 - 1"]
+           "get 61 all\r", "step 1", "view " + "9" * 5000 + " 0 - 1", "gets all", "gets 61, all", "gets 61,6 all",
+           "gets " + "-," * 65535 + "- all", "back 61 10", "back 61 65536 all", "back nothing 1 all", "count 61 62",
+           "count none 62 1", "count 61 62 4294967296"]
 
     def test_bad_lines(self) -> None:
         for line in self.BAD:
@@ -45,7 +48,10 @@ class TextTest(unittest.TestCase):
             ("tidy -", Tidy(b"")), ("drop 18446744073709551615", ViewDrop(2 ** 64 - 1)),
             ("view 1 2 61 3", ViewRead(1, 2, b"a", 3)), ("build range - none any", Build(Range())),
             ("build range 61 62 equals 1 -", Build(Range(b"a", b"b", Equals(1, b"")))),
-            ("build prefix - atleast 0 5", Build(Prefix(b"", AtLeast(0, 5))))]
+            ("build prefix - atleast 0 5", Build(Prefix(b"", AtLeast(0, 5)))),
+            ("gets 61,-,6162 1", GetMany([b"a", b"", b"ab"], (1,))), ("back none 10 all", GetRangeBack(None, 10)),
+            ("back 61 0 1,0", GetRangeBack(b"a", 0, (1, 0))), ("count - none 5", CountRange(b"", None, 5)),
+            ("count 61 62 4294967295", CountRange(b"a", b"b", 2 ** 32 - 1))]
         for line, query in lines:
             with self.subTest(line=line):
                 self.assertEqual(read_query(line, HEX), query)
@@ -67,6 +73,9 @@ class TextTest(unittest.TestCase):
             (Build(Range()), Reply(7, 1, 2), "done 1 2 built 7"), (ViewDrop(7), Reply(None), "dropped"),
             (ViewRead(7), Reply(Page(1, 2, (3, 4), rows[1:])), "view 1 2 3,4 1 -:3:ab"),
             (ViewRead(7), Reply(Page(1, 0, (0,), [])), "view 1 0 0 0"),
+            (GetMany([b"a", b"b"]), Reply(RowsAt(5, [ROW, None])), "found 5 2 258:76,- none"),
+            (GetMany([]), Reply(RowsAt(0, [])), "found 0 0"), (CountRange(), Reply(3, 1, 2), "done 1 2 count 3"),
+            (GetRangeBack(), Reply(rows[:1], 1, 2), "done 1 2 rows 1 61:258:76,-"),
             (ViewRead(7), Behind(5), "refused 12 5"), (Get(b"a"), rowanspan.KeyTooLong(), "refused 2")]
         for query, outcome, line in lines:
             with self.subTest(line=line):
@@ -115,6 +124,14 @@ class ShellTest(unittest.TestCase):
                "done 3 3 built 1\nview 3 2 237 2 61:1:76 62:3:77\ndropped\ndone 3 4 removed 4\n"
         self.assertEqual(self.run_shell([], lines), (1, said))
         self.assertEqual(self.run_shell([], b""), (0, ""))
+
+    def test_reads_of_one_moment(self) -> None:
+        lines = b"put - 0=77\nback none 5 all\nback 61 5 0\ngets 61,62,- all\ngets 61 1\ncount - none 9\n" \
+                b"count 61 62 1000001\nback - 0 all\n"
+        said = "done 1 2 put 2\ndone 2 2 rows 2 61:1:76 -:2:77\ndone 2 2 rows 1 -:2:77\nfound 2 3 1:76 none 2:77\n" \
+               "refused 3\ndone 2 2 count 2\nrefused 5\nrefused 5\n"
+        self.assertEqual(self.run_shell([], lines), (0, said))
+        self.assertEqual(self.run_shell(["--text", "gets", "a,none all"]), (0, "found 1 2 1:v none\n"))
 
     def test_text(self) -> None:
         lines = "put größe 0=a\\x20b\nrange - 10 all\n".encode()

@@ -1,5 +1,5 @@
 """Cases of what an operator sees of a server, over a build of mtserve: the lines of `--log pairs`, wrong
-secrets, and the limit of buffers.
+secrets, the limits of buffers and of memory, and long frames.
 
 `CASES` are functions of a `Start`, which runs a server with these words, without end. Each raises what is wrong.
 """
@@ -17,7 +17,8 @@ from contextlib import ExitStack
 from pathlib import Path
 from typing import Any, Callable, ContextManager, Dict, List, Tuple
 
-from rowanspan import Client, GetRange, Hello, Put, read_replies, receive_body, request_frame
+from rowanspan import (Build, Client, Get, GetRange, Hello, NoMemory, Prefix, Put, Remove, Reply, Tidied, read_replies, receive_body,
+                       request_frame)
 
 SECONDS = 60.0
 # as many lines of a kind are written in a second at most
@@ -254,6 +255,100 @@ def inputs_beyond_the_limit(start: Start) -> None:
             want_same("the commits", index.put(b"a", b"v"), 2 + 64 * kept)
 
 
+# ---- the limit of memory
+
+MEMORY, GREEDY = 40_000_000, 40
+
+
+def want_refused(index: Client) -> None:
+    """A frame with a put or a build is refused as a whole. All else is answered."""
+    for what, grow in (("a put", lambda: index.put(b"a", b"v")), ("a conditional put", lambda: index.put_if(b"a", b"v", 0)),
+                       ("a build", lambda: index.build(Prefix(b"")))):
+        try:
+            grow()
+        except NoMemory:
+            continue
+        raise AssertionError(f"{what} is done while the memory is full")
+    outcomes = index.call_all([Get(b"a"), Remove(number_key(1)), Put(b"a", b"v")])
+    want([type(outcome) for outcome in outcomes] == [NoMemory] * 3, f"a frame with a put is answered {outcomes}")
+    commits = index.ping()
+    want_same("a remove", index.remove(number_key(2)), commits + 1)
+    want_same("a get", index.get(number_key(1)).columns, (bytes(64),))
+    want_same("a range", len([*index.range()]), 999)
+    want(isinstance(index.tidy(number_key(2)), Tidied), "a tidy isn't answered")
+
+
+def number_key(number: int) -> bytes:
+    return number.to_bytes(2, "big")
+
+
+def limit_of_memory(start: Start) -> None:
+    """While more is resident than may be, nothing may grow. When clients whose answers were kept have gone, it may."""
+    giant = request_frame([GetRange().spelled()] * 64)
+    words = ("--log", "pairs", "--workers", "2", "--memory", str(MEMORY))
+    with start(*words) as server, ExitStack() as greedy:
+        next_read(server, "listening", "info")
+        with Client(server.port, timeout=SECONDS) as index:
+            for at in range(0, 1000, 50):
+                with index.pipeline() as pipeline:
+                    for number in range(at, at + 50):
+                        pipeline.put(number_key(number), bytes(64))
+            view = index.build(Prefix(b""))
+            want(0 < index.info()["resident_bytes"] < MEMORY, "the resident memory isn't told")
+            connections = [greedy.enter_context(socket.create_connection(("127.0.0.1", server.port), SECONDS))
+                           for _ in range(GREEDY)]
+            for connection in connections:
+                connection.sendall(giant)
+            full = next_read(server, "memory_full", "warn")
+            want(int(full["resident_bytes"]) > MEMORY, f"it is full at {full}")
+            want_same("the limit", full["most"], str(MEMORY))
+            want_refused(index)
+            want_same("a page", view.count, 999)
+            for connection in connections:
+                connection.close()
+            line = read_line(server.next_line())
+            while line[2] == "ended":
+                line = read_line(server.next_line())
+            _, level, word, usable = line
+            want_same("the line of the memory", (word, level), ("memory_usable", "info"))
+            want(int(usable["resident_bytes"]) <= MEMORY, f"it is usable at {usable}")
+            want_same("a put", index.put(b"a", b"v"), 1002)
+            want_same("a frame", [type(one) for one in index.call_all([Get(b"a"), Put(b"b", b"v")])], [Reply, Reply])
+
+
+# ---- long frames
+
+LONG_ROWS = 150_000
+
+
+def long_frames(start: Start) -> None:
+    """While a view is built, another connection of the only worker is answered. Frames after the build are answered after
+    it, and a build that has come before a stop is answered."""
+    build, after = Build(Prefix(b"")), [Put(b"z", b"v"), Get(b"z")]
+    frame = request_frame([build.spelled()])
+    with start("--workers", "1") as server:
+        with Client(server.port, timeout=SECONDS) as index:
+            for at in range(0, LONG_ROWS, 50):
+                with index.pipeline() as pipeline:
+                    for number in range(at, at + 50):
+                        pipeline.put(number.to_bytes(4, "big"), b"v")
+            with socket.create_connection(("127.0.0.1", server.port), SECONDS) as slow:
+                slow.sendall(frame + request_frame([query.spelled() for query in after]))
+                meanwhile = 0
+                while not select.select([slow], [], [], 0)[0]:
+                    index.get(b"z")
+                    meanwhile += 1
+                want(meanwhile > 10, f"another client was answered {meanwhile} times while a view was built")
+                built = read_replies(receive_body(slow), [build])[0]
+                row = read_replies(receive_body(slow), after)[1].value
+                want_same("the row after the build", row.columns, (b"v",))
+                want_same("the rows of the view", index.view(built.value).count, LONG_ROWS + 1)
+                slow.sendall(frame)
+                index.stop()
+                want_same("a build before a stop", len(read_replies(receive_body(slow), [build])), 1)
+        server.ended()
+
+
 CASES: List[Callable[[Start], None]] = [lines_of_pairs, lines_of_the_end_of_input, many_bad_frames, faults_at_the_end,
                                         standard_error_that_fails, wrong_secrets, giant_answers,
-                                        inputs_beyond_the_limit]
+                                        inputs_beyond_the_limit, limit_of_memory, long_frames]

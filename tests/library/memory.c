@@ -27,7 +27,16 @@ static bool is_same(const struct shown *a, const struct shown *b) {
         && memcmp(a->rows, b->rows, sizeof a->rows) == 0 && memcmp(a->page, b->page, sizeof a->page) == 0;
 }
 
-enum { KINDS = 12 };
+enum { KINDS = 13 };
+
+/* A count of rows in two layers. */
+static rowanspan_status count_rows(const rowanspan *index, uint64_t *number) {
+    uint32_t count = 99;
+    rowanspan_status status = rowanspan_count(index, "aaaaaaaa", 8, "k09", 3, UINT32_MAX, &count);
+    *number = count;
+    WANT(status != ROWANSPAN_OK || count == 10);
+    return status;
+}
 
 /* A call of each kind that allocates. The keys continue in new layers, and nodes are full. */
 static rowanspan_status call_of(rowanspan *index, int kind, uint64_t view, uint8_t *room, size_t size,
@@ -45,6 +54,7 @@ static rowanspan_status call_of(rowanspan *index, int kind, uint64_t view, uint8
     case 8: return rowanspan_feed(index, 0, 5, room, size, number);
     case 9: return rowanspan_get_column(index, "k03", 3, 0, room, size, number);
     case 10: return rowanspan_range_back(index, "k09", 3, 5, NULL, 0, room, size, number);
+    case 11: return count_rows(index, number);
     default: return rowanspan_apply(index, view, number);
     }
 }

@@ -112,6 +112,22 @@ def reads_back() -> None:
         assert 2 < refusals < 1999, refusals
 
 
+def counts() -> None:
+    """Counts of rows in layers, while memory ends in them: each is right, or is refused."""
+    with Index() as index:
+        library, refusals = wanting(index), 0
+        for number in range(100):
+            index.put(b"a" * (number // 10 * 8) + b"%06d" % number, b"v")
+        for allowed in range(2000):
+            library.allowed = {"count": allowed}
+            try:
+                assert index.count() == 100 and index.count(prefix=b"a" * 72) == 10
+                break
+            except NoMemory:
+                refusals += 1
+        assert 2 < refusals < 1999, refusals
+
+
 def wanted(allowed: int, call: Callable[[], Any]) -> Any:
     """What a call of the extension module returns where memory ends after so many allocations."""
     PRELOADED.memory_ends_after(allowed)
@@ -153,12 +169,15 @@ def calls_of_the_module() -> None:
                 pairs = wanted(allowed, lambda: calls.range_back(None, limit, None))
                 ends += pairs is None or pairs is NotImplemented
                 assert pairs is None or pairs is NotImplemented or pairs == last[:limit]
+                count = wanted(allowed, lambda: calls.count(b"", None, limit))
+                ends += count is None or count is NotImplemented
+                assert count is None or count is NotImplemented or count == limit
         index.keep_views()
         assert lags > 10 and refusals > 10 and ends > 1, (lags, refusals, ends)
         assert dict(index.range()) == plain and view.page(index.commits()).count == len(plain)
 
 
-CASES = (puts, builds, reads_back, calls_of_the_module)
+CASES = (puts, builds, reads_back, counts, calls_of_the_module)
 
 
 def main() -> int:

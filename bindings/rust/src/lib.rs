@@ -29,6 +29,7 @@
 
 mod answers;
 mod calls;
+mod counts;
 mod error;
 mod index;
 mod options;

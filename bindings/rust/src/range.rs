@@ -115,16 +115,39 @@ impl Source<'_> {
             Source::Shared(index) => index.last(before, limit, &[]),
         }
     }
+
+    fn count(self, keys: &Unread) -> Result<usize, Error> {
+        match self {
+            Source::Own(index) => index.count_keys(keys, usize::MAX),
+            Source::Shared(index) => index.lock().count_keys(keys, usize::MAX),
+        }
+    }
 }
 
-// The keys of a range that weren't read yet.
+/// The keys of a range that weren't read yet.
 #[derive(Debug)]
-struct Unread {
-    start: Vec<u8>,
+pub(crate) struct Unread {
+    pub(crate) start: Vec<u8>,
     end: Bound<Vec<u8>>,
 }
 
 impl Unread {
+    /// The keys of a range, if there are any.
+    pub(crate) fn of(range: &impl KeyRange) -> Option<Unread> {
+        let (start, end) = range.bounds();
+        let start = match start {
+            Bound::Included(key) => key,
+            Bound::Excluded(key) => after_key(&key)?,
+            Bound::Unbounded => Vec::new(),
+        };
+        Some(Unread { start, end }).filter(|unread| !unread.is_empty())
+    }
+
+    /// The key before which all of them are, and no others from the start on; none if that holds for all keys.
+    pub(crate) fn end(&self) -> Option<Vec<u8>> {
+        key_at_end(&self.end)
+    }
+
     fn is_past_end(&self, key: &[u8]) -> bool {
         match &self.end {
             Bound::Included(end) => key > &end[..],
@@ -173,6 +196,7 @@ impl End {
 /// The rows of a range, in the order of their keys: see [`Index::range`] and [`Index::prefix`]. It is read from both
 /// ends: [`rev`](Iterator::rev) returns the rows against that order, and
 /// [`next_back`](DoubleEndedIterator::next_back) the last one. Each row is returned once. After an error it ends.
+/// [`count`](Iterator::count) copies no rows.
 #[derive(Debug)]
 #[must_use = "an iterator reads no rows before it is asked for them"]
 pub struct Pairs<'a> {
@@ -186,24 +210,19 @@ pub struct Pairs<'a> {
 
 impl<'a> Pairs<'a> {
     pub(crate) fn of_range(source: Source<'a>, range: &impl KeyRange) -> Pairs<'a> {
-        let (start, end) = range.bounds();
-        let start = match start {
-            Bound::Included(key) => Some(key),
-            Bound::Excluded(key) => after_key(&key),
-            Bound::Unbounded => Some(Vec::new()),
-        };
-        Pairs::new(source, start, end)
+        Pairs::new(source, Unread::of(range))
     }
 
     pub(crate) fn of_prefix(source: Source<'a>, prefix: &[u8]) -> Pairs<'a> {
-        let end = after_prefix(prefix).map_or(Bound::Unbounded, Bound::Excluded);
-        Pairs::new(source, Some(prefix.to_vec()), end)
+        let (start, end) = (prefix.to_vec(), after_prefix(prefix));
+        let end = end.map_or(Bound::Unbounded, Bound::Excluded);
+        Pairs::new(source, Some(Unread { start, end }))
     }
 
-    fn new(source: Source<'a>, start: Option<Vec<u8>>, end: Bound<Vec<u8>>) -> Pairs<'a> {
+    fn new(source: Source<'a>, unread: Option<Unread>) -> Pairs<'a> {
         Pairs {
             source,
-            unread: start.map(|start| Unread { start, end }),
+            unread,
             front: End::new(),
             back: End::new(),
         }
@@ -224,7 +243,7 @@ impl<'a> Pairs<'a> {
         if unread.start.len() > MAX_KEY_BYTES {
             return Err(Error::KeyTooLong);
         }
-        let before = key_at_end(&unread.end);
+        let before = unread.end();
         let pairs = self.source.last(before.as_deref(), self.back.limit)?;
         let inside = pairs.partition_point(|(key, _)| *key >= unread.start);
         self.unread = self.back.keep(pairs, inside).map(|key| Unread {
@@ -263,6 +282,17 @@ impl Iterator for Pairs<'_> {
         }
         let pair = self.front.read.next();
         pair.or_else(|| self.back.read.next_back()).map(Ok)
+    }
+
+    // Copies no rows.
+    fn count(self) -> usize {
+        let source = self.source;
+        let unread = self.unread.filter(|unread| !unread.is_empty());
+        match unread.map_or(Ok(0), |keys| source.count(&keys)) {
+            Ok(count) => self.front.read.len() + count + self.back.read.len(),
+            // the error is the last item
+            Err(_) => self.front.read.len() + 1,
+        }
     }
 }
 

@@ -104,6 +104,8 @@ extern "C" {
                        column_count: usize, into: *mut u8, room: usize, length: Number) -> c_uint;
     fn rowanspan_range_back(index: Handle, before: *const u8, before_length: usize, limit: u16, columns: *const u8,
                             column_count: usize, into: *mut u8, room: usize, length: Number) -> c_uint;
+    fn rowanspan_count(index: Handle, start: *const u8, start_length: usize, end: *const u8, end_length: usize,
+                       most: u32, count: *mut u32) -> c_uint;
     fn rowanspan_build_prefix(index: Handle, prefix: *const u8, prefix_length: usize, test: ViewTest<'_>,
                               view: Number) -> c_uint;
     fn rowanspan_build_from(index: Handle, lo: *const u8, lo_length: usize, test: ViewTest<'_>,
@@ -148,8 +150,8 @@ macro_rules! call {
     ($library:expr, $symbol:ident $(, $argument:expr)*) => {
         // SAFETY: the index is one that `open` has made and that isn't closed, and no other call is open: `Library`
         // isn't `Sync`. Pointers are those of references that live during the call, with their lengths, or null for the
-        // key that a range back may be without. Those that the call writes through are of `&mut`, so that none overlaps
-        // another.
+        // key that a range back or a count may be without. Those that the call writes through are of `&mut`, so that
+        // none overlaps another.
         unsafe { $symbol($library.index.as_ptr() $(, $argument)*) }
     };
 }
@@ -162,6 +164,12 @@ macro_rules! answered {
         let status = call!($library, $symbol $(, $argument)*, &mut number);
         (status, number)
     }};
+}
+
+// The address and the length of a key that the library may be without. (The address of a key is never null, also if the
+// key is empty.)
+fn maybe(key: Option<&[u8]>) -> (*const u8, usize) {
+    key.map_or((std::ptr::null(), 0), |key| (key.as_ptr(), key.len()))
 }
 
 #[rustfmt::skip]
@@ -206,10 +214,15 @@ impl Library {
 
     pub(crate) fn range_back(&self, before: Option<&[u8]>, limit: u16, columns: &[u8],
                              into: &mut [u8]) -> (u32, u64) {
-        // (the pointer of a key is never null, also if the key is empty)
-        let (at, length) = before.map_or((std::ptr::null(), 0), |key| (key.as_ptr(), key.len()));
+        let (at, length) = maybe(before);
         answered!(self, rowanspan_range_back, at, length, limit, columns.as_ptr(), columns.len(), into.as_mut_ptr(),
                   into.len())
+    }
+
+    pub(crate) fn count(&self, start: &[u8], end: Option<&[u8]>, most: u32) -> (u32, u32) {
+        let (mut count, (at, length)) = (0, maybe(end));
+        let status = call!(self, rowanspan_count, start.as_ptr(), start.len(), at, length, most, &mut count);
+        (status, count)
     }
 
     pub(crate) fn build_prefix(&mut self, prefix: &[u8], test: ViewTest<'_>) -> (u32, u64) {

@@ -82,6 +82,8 @@ impl SharedIndex {
         fn contains_key(key: impl AsRef<[u8]>) -> bool;
         fn first(start: impl AsRef<[u8]>, limit: u16, columns: &[u8]) -> Vec<(Vec<u8>, Row)>;
         fn last(before: Option<&[u8]>, limit: u16, columns: &[u8]) -> Vec<(Vec<u8>, Row)>;
+        fn count(range: impl KeyRange) -> usize;
+        fn count_up_to(range: impl KeyRange, most: usize) -> usize;
         fn first_key_value() -> Option<(Vec<u8>, Row)>;
         fn last_key_value() -> Option<(Vec<u8>, Row)>;
         fn build(keys: Keys<'_>, test: RowTest<'_>) -> View;

@@ -1,5 +1,8 @@
 //! The last rows before a key, and iterators that are read from both ends.
 
+mod chance;
+
+use chance::Chance;
 use rowanspan::{Error, Index, Options, Row, SharedIndex, MAX_KEY_BYTES};
 use std::collections::BTreeMap;
 
@@ -161,28 +164,6 @@ fn of_a_shared_index() -> Result<(), Error> {
     let last = index.prefix("0004").next_back().expect("there is one")?;
     assert_eq!(last.0, keys[49]);
     Ok(())
-}
-
-struct Chance(u64);
-
-impl Chance {
-    fn below(&mut self, bound: u64) -> u64 {
-        self.0 ^= self.0 << 13;
-        self.0 ^= self.0 >> 7;
-        self.0 ^= self.0 << 17;
-        self.0 % bound
-    }
-
-    // A key of 1 to 40 bytes, of which many begin alike, in up to five layers.
-    fn key(&mut self) -> Vec<u8> {
-        let alike = self.below(6) * 8;
-        (0..1 + self.below(40))
-            .map(|at| match at < alike {
-                true => b'a',
-                false => b"ab\0\xff"[self.below(4) as usize],
-            })
-            .collect()
-    }
 }
 
 #[test]

@@ -1,7 +1,10 @@
 //! Ranges and prefixes against a `BTreeMap`, and what errors and the version say.
 
+mod keys;
+
+use keys::{awkward_keys, bounds_of, is_proper};
 use rowanspan::{Error, Index, Options, Row, MAX_KEY_BYTES};
-use std::collections::{BTreeMap, BTreeSet};
+use std::collections::BTreeMap;
 use std::ops::Bound;
 
 type Keys = Vec<Vec<u8>>;
@@ -53,48 +56,6 @@ fn each_form_of_a_range() -> Result<(), Error> {
     assert_eq!(keys_of(index.prefix(""))?, keys(&["a", "b", "bb", "c"]));
     assert_eq!(keys_of(index.prefix(b"bbb"))?, keys(&[]));
     Ok(())
-}
-
-// Keys that begin alike or with the greatest bytes, and some of the greatest length.
-fn awkward_keys() -> Keys {
-    let mut keys = BTreeSet::new();
-    for front in [
-        &b""[..],
-        b"a",
-        b"a\0",
-        b"a\xff",
-        b"\xff",
-        b"\xff\xff",
-        b"b",
-        b"aaaaaaaabbbbbbbb",
-    ] {
-        for back in [&b""[..], b"\0", b"a", b"\xff", b"\xff\xff"] {
-            keys.insert([front, back].concat());
-        }
-    }
-    for byte in [b'a', b'b', u8::MAX] {
-        keys.insert(vec![byte; MAX_KEY_BYTES]);
-    }
-    keys.into_iter().collect()
-}
-
-fn bounds_of(key: &[u8]) -> [Bound<Vec<u8>>; 3] {
-    [
-        Bound::Included(key.to_vec()),
-        Bound::Excluded(key.to_vec()),
-        Bound::Unbounded,
-    ]
-}
-
-// Whether a map takes these bounds: it panics if the first comes after the second.
-fn is_proper(start: &Bound<Vec<u8>>, end: &Bound<Vec<u8>>) -> bool {
-    match (start, end) {
-        (Bound::Excluded(lo), Bound::Excluded(hi)) => lo < hi,
-        (Bound::Included(lo) | Bound::Excluded(lo), Bound::Included(hi) | Bound::Excluded(hi)) => {
-            lo <= hi
-        }
-        _ => true,
-    }
 }
 
 #[test]

@@ -22,13 +22,15 @@ from __future__ import annotations
 
 from typing import TYPE_CHECKING
 
-from . import client, core, mapping, pipeline, pool, server, server_queries, wire
+from . import client, core, fields, mapping, pipeline, pool, reads, server, server_queries, wire
 # (the names that each of them lists in its `__all__` are names of the package)
 from .client import *  # noqa: F401,F403
 from .core import *  # noqa: F401,F403
+from .fields import *  # noqa: F401,F403
 from .mapping import *  # noqa: F401,F403
 from .pipeline import *  # noqa: F401,F403
 from .pool import *  # noqa: F401,F403
+from .reads import *  # noqa: F401,F403
 from .server import *  # noqa: F401,F403
 from .server_queries import *  # noqa: F401,F403
 from .wire import *  # noqa: F401,F403
@@ -36,9 +38,11 @@ from .wire import *  # noqa: F401,F403
 __all__ = ["Index"]
 __all__ += client.__all__
 __all__ += core.__all__
+__all__ += fields.__all__
 __all__ += mapping.__all__
 __all__ += pipeline.__all__
 __all__ += pool.__all__
+__all__ += reads.__all__
 __all__ += server.__all__
 __all__ += server_queries.__all__
 __all__ += wire.__all__

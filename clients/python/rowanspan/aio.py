@@ -15,19 +15,19 @@ from __future__ import annotations
 import asyncio
 from collections import deque
 from types import TracebackType
-from typing import (TYPE_CHECKING, Any, AsyncIterator, Awaitable, Callable, Deque, List, Optional, Sequence, Tuple,
-                    Type, TypeVar, Union, overload)
+from typing import TYPE_CHECKING, Any, Callable, Deque, List, Optional, Sequence, Tuple, Type, TypeVar, Union
 
 from .address import Port, checked_address
 from .aio_asked import MAX_MESSAGES, Asked, answered
+from .aio_reads import ReadCalls, RowPairs, scanned
 from .aio_server import ServerCalls
 from .core import (MAX_LIMIT, BadReply, Closed, ConnectionLost, NoSuchView, OtherVersion, Page, Pairs, Refused,
-                   RowanspanError, Row, Sets, Tidied, ViewNo, ViewSpec, WrongIndex, checked_count, checked_key,
-                   checked_number, checked_view, key_after, prefix_end)
+                   RowanspanError, Row, Sets, Tidied, ViewNo, ViewSpec, WrongIndex, checked_key, checked_number,
+                   checked_view)
 from .server import Greeting, HelloUnanswered
 from .server_queries import Hello, Token, commits_shown, hello_of
-from .wire import (MAX_QUERIES, MAX_REPLY_BODY, Build, Get, GetRange, Outcome, Put, PutIf, Query,
-                   Remove, Reply, Tidy, ViewDrop, ViewRead, frame_version, read_replies, request_frame)
+from .wire import (MAX_QUERIES, MAX_REPLY_BODY, Build, Outcome, Put, PutIf, Query, Remove, Reply, Tidy, ViewDrop,
+                   ViewRead, frame_version, read_replies, request_frame)
 
 if TYPE_CHECKING:
     import ssl
@@ -35,14 +35,12 @@ if TYPE_CHECKING:
 __all__ = ["Client", "View"]
 
 Value = TypeVar("Value")
-Default = TypeVar("Default")
-RowPairs = AsyncIterator[Tuple[bytes, Row]]
 
 # how many frames are sent whose answers haven't come; further queries wait for their turn in the client
 MAX_SENT = 16
 
 
-class Client(ServerCalls):
+class Client(ReadCalls, ServerCalls):
     """A connection to a server, for all tasks of one event loop.
 
     Queries that tasks ask meanwhile go together, up to 64 in a frame, and are answered in the order in which they were
@@ -240,21 +238,7 @@ class Client(ServerCalls):
             if not one.answer.done():
                 one.answer.set_exception(now or later)
 
-    # -- the calls of a map
-
-    @overload
-    async def get(self, key: bytes, default: None = None, columns: Optional[Sequence[int]] = None) -> Optional[Row]:
-        ...
-
-    @overload
-    async def get(self, key: bytes, default: Default, columns: Optional[Sequence[int]] = None) -> Union[Row, Default]:
-        ...
-
-    async def get(self, key: bytes, default: Any = None, columns: Optional[Sequence[int]] = None) -> Any:
-        """The row of a key, or `default` if it has none. `columns` are the numbers of those wanted, in this order; None
-        means all."""
-        row = (await self.call(Get(key, () if columns is None else columns))).value
-        return default if row is None else row
+    # -- changes
 
     async def put(self, key: bytes, sets: Sets) -> int:
         """Sets columns of a key's row, by their numbers; plain bytes are column 0. Returns the number of the commit."""
@@ -282,25 +266,6 @@ class Client(ServerCalls):
     async def remove(self, key: bytes) -> Optional[int]:
         """Removes a key's row. Returns the number of the commit, or None if there was no row."""
         return (await self.call(Remove(key))).value
-
-    async def first(self, start: bytes = b"", limit: int = MAX_LIMIT,
-                    columns: Optional[Sequence[int]] = None) -> Pairs:
-        """The first rows from the key `start` on, in the order of their keys, 1 to 1000 of them at most, by one call."""
-        return (await self.call(GetRange(start, limit, () if columns is None else columns))).value
-
-    def range(self, start: bytes = b"", stop: Optional[bytes] = None, *, prefix: Optional[bytes] = None,
-              limit: Optional[int] = None, columns: Optional[Sequence[int]] = None) -> RowPairs:
-        """The rows from the key `start` on, before `stop`, whose keys begin with `prefix`, in the order of their keys,
-        at most `limit` of them: an asynchronous iterator, which reads by calls of `first`."""
-        front = b"" if prefix is None else checked_key(prefix, "a prefix")
-        begin = max(front, checked_key(start))
-        ends = [one for one in (prefix_end(front), stop) if one is not None]
-        most = None if limit is None else checked_count(limit, "a limit")
-        return scanned(lambda key, count: self.first(key, count, columns), begin, min(ends, default=None), most)
-
-    def items(self) -> RowPairs:
-        """All keys with their rows, in the order of the keys."""
-        return self.range()
 
     async def tidy(self, key: bytes) -> Tidied:
         """Takes out at most one node that is no longer wanted near the place of a key; returns which kind."""
@@ -366,19 +331,3 @@ class View:
             # if the block was left by an exception, that one is raised
             if kind is None:
                 raise
-
-
-async def scanned(read: Callable[[bytes, int], Awaitable[Pairs]], start: bytes, stop: Optional[bytes],
-                  limit: Optional[int]) -> RowPairs:
-    """The rows from a key on, before `stop`, at most `limit`, by a coroutine that reads the first rows from a key on."""
-    at: Optional[bytes] = start
-    rest: Union[int, float] = float("inf") if limit is None else limit
-    while at is not None and (stop is None or at < stop) and rest > 0:
-        count = int(min(MAX_LIMIT, rest))
-        pairs = await read(at, count)
-        for key, row in pairs:
-            if stop is not None and key >= stop:
-                return
-            yield key, row
-        at = key_after(pairs[-1][0]) if len(pairs) == count else None
-        rest -= len(pairs)

@@ -6,13 +6,14 @@ import selectors
 import socket
 import struct
 import time
-from typing import TYPE_CHECKING, Any, Dict, List, Optional, Sequence, TypeVar, Union
+from typing import TYPE_CHECKING, Any, Dict, Iterable, List, Optional, Sequence, TypeVar, Union
 
 from .address import Port, checked_address
 from .core import (MAX_LIMIT, MAX_NUMBER, BadReply, Closed, ConnectionLost, Page, Pairs, Refused, Row, Sets, Tidied,
                    ViewNo, ViewSpec)
 from .mapping import RowMap, View, number_of_view
 from .pipeline import Pipeline
+from .reads import GetMany, GetRangeBack, count_of
 from .server import Greeting, HelloUnanswered, StandingView
 from .server_queries import (SERVER_VERSION, GetInfo, Hello, ListViews, Ping, Stop, Token, Wait, WaitDurable,
                              checked_wait, commits_shown, hello_of, next_durable, next_of, parts, want_one_end)
@@ -85,6 +86,12 @@ class Asker(RowMap):
     def _row(self, key: bytes, columns: Optional[Sequence[int]]) -> Optional[Row]:
         return self.call(Get(key, () if columns is None else columns)).value
 
+    def get_many(self, keys: Iterable[bytes], columns: Optional[Sequence[int]] = None) -> List[Optional[Row]]:
+        asked = list(keys)
+        if not asked:
+            return []
+        return self.call(GetMany(asked, () if columns is None else columns)).value.rows
+
     def put(self, key: bytes, sets: Sets) -> int:
         return self.call(Put(key, sets)).value
 
@@ -96,6 +103,15 @@ class Asker(RowMap):
 
     def first(self, start: bytes = b"", limit: int = MAX_LIMIT, columns: Optional[Sequence[int]] = None) -> Pairs:
         return self.call(GetRange(start, limit, () if columns is None else columns)).value
+
+    def last(self, stop: Optional[bytes] = None, limit: int = MAX_LIMIT,
+             columns: Optional[Sequence[int]] = None) -> Pairs:
+        return self.call(GetRangeBack(stop, limit, () if columns is None else columns)).value
+
+    def count(self, start: bytes = b"", stop: Optional[bytes] = None, *, prefix: Optional[bytes] = None,
+              most: Optional[int] = None) -> int:
+        query = count_of(start, stop, prefix, most)
+        return 0 if query is None else self.call(query).value
 
     def tidy(self, key: bytes) -> Tidied:
         return self.call(Tidy(key)).value

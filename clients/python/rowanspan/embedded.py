@@ -10,9 +10,8 @@
             print(key, row.columns)
 
 The calls are those of the server's client, and so are the rows, the views and what is raised: to change from one to the
-other, a program opens an `Index` or a `Client`. There are no pipelines here, and no queries as values. `last`,
-`first_item`, `last_item`, `range(reverse=True)`, `feed`, `commits`, `nodes`, `columns`, `apply`, `keep_views`,
-`advance` and `collect` are only here.
+other, a program opens an `Index` or a `Client`. There are no pipelines here, and no queries as values. `feed`,
+`commits`, `nodes`, `columns`, `apply`, `keep_views`, `advance` and `collect` are only here.
 
 The library is the one that `Index` is given; without one, that of the environment's ROWANSPAN_LIBRARY; without it, that
 in the package's own folder, or in the folder dist of the checkout. The most frequent calls are made by the extension
@@ -25,21 +24,21 @@ from __future__ import annotations
 import ctypes
 from pathlib import Path
 from types import TracebackType
-from typing import Any, List, Optional, Sequence, Tuple, Type, Union
+from typing import Any, Iterable, List, Optional, Sequence, Tuple, Type, Union
 
 from . import core, mapping
-from .back import scanned_back
 # (the names that both list in their `__all__` are names of this module too)
 from .core import *  # noqa: F401,F403
-from .core import (MAX_LIMIT, REFUSALS, Closed, Delta, NoLibrary, Page, Pairs, Prefix, Refused, Row, Sets, Tidied,
-                   Totals, ViewNo, ViewSpec, checked_columns, checked_count, checked_limit, checked_number,
+from .core import (MAX_LIMIT, REFUSALS, BadLimit, Closed, Delta, NoLibrary, Page, Pairs, Prefix, Refused, Row, Sets,
+                   Tidied, Totals, ViewNo, ViewSpec, checked_bytes, checked_count, checked_limit, checked_number,
                    checked_spec, checked_view)
 from .former import client_of, is_of_client, options_of, signature_of
 from .library import (ABSENT, CLOSED, CURRENT, DONE, NO_ROOM, U64, Handle, Reader, column_numbers, column_sets, loaded,
                       spelled, view_test)
 from .mapping import *  # noqa: F401,F403
-from .mapping import RowMap, RowPairs, View, bounds_of, number_of_view
+from .mapping import RowMap, View, number_of_view
 from .native import calls_of
+from .scans import bounds_of
 
 __all__ = ["Index"]
 __all__ += core.__all__
@@ -47,6 +46,8 @@ __all__ += mapping.__all__
 
 # how many bytes of an answer there is room for at first
 FIRST_ROOM = 4096
+# what a count counts up to if it is given no number: no index has as many rows
+ALL_ROWS = 2 ** 32 - 1
 
 
 class Index(RowMap):
@@ -197,6 +198,14 @@ class Index(RowMap):
         reader = self._read("get", *spelled(key, "a key"), *column_numbers(columns))
         return None if reader is None else reader.row()
 
+    def get_many(self, keys: Iterable[bytes], columns: Optional[Sequence[int]] = None) -> List[Optional[Row]]:
+        asked = [checked_bytes(key, "a key") for key in keys]
+        if len(asked) > MAX_LIMIT:
+            raise BadLimit()
+        # no call of another thread comes in between
+        with self._lock:
+            return [self._row(key, columns) for key in asked]
+
     def put(self, key: bytes, sets: Sets) -> int:
         number: int = self._native.put(self, key, sets)
         if number is not NotImplemented:
@@ -230,8 +239,6 @@ class Index(RowMap):
 
     def last(self, stop: Optional[bytes] = None, limit: int = MAX_LIMIT,
              columns: Optional[Sequence[int]] = None) -> Pairs:
-        """The last rows whose keys are before `stop` (None: the last of all), the greatest key first, 1 to 1000 of them
-        at most, by one call. It costs up to about twice as much as `first`."""
         pairs: Pairs = self._native.range_back(stop, limit, columns)
         if pairs is not NotImplemented:
             return pairs
@@ -239,35 +246,20 @@ class Index(RowMap):
         return self._answer("range_back", stop is not None, *before, checked_limit(limit),
                             *column_numbers(columns)).pairs()
 
-    def range(self, start: bytes = b"", stop: Optional[bytes] = None, *, prefix: Optional[bytes] = None,
-              limit: Optional[int] = None, columns: Optional[Sequence[int]] = None,
-              reverse: bool = False) -> RowPairs:
-        """The rows from the key `start` on, before `stop`, whose keys begin with `prefix`, in the order of their keys,
-        at most `limit` of them. Returns an iterator over pairs of a key and its row. With `reverse` it returns these
-        rows against that order, and `limit` keeps the last ones.
-
-        It reads by calls of `first`, or with `reverse` of `last`, of 1000 rows at most. If something is changed between
-        two calls, beyond the last key that was returned, the iterator may see it or not. Arguments are checked at
-        once."""
-        if not reverse:
-            return super().range(start, stop, prefix=prefix, limit=limit, columns=columns)
-        begin, end = bounds_of(start, stop, prefix)
-        most = None if limit is None else checked_count(limit, "a limit")
-        numbers = None if columns is None else checked_columns(columns)
-        return scanned_back(lambda key, count: self.last(key, count, numbers), begin, end, most)
-
-    def first_item(self, prefix: bytes = b"") -> Optional[Tuple[bytes, Row]]:
-        """The least key that begins with `prefix`, and its row; None if there is none."""
-        return next(self.range(prefix=prefix, limit=1), None)
-
-    def last_item(self, prefix: bytes = b"") -> Optional[Tuple[bytes, Row]]:
-        """The greatest key that begins with `prefix`, and its row; None if there is none."""
-        return next(self.range(prefix=prefix, limit=1, reverse=True), None)
-
     def tidy(self, key: bytes) -> Tidied:
         """Takes out at most one node that is no longer wanted near the place of a key, after removes; returns which
         kind. Changes no row. `collect` frees it."""
         return Tidied(self._number("tidy", *spelled(key, "a key")))
+
+    def count(self, start: bytes = b"", stop: Optional[bytes] = None, *, prefix: Optional[bytes] = None,
+              most: Optional[int] = None) -> int:
+        begin, end = bounds_of(start, stop, prefix)
+        most_rows = ALL_ROWS if most is None else min(checked_count(most, "the most that is counted"), ALL_ROWS)
+        number: int = self._native.count(begin, end, most_rows)
+        if number is not NotImplemented:
+            return number
+        return self._number("count", *spelled(begin, "a key"), end is not None,
+                            *spelled(b"" if end is None else end, "a key"), most_rows)
 
     def _build(self, spec: ViewSpec) -> ViewNo:
         checked = checked_spec(spec)

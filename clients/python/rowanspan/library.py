@@ -93,7 +93,7 @@ DONE, CLOSED, ABSENT, NO_ROOM, CURRENT = 0, 100, 102, 103, 104
 
 HANDLE = ctypes.POINTER(Handle)
 TOLD = ctypes.POINTER(ctypes.c_uint64)
-U16, U64 = ctypes.c_uint16, ctypes.c_uint64
+U16, U32, U64 = ctypes.c_uint16, ctypes.c_uint32, ctypes.c_uint64
 BYTES: List[Any] = [ctypes.c_char_p, ctypes.c_size_t]
 ROOM: List[Any] = [ctypes.c_void_p, ctypes.c_size_t]
 
@@ -106,6 +106,7 @@ PARAMETERS: Dict[str, List[Any]] = {
     "get": [*BYTES, *BYTES, *ROOM],
     "range": [*BYTES, U16, *BYTES, *ROOM],
     "range_back": [ctypes.c_bool, *BYTES, U16, *BYTES, *ROOM],
+    "count": [*BYTES, ctypes.c_bool, *BYTES, U32],
     "build_prefix": [*BYTES, ctypes.POINTER(ViewTest)],
     "build_from": [*BYTES, ctypes.POINTER(ViewTest)],
     "build_between": [*BYTES, *BYTES, ctypes.POINTER(ViewTest)],

@@ -3,19 +3,16 @@ from __future__ import annotations
 
 import abc
 import enum
-from typing import Any, Callable, Iterator, Optional, Sequence, Tuple, Type, TypeVar, Union, overload
+from typing import Any, Callable, Iterable, Iterator, List, Optional, Sequence, Tuple, Type, TypeVar, Union, overload
 
 from .core import (MAX_LIMIT, NoSuchView, OtherVersion, Page, Pairs, RowanspanError, Row, Sets, Tidied, Totals,
                    ViewNo, ViewSpec, WrongIndex, checked_bytes, checked_columns, checked_count, checked_key,
-                   checked_number, checked_view, key_after, prefix_end, set_pairs)
+                   checked_number, checked_view, set_pairs)
+from .scans import RowPairs, bounds_of, scanned, scanned_back
 
 __all__ = ["RowMap", "View"]
 
-# how many rows a range that has an end reads at first; each further call asks for four times as many, up to MAX_LIMIT
-FIRST_ROWS = 60
-
 Default = TypeVar("Default")
-RowPairs = Iterator[Tuple[bytes, Row]]
 
 
 class NoDefault(enum.Enum):
@@ -76,6 +73,12 @@ class RowMap(abc.ABC):
         """Removes a key's row. Raises KeyError if it has none."""
         if self.remove(key) is None:
             raise KeyError(key)
+
+    @abc.abstractmethod
+    def get_many(self, keys: Iterable[bytes], columns: Optional[Sequence[int]] = None) -> List[Optional[Row]]:
+        """The rows of keys, in their order, or None for a key that has none: all of one moment. `columns` are as of
+        `get`. Raises `BadLimit` for more than 1000 keys. A client asks by one frame, and raises `TooLong` if they don't
+        fit its 262,144 bytes."""
 
     @abc.abstractmethod
     def put(self, key: bytes, sets: Sets) -> int:
@@ -151,17 +154,45 @@ class RowMap(abc.ABC):
         """The first rows from the key `start` on, in the order of their keys, 1 to 1000 of them at most, by one call.
         Each key that was there during all of the call is there; each row was true at some moment of it."""
 
-    def range(self, start: bytes = b"", stop: Optional[bytes] = None, *, prefix: Optional[bytes] = None,
-              limit: Optional[int] = None, columns: Optional[Sequence[int]] = None) -> RowPairs:
-        """The rows from the key `start` on, before `stop`, whose keys begin with `prefix`, in the order of their keys,
-        at most `limit` of them. Returns an iterator over pairs of a key and its row.
+    @abc.abstractmethod
+    def last(self, stop: Optional[bytes] = None, limit: int = MAX_LIMIT,
+             columns: Optional[Sequence[int]] = None) -> Pairs:
+        """The last rows whose keys are before `stop` (None: the last of all), the greatest key first, 1 to 1000 of them
+        at most, by one call. They are those of one moment."""
 
-        It reads by calls of `first`, of 1000 rows at most. If something is changed between two calls, after the last
-        key that was returned, the iterator may see it or not. Arguments are checked at once."""
+    def range(self, start: bytes = b"", stop: Optional[bytes] = None, *, prefix: Optional[bytes] = None,
+              limit: Optional[int] = None, columns: Optional[Sequence[int]] = None,
+              reverse: bool = False) -> RowPairs:
+        """The rows from the key `start` on, before `stop`, whose keys begin with `prefix`, in the order of their keys,
+        at most `limit` of them. Returns an iterator over pairs of a key and its row. With `reverse` it returns these
+        rows against that order, and `limit` keeps the last ones.
+
+        It reads by calls of `first`, or with `reverse` of `last`, of 1000 rows at most. If something is changed between
+        two calls, beyond the last key that was returned, the iterator may see it or not. Arguments are checked at
+        once."""
         begin, end = bounds_of(start, stop, prefix)
         most = None if limit is None else checked_count(limit, "a limit")
         numbers = None if columns is None else checked_columns(columns)
+        if reverse:
+            return scanned_back(lambda key, count: self.last(key, count, numbers), begin, end, most)
         return scanned(lambda key, count: self.first(key, count, numbers), begin, end, most)
+
+    def first_item(self, prefix: bytes = b"") -> Optional[Tuple[bytes, Row]]:
+        """The least key that begins with `prefix`, and its row; None if there is none."""
+        return next(self.range(prefix=prefix, limit=1), None)
+
+    def last_item(self, prefix: bytes = b"") -> Optional[Tuple[bytes, Row]]:
+        """The greatest key that begins with `prefix`, and its row; None if there is none."""
+        return next(self.range(prefix=prefix, limit=1, reverse=True), None)
+
+    @abc.abstractmethod
+    def count(self, start: bytes = b"", stop: Optional[bytes] = None, *, prefix: Optional[bytes] = None,
+              most: Optional[int] = None) -> int:
+        """How many rows the `range` of these arguments has, all of one moment, counted up to `most`.
+
+        It walks over the rows that it counts, and copies none. Changes of others wait until it returns: `most` bounds
+        that. A server counts up to 1,000,000, also without `most`; for more a client raises `BadLimit`. A view has its
+        count ready."""
 
     def items(self) -> RowPairs:
         """All keys with their rows, in the order of the keys: a `range`, by calls of 1000 rows. Each row was true at
@@ -309,33 +340,3 @@ def number_of_view(index: RowMap, view: Union[View, int]) -> int:
     if view.index is not index:
         raise WrongIndex(f"this is a view of another index: {view!r}")
     return view.number
-
-
-def bounds_of(start: bytes, stop: Optional[bytes], prefix: Optional[bytes]) -> Tuple[bytes, Optional[bytes]]:
-    """The key from which on a range has rows, and the one before which it has them, if there is one."""
-    front = b"" if prefix is None else checked_key(prefix, "a prefix")
-    begin = max(front, checked_key(start))
-    ends = [prefix_end(front), None if stop is None else checked_key(stop)]
-    return begin, min((one for one in ends if one is not None), default=None)
-
-
-def scanned(read: Callable[[bytes, int], Pairs], start: bytes, stop: Optional[bytes] = None,
-            limit: Optional[int] = None) -> RowPairs:
-    """The rows from a key on, before `stop`, at most `limit`, by a function that reads the first rows from a key on, up
-    to a count."""
-    at: Optional[bytes] = start
-    size, rest = MAX_LIMIT if stop is None else FIRST_ROWS, limit
-    while at is not None and (stop is None or at < stop) and rest != 0:
-        count = size if rest is None else min(size, rest)
-        pairs = read(at, count)
-        yield from before(pairs, stop)
-        at = key_after(pairs[-1][0]) if len(pairs) == count else None
-        rest = None if rest is None else rest - len(pairs)
-        size = min(4 * size, MAX_LIMIT)
-
-
-def before(pairs: Pairs, stop: Optional[bytes]) -> Pairs:
-    """Those pairs, which are in the order of their keys, whose keys are before `stop`."""
-    if stop is None or pairs and pairs[-1][0] < stop:
-        return pairs
-    return [pair for pair in pairs if pair[0] < stop]

@@ -18,7 +18,7 @@ from .places import PACKAGE, checkout
 SUFFIX = ".abi3.so"
 NAME = f"_native{SUFFIX}"
 # the functions of the library that it calls
-FUNCTIONS = ("get", "put", "put_if", "remove", "range", "range_back", "view", "totals", "apply")
+FUNCTIONS = ("get", "put", "put_if", "remove", "range", "range_back", "count", "view", "totals", "apply")
 
 
 class NoCalls:
@@ -31,6 +31,9 @@ class NoCalls:
         return NotImplemented
 
     def range_back(self, stop: Any, limit: Any, columns: Any) -> Any:
+        return NotImplemented
+
+    def count(self, start: Any, stop: Any, most: Any) -> Any:
         return NotImplemented
 
     def view(self, number: Any, floor: Any, start: Any, limit: Any) -> Any:

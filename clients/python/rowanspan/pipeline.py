@@ -1,10 +1,11 @@
 """Queries of a client that are sent together: a pipeline, and what it returns for each, a `Pending`."""
 from __future__ import annotations
 
-from typing import TYPE_CHECKING, Any, Callable, Generic, List, Optional, Sequence, Type, TypeVar, Union
+from typing import TYPE_CHECKING, Any, Callable, Generic, Iterable, List, Optional, Sequence, Type, TypeVar, Union
 
 from .core import MAX_LIMIT, Page, Pairs, Refused, Row, Sets, Tidied, TooLong, Unanswered, ViewSpec
 from .mapping import View, number_of_view
+from .reads import MAX_COUNT, CountRange, GetMany, GetRangeBack, RowsAt
 from .wire import (MAX_QUERIES, MAX_REQUEST_BODY, Build, Get, GetRange, Outcome, Put, PutIf, Query, Remove, Reply, Tidy,
                    ViewDrop, ViewRead, spelled_query)
 
@@ -46,6 +47,10 @@ class Pending(Generic[Value]):
     def value(self) -> Value:
         """The value, as the method of the index returns it. Raises as `reply` does."""
         return self.reply.value
+
+
+def rows_of(found: RowsAt) -> List[Optional[Row]]:
+    return found.rows
 
 
 class Pipeline:
@@ -118,6 +123,20 @@ class Pipeline:
               columns: Optional[Sequence[int]] = None) -> Pending[Pairs]:
         """Adds a range of one call: the first rows from the key `start` on."""
         return self.add(GetRange(start, limit, () if columns is None else columns))
+
+    def last(self, stop: Optional[bytes] = None, limit: int = MAX_LIMIT,
+             columns: Optional[Sequence[int]] = None) -> Pending[Pairs]:
+        """Adds a range against the order of keys, of one call: the last rows before the key `stop`."""
+        return self.add(GetRangeBack(stop, limit, () if columns is None else columns))
+
+    def get_many(self, keys: Iterable[bytes],
+                 columns: Optional[Sequence[int]] = None) -> Pending[List[Optional[Row]]]:
+        """Adds gets of 1000 keys at most: their rows at one moment."""
+        return self._add(GetMany(list(keys), () if columns is None else columns), Pending(rows_of))
+
+    def count(self, start: bytes = b"", stop: Optional[bytes] = None, most: int = MAX_COUNT) -> Pending[int]:
+        """Adds a count of the rows from the key `start` on, before `stop`, up to `most`."""
+        return self.add(CountRange(start, stop, most))
 
     def tidy(self, key: bytes) -> Pending[Tidied]:
         """Adds a tidy: what it did."""

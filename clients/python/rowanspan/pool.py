@@ -9,6 +9,7 @@ from typing import TYPE_CHECKING, Any, List, Optional, Sequence, Tuple
 from .address import Port, checked_address
 from .client import Asker, Client
 from .core import Closed, ConnectionLost, RowanspanError, checked_count
+from .reads import CountRange, GetMany, GetRangeBack
 from .server import Greeting
 from .server_queries import GetInfo, Hello, ListViews, Ping, Token, Wait, WaitDurable, hello_of
 from .wire import Get, GetRange, Outcome, Query, ViewRead, frame_version, request_frame
@@ -36,7 +37,7 @@ class Pool(Asker):
     for one: at most `timeout` seconds, and then raises `Busy`. `timeout`, `tls`, `token` and `name` are also those of
     each connection. A call of `wait` uses one for as long as it waits.
 
-    A connection that broke is replaced. Gets, ranges, pages and queries of the server but stop change nothing: if their
+    A connection that broke is replaced. Gets, ranges, counts, pages and queries of the server but stop change nothing: if their
     connection breaks, they are asked once more by a new one. A change is never asked twice: if its connection breaks,
     it raises `ConnectionLost`, and it isn't known whether it was done. A connection that its server has ended while
     nobody used it, as at a restart, is seen to have ended before it is used again.
@@ -191,7 +192,10 @@ class Pool(Asker):
             self._changed.notify()
 
 
+ASKED_AGAIN = (Get, GetRange, GetMany, GetRangeBack, CountRange, ViewRead, Hello, Ping, GetInfo, ListViews, Wait)
+
+
 def changes_nothing(query: Query[Any]) -> bool:
     """Whether a query can be asked twice."""
     # (the number of a commit that wasn't durable may be another's then)
-    return isinstance(query, (Get, GetRange, ViewRead, Hello, Ping, GetInfo, ListViews, Wait)) or query == WaitDurable()
+    return isinstance(query, ASKED_AGAIN) or query == WaitDurable()

@@ -9,8 +9,9 @@ from typing import Any, ClassVar, Dict, Iterator, Optional, Sequence, TypeVar, U
 
 from .core import (MAX_NUMBER, AnyRow, AtLeast, Equals, Prefix, Range, Refused, RowTest, TooLong, ViewSpec,
                    checked_view)
+from .fields import Reader, spelled_number
 from .server import Greeting, Listing, Pong, Role, Settled, StandingView, Waited
-from .wire import AnswerKind, Answers, Outcome, Query, Reader, Reply, spelled_number
+from .wire import AnswerKind, Answers, Outcome, Query, Reply
 
 __all__ = ["SERVER_VERSION", "MAX_NAME_BYTES", "Token", "ServerQuery", "Hello", "Ping", "GetInfo", "ListViews", "Wait",
            "WaitDurable", "Stop"]
@@ -50,13 +51,6 @@ def spelled_wait(commit: int, milliseconds: int) -> bytes:
     return spelled_number(commit, 8, "a number of commits") + spelled_number(milliseconds, 4, "a time to wait")
 
 
-def read_flag(reader: Reader) -> bool:
-    number = reader.number(1)
-    if number > 1:
-        raise ValueError(f"{number} is neither yes nor no")
-    return number == 1
-
-
 def read_test(reader: Reader) -> RowTest:
     kind = reader.number(1)
     if kind == 0:
@@ -73,7 +67,7 @@ def read_spec(reader: Reader) -> ViewSpec:
     kind = reader.number(1)
     if kind == 0:
         low = reader.key()
-        high = reader.key() if read_flag(reader) else None
+        high = reader.key() if reader.flag() else None
         return Range(low, high, read_test(reader))
     if kind == 1:
         return Prefix(reader.key(), read_test(reader))
@@ -105,11 +99,11 @@ def read_listing(reader: Reader) -> Listing:
 
 
 def read_waited(reader: Reader) -> Waited:
-    return Waited(read_flag(reader), reader.number(8), reader.number(8))
+    return Waited(reader.flag(), reader.number(8), reader.number(8))
 
 
 def read_settled(reader: Reader) -> Settled:
-    return Settled(read_flag(reader), reader.number(8), reader.number(8))
+    return Settled(reader.flag(), reader.number(8), reader.number(8))
 
 
 # ---- queries

@@ -9,6 +9,7 @@ from typing import TYPE_CHECKING, Any, Callable, Iterable, List, Optional, Seque
 from .core import BadColumn, BadReply, ConnectionLost, NoLibrary, Refused, TooLong
 from .options import add_server_options, connected
 from .places import third_party, version
+from .reads import CountRange, GetMany, GetRangeBack, RowsAt
 from .server_command import COMMANDS
 from .server_command import main as ask_server
 from .serving import NoServer, serve
@@ -39,17 +40,20 @@ Lines, whose words are separated by one space, and their answers:
   putif KEY VERSION SETS         the same if the row is of this version (0: no row is there), else refused 16 VERSION
   remove KEY                     done FROM TO removed COMMIT, or done FROM TO absent
   range START LIMIT COLS         done FROM TO rows K, and K times KEY:VERSION:VALUES
+  back END LIMIT COLS            the same, of the last rows before END, the greatest key first (END may be none)
+  gets KEYS COLS                 found AT K, and K times VERSION:VALUES or none, all of one moment
+  count START END MOST           done FROM TO count N (END may be none)
   tidy KEY                       done FROM TO tidied a, b, c, d or none
   build range LO HI TEST         done FROM TO built VIEW (HI may be none)
   build prefix KEY TEST          the same
   view VIEW FLOOR START LIMIT    view AT COUNT SUMS K, and K rows as above
   drop VIEW                      dropped
 
-KEY, START, LO, HI and BYTES are hex, - is empty; with --text they are text, in which \\xNN is any byte. COLS is all, or
-numbers of columns joined by commas. SETS is COL=BYTES joined by commas, or -. TEST is any, equals COL BYTES or atleast
-COL NUMBER. FROM and TO are the numbers of commits at the call's begin and end. A refusal is refused N, for some causes
-followed by a number. If a line can't be read, or doesn't fit the wire, the answer is bad line, and standard error says
-why: the line's number, the word, and what was expected.
+KEY, START, END, LO, HI and BYTES are hex, - is empty; with --text they are text, in which \\xNN is any byte. KEYS are
+keys joined by commas. COLS is all, or numbers of columns joined by commas. SETS is COL=BYTES joined by commas, or -.
+TEST is any, equals COL BYTES or atleast COL NUMBER. FROM and TO are the numbers of commits at the call's begin and end,
+AT that of a moment. A refusal is refused N, for some causes followed by a number. If a line can't be read, or doesn't
+fit the wire, the answer is bad line, and standard error says why: the line's number, the word, and what was expected.
 
 Status: 0; 1 if a line was bad; 2 for a bad command line; 3 if there is no connection, it breaks, or the server doesn't
 admit the client, if the library or the server isn't there, or if standard input or output fails; 130 if it was
@@ -136,6 +140,12 @@ def value_of(index: Index, query: Query[Any]) -> Any:
         return index.remove(query.key)
     if isinstance(query, GetRange):
         return index.first(query.start, query.limit, query.columns)
+    if isinstance(query, GetRangeBack):
+        return index.last(query.stop, query.limit, query.columns)
+    if isinstance(query, CountRange):
+        return index.count(query.start, query.stop, most=query.most)
+    if isinstance(query, GetMany):
+        return RowsAt(index.commits(), index.get_many(query.keys, query.columns))
     if isinstance(query, Tidy):
         return index.tidy(query.key)
     if isinstance(query, Build):

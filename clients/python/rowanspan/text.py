@@ -12,9 +12,10 @@ from typing import Any, Callable, Dict, List, Optional, Sequence, Tuple, TypeVar
 
 from .core import (AnyRow, AtLeast, Equals, Page, Pairs, Prefix, Range, Refused, Row, RowTest, Tidied, ViewSpec,
                    set_pairs)
+from .reads import CountRange, GetMany, GetRangeBack, RowsAt
 from .wire import Build, Get, GetRange, Outcome, Put, PutIf, Query, Remove, Reply, Tidy, ViewDrop, ViewRead
 
-BYTE, WORD, LONG = 2 ** 8 - 1, 2 ** 16 - 1, 2 ** 64 - 1
+BYTE, WORD, DOUBLE, LONG = 2 ** 8 - 1, 2 ** 16 - 1, 2 ** 32 - 1, 2 ** 64 - 1
 TIDY_NAMES = {Tidied.NOTHING: "none", Tidied.EMPTY_BORDER: "a", Tidied.LONE_CHILD: "b", Tidied.LONE_ROOT_CHILD: "c",
               Tidied.EMPTY_LAYER: "d"}
 
@@ -109,6 +110,14 @@ def read_sets(word: str, notation: Notation) -> List[Tuple[int, bytes]]:
     return [] if word == "-" else [read_set(part, notation) for part in word.split(",")]
 
 
+def read_values(word: str, notation: Notation) -> List[bytes]:
+    """Bytes joined by commas."""
+    values = [notation.read(part) for part in word.split(",")]
+    if len(values) > WORD:
+        raise BadLine(f"expected at most {WORD} keys")
+    return values
+
+
 @dataclass(frozen=True)
 class Line:
     """The words of a line, and the notation of its bytes. Places count from 0 on; a fault says the word from 1 on."""
@@ -125,6 +134,10 @@ class Line:
 
     def value(self, place: int) -> bytes:
         return self.read(place, self.notation.read)
+
+    def values(self, place: int) -> List[bytes]:
+        """Bytes joined by commas: of keys, as many as a query can have."""
+        return self.read(place, lambda word: read_values(word, self.notation))
 
     def end(self, place: int) -> Optional[bytes]:
         """The end of a range, where `none` is no end."""
@@ -190,6 +203,11 @@ READERS: Dict[str, Tuple[str, Callable[[Line], Query[Any]]]] = {
     "remove": ("remove KEY", lambda line: Remove(line.value(1))),
     "range": ("range START LIMIT COLS",
               lambda line: GetRange(line.value(1), line.number(2, WORD), line.columns(3))),
+    "gets": ("gets KEYS COLS", lambda line: GetMany(line.values(1), line.columns(2))),
+    "back": ("back END LIMIT COLS",
+             lambda line: GetRangeBack(line.end(1), line.number(2, WORD), line.columns(3))),
+    "count": ("count START END MOST",
+              lambda line: CountRange(line.value(1), line.end(2), line.number(3, DOUBLE))),
     "tidy": ("tidy KEY", lambda line: Tidy(line.value(1))),
     "view": ("view VIEW FLOOR START LIMIT",
              lambda line: ViewRead(line.number(1), line.number(2), line.value(3), line.number(4, WORD))),
@@ -226,6 +244,12 @@ def pairs_text(pairs: Pairs, notation: Notation) -> str:
     return str(len(pairs)) + "".join(rows)
 
 
+def found_text(found: RowsAt, notation: Notation) -> str:
+    """`found AT K`, and K times VERSION:VALUES or none."""
+    rows = ("none" if row is None else f"{row.version}:{values_text(row, notation)}" for row in found.rows)
+    return " ".join((f"found {found.at} {len(found.rows)}", *rows))
+
+
 def page_text(page: Page, notation: Notation) -> str:
     """`view AT COUNT SUMS K ROWS`."""
     return f"view {page.at} {page.count} {','.join(map(str, page.sums))} {pairs_text(page.rows, notation)}"
@@ -237,19 +261,23 @@ def answer_text(query: Query[Any], value: Any, notation: Notation) -> str:
         return "absent"
     if isinstance(query, Get):
         return f"row {value.version} {values_text(value, notation)}"
-    if isinstance(query, GetRange):
+    if isinstance(query, (GetRange, GetRangeBack)):
         return f"rows {pairs_text(value, notation)}"
+    if isinstance(query, CountRange):
+        return f"count {value}"
     if isinstance(query, Tidy):
         return f"tidied {TIDY_NAMES[value]}"
     return f"{ {Put: 'put', PutIf: 'put', Remove: 'removed', Build: 'built'}[type(query)] } {value}"
 
 
 def outcome_line(query: Query[Any], outcome: Outcome, notation: Notation) -> str:
-    """The line of an answer: `done FROM TO ANSWER`, `view ..`, `dropped` or `refused N`, with its detail."""
+    """The line of an answer: `done FROM TO ANSWER`, `view ..`, `found ..`, `dropped`, or `refused N` with its detail."""
     if isinstance(outcome, Refused):
         return f"refused {outcome.number}" + ("" if outcome.detail is None else f" {outcome.detail}")
     if isinstance(query, ViewRead):
         return page_text(outcome.value, notation)
+    if isinstance(query, GetMany):
+        return found_text(outcome.value, notation)
     if isinstance(query, ViewDrop):
         return "dropped"
     return f"done {outcome.from_} {outcome.to} {answer_text(query, outcome.value, notation)}"

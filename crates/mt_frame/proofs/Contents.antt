@@ -10,8 +10,7 @@ use Rattle.std.proofs.lemmas.Slice.Eq.{bytes_eq-Decides}
 use Rattle.mt_types.specs.Packed.{are_packable, ArePackable}
 use Rattle.mt_types.specs.declared.limits.TheConstants.{MAX_KEY_BYTES}
 use Rattle.mt_wire.specs.Spelling.{key_spelling, columns_spelling}
-use Rattle.mt_wire.specs.Reading.{bytes_at, number_at, byte_at, key_at, short_at, counted_at, kind_at}
-use Rattle.mt_wire.proofs.ResponseReading.{counted16_at}
+use Rattle.mt_wire.specs.Reading.{bytes_at, number_at, byte_at, key_at, short_at, counted_at, counted16_at, kind_at}
 use Rattle.mt_wire.proofs.Exact.{IsBytes, Takes, IsExact, bind_some, wide64, both_exact, made_takes, made_again, kind_exact, byte_exact, bytes_take, number_exact, key_exact, short_exact, counted_exact, counted16_exact}
 use Rattle.mt_frame.specs.declared.entry.Entry.{Entry}
 use Rattle.mt_frame.specs.declared.entry.Entry.TheVariants.{Header, Commits as Group, Closed}

@@ -207,3 +207,29 @@ fn many_rows_turned_round(rt: HostRuntime) -> Result<(), Fail> {
     assert_eq!(rt; turns_round(rt.alloc(), false), Ok(true));
     Ok(())
 }
+
+#[test]
+fn counts_of_a_map(rt: HostRuntime) -> Result<(), Fail> {
+    let map = filled(rt.alloc())?;
+    let all = KEYS.as_slice().len() as u32;
+    assert_eq!(rt; map.count(b"", None, u32::MAX), Ok(all));
+    assert_eq!(rt; map.count(b"", None, 3), Ok(3));
+    assert_eq!(rt; map.count(b"", None, 0), Ok(0));
+    assert_eq!(rt;
+        map.count(b"apricots/dried/1", Some(b"apricotsz"), 100),
+        Ok(2)
+    );
+    assert_eq!(rt;
+        map.count(b"apricots/dried/1", Some(b"apricots/dried/2"), 100),
+        Ok(1)
+    );
+    assert_eq!(rt; map.count(b"pear", None, 100), Ok(1));
+    assert_eq!(rt; map.count(b"pears", None, 100), Ok(0));
+    assert_eq!(rt; map.count(b"pear", Some(b"apple"), 100), Ok(0));
+    assert_eq!(rt; map.count(&[7; 1025], None, 1), Err(Refusal::KeyTooLong));
+    assert_eq!(rt;
+        map.count(b"", Some(&[7; 1025]), 1),
+        Err(Refusal::KeyTooLong)
+    );
+    Ok(())
+}

@@ -43,6 +43,24 @@ const VIEWED: &[u8] = b"\0\0\0\x43\x01\x05\x06\0\0\0\0\0\x02\0\x01a\x01\0\x01\x0
     \x08\0\0\0\0\0\0\0\x01\
     \x07\0\0\0\0\0\0\0\x01\0\0\0\0\0\0\0\0\0\0\0\x0a";
 
+// In version 3, puts of 76 and 77 into keys 61 and 62; gets of 61 and 63; the last rows of all; counts of all, up to ten
+// and to one more than a session counts.
+const ASKED_OF_A_MOMENT: &[u8] = b"\0\0\0\x31\x03\x06\x02\0\x01a\x01\0\x01v\x02\0\x01b\x01\0\x01w\
+    \x0d\0\x02\0\x01a\0\x01c\0\
+    \x0e\0\0\x0a\0\
+    \x0f\0\0\0\0\0\0\x0a\
+    \x0f\0\0\0\0\x0f\x42\x41";
+
+// What an empty index answers: commits 1 and 2; the row of 61, and none; both rows, 62 first; two; a refusal for the limit.
+const ANSWERED_OF_A_MOMENT: &[u8] = b"\0\0\0\x9a\x03\x06\
+    \x03\0\0\0\0\0\0\0\0\0\0\0\0\0\0\0\x01\0\0\0\0\0\0\0\x01\
+    \x03\0\0\0\0\0\0\0\x01\0\0\0\0\0\0\0\x02\0\0\0\0\0\0\0\x02\
+    \x0d\0\0\0\0\0\0\0\x02\0\x02\x01\0\0\0\0\0\0\0\x01\x01\x01v\0\
+    \x04\0\0\0\0\0\0\0\x02\0\0\0\0\0\0\0\x02\0\x02\
+    \0\x01b\0\0\0\0\0\0\0\x02\x01\x01w\0\x01a\0\0\0\0\0\0\0\x01\x01\x01v\
+    \x0e\0\0\0\0\0\0\0\x02\0\0\0\0\0\0\0\x02\0\0\0\x02\
+    \0\x05\0\0\0\0\0\0\0\0";
+
 // What the reader and the writer do: the most bytes of a call, and how many calls there are before one fails.
 #[derive(Clone, Copy)]
 struct Plan {
@@ -125,6 +143,20 @@ fn both_versions(rt: HostRuntime) -> Result<(), Fail> {
     let ran = serve(rt.alloc(), &mut lone, &mut pass, ASKED, WHOLE)?;
     assert!(rt; ran.ended == Ok(ONE_FRAME));
     assert_eq!(rt; ran.written.as_slice(), ANSWERED_AGAIN);
+    Ok(())
+}
+
+#[test]
+fn reads_of_one_moment(rt: HostRuntime) -> Result<(), Fail> {
+    let ran = run(rt.alloc(), ASKED_OF_A_MOMENT, WHOLE)?;
+    assert_eq!(rt; ran.written.as_slice(), ANSWERED_OF_A_MOMENT);
+    assert_eq!(rt;
+        ran.ended,
+        Ok(Summary {
+            frames: 1,
+            queries: 6
+        })
+    );
     Ok(())
 }
 

@@ -131,8 +131,8 @@ impl Acceptor {
         let number = gauge.tally.accept();
         let origin = Origin { number, peer };
         self.count();
-        if let Some(desk) = least(gauge.desks) {
-            if desk.put(rt, Arrival { stream, origin }).is_err() {
+        if let Some(desk) = least(gauge.first_desks()) {
+            if desk.put(rt, Arrival::New { stream, origin }).is_err() {
                 gauge.reporter.say(rt, &unserved(origin));
             }
         }

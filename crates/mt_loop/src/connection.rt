@@ -1,13 +1,11 @@
 //! One connection: its stream, and its session.
 
 use crate::buffers::Buffers;
-use crate::desk::Arrival;
 use crate::fault::ConnectionFault;
-use crate::limits::{Limits, is_over};
 use crate::parking::Parked;
-use crate::report::{Origin, Report};
+use crate::report::Origin;
 use crate::stream::Stream;
-use crate::weight::{TURN, only_reads, server_query, weight_of};
+use crate::weight::{LONG, TURN, only_reads, server_query, weight_of};
 use mt_serve::answerer::Answerer;
 use mt_serve::fault::SessionFault;
 use mt_shared::driving::Shared;
@@ -71,6 +69,10 @@ pub struct Connection {
     pub(crate) role: Option<Role>,
     /// Whether that frame has a put or a remove.
     pub changes: bool,
+    // Whether long frames are for another worker, whether that frame is one, and at which desk the connection was before.
+    pub(crate) moves: bool,
+    pub(crate) is_leaving: bool,
+    pub(crate) home: usize,
     // What that frame weighs, what may still be asked for in this round, and whether more frames may be there.
     weight: usize,
     budget: usize,
@@ -79,20 +81,25 @@ pub struct Connection {
     is_unread: bool,
     pub(crate) is_hung_up: bool,
     // Whether all bytes were read.
-    has_ended: bool,
-    fault: Option<ConnectionFault>,
+    pub(crate) has_ended: bool,
+    pub(crate) fault: Option<ConnectionFault>,
     // Seconds of the server: when it was accepted, when bytes came last, when the frame that is there in part began, and
     // when bytes went last.
-    accepted: u64,
-    came: u64,
-    began: Option<u64>,
-    went: u64,
+    pub(crate) accepted: u64,
+    pub(crate) came: u64,
+    pub(crate) began: Option<u64>,
+    pub(crate) went: u64,
 }
 
 impl Connection {
     /// Returns a connection that was accepted at this time, whose client may do what `role` says.
-    pub fn new(alloc: Global, arrival: Arrival, now: u64, role: Option<Role>) -> Connection {
-        let Arrival { stream, origin } = arrival;
+    pub fn new(
+        alloc: Global,
+        stream: Stream,
+        origin: Origin,
+        now: u64,
+        role: Option<Role>,
+    ) -> Connection {
         Connection {
             stream,
             origin,
@@ -113,6 +120,9 @@ impl Connection {
             moved: (0, 0),
             role,
             changes: false,
+            moves: false,
+            is_leaving: false,
+            home: usize::MAX,
             weight: 0,
             budget: 0,
             has_more: false,
@@ -200,6 +210,7 @@ impl Connection {
         self.find();
         if self.front == Front::Nothing
             && self.is_unread
+            && !self.is_leaving
             && !self.is_waiting()
             && self.fault.is_none()
             && !self.is_full()
@@ -213,9 +224,10 @@ impl Connection {
         false
     }
 
-    /// Finds the frame at the front, if one is to be answered in this round.
+    /// Finds the frame at the front, if one is to be answered in this round by this worker.
     pub fn find(&mut self) {
         self.front = Front::Nothing;
+        self.is_leaving = false;
         self.has_more = !self.is_waiting() && (self.budget == 0 || self.is_full());
         if self.has_more || self.is_waiting() || self.fault.is_some() {
             return;
@@ -236,7 +248,11 @@ impl Connection {
         if let Some(frame) = self.talk.front() {
             self.weight = weight_of(frame);
             self.changes = changes_rows(frame.messages.as_slice());
-            self.front = if only_reads(frame) {
+            self.is_leaving = self.moves && self.weight >= LONG && self.role.is_some();
+            self.has_more = self.is_leaving;
+            self.front = if self.is_leaving {
+                Front::Nothing
+            } else if only_reads(frame) {
                 Front::Reads
             } else {
                 Front::Others
@@ -345,52 +361,5 @@ impl Connection {
             && !self.is_full()
             && !self.is_waiting()
             && (self.is_unread || self.has_more)
-    }
-
-    /// Returns whether its session has ended and all of its answers have gone.
-    pub fn is_over(&self) -> bool {
-        self.talk.output().is_empty()
-            && (self.fault.is_some() || self.has_ended && self.talk.is_between_frames())
-    }
-
-    /// Returns what is said of its end, if its session was broken off.
-    pub fn broken_off(&self) -> Option<Report<'static>> {
-        let fault = self.fault?;
-        Some(Report::Ended {
-            origin: self.origin,
-            fault,
-            queries: self.queries,
-        })
-    }
-
-    /// If one of the limits is over, breaks the session off, and returns whether one is. A session that waits between
-    /// frames ends without a fault.
-    pub fn is_late(&mut self, limits: Limits, now: u64) -> bool {
-        if self.held.is_some() || self.ends_at.is_some() {
-            return false;
-        }
-        if self.has_output() {
-            if is_over(limits.write, self.went, now) {
-                self.fail(ConnectionFault::from(SessionFault::Write));
-                return true;
-            }
-            return false;
-        }
-        if self.role.is_none() && is_over(limits.hello, self.accepted, now) {
-            self.fail(ConnectionFault::NoHello);
-            return true;
-        }
-        self.talk.free_output();
-        if self.awaited.is_some() {
-            return false;
-        }
-        match self.began {
-            Some(began) if is_over(limits.frame, began, now) => {
-                self.fail(ConnectionFault::from(SessionFault::Cut));
-                true
-            }
-            Some(_) => false,
-            None => is_over(limits.idle, self.came, now),
-        }
     }
 }

@@ -1,10 +1,10 @@
-//! Where the thread that accepts leaves connections for a worker.
+//! Where connections are left for a worker: by the thread that accepts, and by other workers.
 
+use crate::connection::Connection;
 use crate::report::Origin;
 use crate::stream::Stream;
 use mio::{Poll, Token, Waker};
 use std::alloc::Global;
-use std::io::ErrorKind;
 use std::sync::atomic::{AtomicUsize, Ordering};
 use std::sync::{Mutex, Wait};
 use std::{io, mem};
@@ -12,17 +12,26 @@ use std::{io, mem};
 /// The token of a desk's waker: no key of a slab.
 pub const WAKER: Token = Token(usize::MAX);
 
-/// A connection that was accepted.
+/// What is left for a worker.
 #[derive(Drop)]
-pub struct Arrival {
-    pub stream: Stream,
-    pub origin: Origin,
+pub enum Arrival {
+    /// A connection that was accepted.
+    New { stream: Stream, origin: Origin },
+    /// A connection of another worker.
+    Moved(Connection),
 }
 
-/// New connections for a worker, and how many it has.
+// What was left and isn't taken yet, and whether nothing may be left any more.
+#[derive(Drop)]
+struct Inbox {
+    arrivals: Vec<Arrival>,
+    is_closed: bool,
+}
+
+/// What was left for a worker, and how many connections it has.
 #[derive(Drop)]
 pub struct Desk {
-    inbox: Mutex<Vec<Arrival>>,
+    inbox: Mutex<Inbox>,
     waker: Waker,
     load: AtomicUsize,
     waiting: AtomicUsize,
@@ -32,7 +41,10 @@ impl Desk {
     /// Returns an empty desk of the worker that waits by `poll`.
     pub fn new(alloc: Global, poll: &Poll) -> io::Result<Desk> {
         Ok(Desk {
-            inbox: Mutex::new(Vec::new(alloc)),
+            inbox: Mutex::new(Inbox {
+                arrivals: Vec::new(alloc),
+                is_closed: false,
+            }),
             waker: Waker::new(poll.registry(), WAKER)?,
             load: AtomicUsize::new(0),
             waiting: AtomicUsize::new(0),
@@ -48,14 +60,23 @@ impl Desk {
     ///
     /// # Errors
     ///
-    /// If out of memory: then the connection is closed.
-    pub fn put<R: Wait>(&self, rt: &R, arrival: Arrival) -> io::Result<()> {
-        self.load.fetch_add(1, Ordering::Relaxed);
-        if self.inbox.lock(rt).push(arrival).is_err() {
-            self.leave();
-            return Err(ErrorKind::OutOfMemory.into());
+    /// The connection, if the desk is closed or out of memory.
+    pub fn put<R: Wait>(&self, rt: &R, arrival: Arrival) -> Result<(), Arrival> {
+        let mut inbox = self.inbox.lock(rt);
+        if inbox.is_closed || inbox.arrivals.reserve(1).is_err() {
+            return Err(arrival);
         }
-        self.waker.wake()
+        let _ = inbox.arrivals.push(arrival);
+        self.load.fetch_add(1, Ordering::Relaxed);
+        let _ = self.waker.wake();
+        Ok(())
+    }
+
+    /// Closes the desk if nothing is left at it. Returns whether it is closed.
+    pub fn close<R: Wait>(&self, rt: &R) -> bool {
+        let mut inbox = self.inbox.lock(rt);
+        inbox.is_closed = inbox.arrivals.is_empty();
+        inbox.is_closed
     }
 
     /// Wakes the worker.
@@ -66,7 +87,7 @@ impl Desk {
     /// Takes all that was left.
     pub fn take<R: Wait>(&self, rt: &R, alloc: Global) -> Vec<Arrival> {
         let mut inbox = self.inbox.lock(rt);
-        mem::replace(&mut *inbox, Vec::new(alloc))
+        mem::replace(&mut inbox.arrivals, Vec::new(alloc))
     }
 
     /// Returns whether a connection of the worker waits for commits.

@@ -7,6 +7,7 @@ ghost use Rattle.mt_loop.specs.Listing.{listed, ListsSomewhere};
 use crate::buffers::Buffers;
 use crate::desk::Desk;
 use crate::durability::{DiskState, Durability};
+use crate::memory::Memory;
 use crate::parking::{DURABLE, LATER, Parking};
 use crate::reporting::Reporter;
 use mt_shared::door::Door;
@@ -99,6 +100,8 @@ pub struct Gauge<'a, R> {
     pub tally: &'a Tally,
     /// What is kept for the connections.
     pub buffers: &'a Buffers,
+    /// How much memory is used.
+    pub memory: &'a Memory,
     /// What writes what is said of the server.
     pub reporter: &'a Reporter,
     pub start: Instant,
@@ -251,6 +254,14 @@ impl<'a, R: Wait + Clock> Gauge<'a, R> {
         reached
     }
 
+    /// Returns the desks at which new connections are left: all but that of the worker for long frames, if there is one.
+    pub fn first_desks(&self) -> &'a [Desk] {
+        match self.desks.split_last() {
+            Some((_, short)) if !short.is_empty() => short,
+            _ => self.desks,
+        }
+    }
+
     /// Wakes the workers that have connections which wait for commits.
     pub fn wake_waiting(&self) {
         for desk in self.desks {
@@ -281,6 +292,7 @@ impl<'a, R: Wait + Clock> Gauge<'a, R> {
             output_bytes: self.tally.output_bytes.load(Ordering::Relaxed) as u64,
             wrong_secrets: self.tally.wrong_secrets.load(Ordering::Relaxed) as u64,
             buffered_bytes: self.buffers.kept(),
+            resident_bytes: self.memory.resident(),
             milliseconds: self.now(),
             views: None,
             watched: None,

@@ -17,6 +17,8 @@ pub struct Limits {
     pub write: u64,
     /// The most bytes of input and output that are kept for all connections together; 0 is no limit.
     pub buffers: u64,
+    /// The most bytes of the process that may be resident while rows and views are added; 0 is no limit.
+    pub memory: u64,
 }
 
 /// Returns whether more seconds than this limit have passed since a time.

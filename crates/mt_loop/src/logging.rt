@@ -2,6 +2,7 @@
 
 use crate::durability::{DiskState, Durability, Syncing};
 use crate::gauge::Gauge;
+use crate::memory::Watch;
 use crate::report::Report;
 use mt_journal::error::JournalError;
 use mt_journal::journal::Journal;
@@ -11,12 +12,10 @@ use mt_shared::door::Door;
 use mt_types::refusal::Refusal;
 use sqlite_disk::Disk;
 use std::alloc::Global;
+use std::rt::Files;
 use std::sync::Wait;
 use std::thread;
 use std::time::{Clock, Duration, Instant};
-
-// How many milliseconds the thread waits at most until it looks for new commits, if it isn't called.
-const LONGEST: u64 = 1000;
 
 // How many milliseconds it lets commits gather if nobody waits for them.
 const GATHERING: u64 = 5;
@@ -142,21 +141,23 @@ fn sync<R: Wait + Clock + Eprint, D: Disk + Drop>(
     }
 }
 
-// For how long to wait until the next round.
-fn pause<R: Wait + Clock>(rt: &R, durability: &Durability, has_unsynced: bool) {
+// Waits until the next round: until the thread is called, or the memory is to be read.
+fn pause<R: Wait + Clock>(gauge: &Gauge<'_, R>, durability: &Durability, has_unsynced: bool) {
+    let rt = gauge.rt;
+    let most = gauge.memory.interval();
     let longest = match durability.syncing() {
-        Syncing::Always => LONGEST,
+        Syncing::Always => most,
         Syncing::Every(milliseconds) => {
             thread::sleep(rt, Duration::from_millis(GATHERING));
             if has_unsynced {
-                milliseconds.min(LONGEST)
+                milliseconds.min(most)
             } else {
-                LONGEST
+                most
             }
         }
         Syncing::Never => {
             thread::sleep(rt, Duration::from_millis(GATHERING));
-            LONGEST
+            most
         }
     };
     durability.wait(rt, Duration::from_millis(longest));
@@ -185,10 +186,11 @@ fn sync_if_due<R: Wait + Clock + Eprint, D: Disk + Drop>(
 }
 
 // Writes commits and syncs them until no more are made, or the disk fails.
-fn keep<R: Wait + Clock + Eprint, D: Disk + Drop>(
+fn keep<R: Wait + Clock + Files + Eprint, D: Disk + Drop>(
     gauge: &Gauge<'_, R>,
     durability: &Durability,
     logger: &mut Logger<D>,
+    watch: &mut Watch,
 ) -> bool {
     let rt = gauge.rt;
     let door = Door::new(gauge.index, rt, 1);
@@ -197,6 +199,7 @@ fn keep<R: Wait + Clock + Eprint, D: Disk + Drop>(
     for _ in rt.forever() {
         let is_ending = durability.is_ending();
         gauge.reporter.catch_up(rt);
+        watch.look_if_due(gauge);
         match write_all(gauge, &door, durability, logger) {
             Written::All => {}
             Written::Later => thread::sleep(rt, Duration::from_millis(PAUSE)),
@@ -220,23 +223,24 @@ fn keep<R: Wait + Clock + Eprint, D: Disk + Drop>(
             return true;
         }
         if !is_ending {
-            pause(rt, durability, at.durable < at.newest);
+            pause(gauge, durability, at.durable < at.newest);
         }
     }
     true
 }
 
 /// Keeps a log until no more commits are made, and returns whether all are durable then. If the disk fails, changes are
-/// refused from then on, and those that wait for it are woken.
-pub fn keep_log<R: Wait + Clock + Eprint, D: Disk + Drop>(
+/// refused from then on, and those that wait for it are woken. Meanwhile it reads how much memory is used.
+pub fn keep_log<R: Wait + Clock + Files + Eprint, D: Disk + Drop>(
     gauge: &Gauge<'_, R>,
     log: Log<D>,
+    watch: &mut Watch,
 ) -> bool {
     let Some(durability) = gauge.durability else {
         return false;
     };
     let mut log = log;
-    let is_kept = keep(gauge, durability, &mut log.logger);
+    let is_kept = keep(gauge, durability, &mut log.logger, watch);
     if !is_kept {
         durability.note_failed();
         gauge.wake_waiting();

@@ -52,6 +52,16 @@ pub enum Report<'a> {
     DiskFull,
     /// It has room again.
     DiskUsable,
+    /// More bytes are resident than may be, so that no rows and no views are added.
+    MemoryFull {
+        resident: u64,
+        most: u64,
+    },
+    /// No more are resident than may be.
+    MemoryUsable {
+        resident: u64,
+        most: u64,
+    },
     /// The log failed.
     LogFailed(&'a LoggerError),
     /// The last commits are not in the log.
@@ -77,6 +87,8 @@ pub enum Kind {
     NotAccepted,
     DiskFull,
     DiskUsable,
+    MemoryFull,
+    MemoryUsable,
     LogFailed,
     Unwritten,
     Stopping,
@@ -85,7 +97,7 @@ pub enum Kind {
 }
 
 /// The kinds, in their order.
-pub const KINDS: [Kind; 12] = [
+pub const KINDS: [Kind; 14] = [
     Kind::Listening,
     Kind::Ended,
     Kind::WrongSecret,
@@ -93,6 +105,8 @@ pub const KINDS: [Kind; 12] = [
     Kind::NotAccepted,
     Kind::DiskFull,
     Kind::DiskUsable,
+    Kind::MemoryFull,
+    Kind::MemoryUsable,
     Kind::LogFailed,
     Kind::Unwritten,
     Kind::Stopping,
@@ -104,8 +118,12 @@ impl Kind {
     /// Returns how urgent reports of this kind are: `info`, `warn` or `error`.
     pub fn level(self) -> &'static str {
         match self {
-            Kind::Listening | Kind::DiskUsable | Kind::Stopping | Kind::Stopped => "info",
-            Kind::Ended | Kind::WrongSecret | Kind::TurnedAway => "warn",
+            Kind::Listening
+            | Kind::DiskUsable
+            | Kind::MemoryUsable
+            | Kind::Stopping
+            | Kind::Stopped => "info",
+            Kind::Ended | Kind::WrongSecret | Kind::TurnedAway | Kind::MemoryFull => "warn",
             Kind::NotAccepted | Kind::DiskFull | Kind::LogFailed | Kind::Unwritten | Kind::Failed =>
                 "error",
         }
@@ -122,6 +140,8 @@ impl fmt::Display for Kind {
             Kind::NotAccepted => "accept_failed",
             Kind::DiskFull => "disk_full",
             Kind::DiskUsable => "disk_usable",
+            Kind::MemoryFull => "memory_full",
+            Kind::MemoryUsable => "memory_usable",
             Kind::LogFailed => "log_failed",
             Kind::Unwritten => "commits_unwritten",
             Kind::Stopping => "stopping",
@@ -142,6 +162,8 @@ impl Report<'_> {
             Report::NotAccepted(_) => Kind::NotAccepted,
             Report::DiskFull => Kind::DiskFull,
             Report::DiskUsable => Kind::DiskUsable,
+            Report::MemoryFull { .. } => Kind::MemoryFull,
+            Report::MemoryUsable { .. } => Kind::MemoryUsable,
             Report::LogFailed(_) => Kind::LogFailed,
             Report::Unwritten => Kind::Unwritten,
             Report::Stopping(_) => Kind::Stopping,
@@ -207,6 +229,9 @@ impl fmt::Display for Report<'_> {
                 write!(f, "{named} wrong_secrets={count} {peer}")
             }
             Report::TurnedAway { most } => write!(f, "{kind} connections={most}"),
+            Report::MemoryFull { resident, most } | Report::MemoryUsable { resident, most } => {
+                write!(f, "{kind} resident_bytes={resident} most={most}")
+            }
             Report::NotAccepted(error) => write!(f, "{kind} reason={}", Quoted(*error)),
             Report::LogFailed(error) => write!(f, "{kind} reason={}", Quoted(*error)),
             Report::Failed(reason) => write!(f, "{kind} reason={}", Quoted(reason)),

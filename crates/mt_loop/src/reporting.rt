@@ -153,12 +153,16 @@ fn say_plainly<R: Eprint>(rt: &R, report: &Report<'_>) {
         }
         Report::NotAccepted(error) => eprintln!(rt; "accept failed: {error}"),
         Report::DiskFull => eprintln!(rt; "log: the disk is full, and rows can't be changed"),
+        Report::MemoryFull { resident, most } => eprintln!(rt;
+            "memory: {resident} bytes are resident, more than {most}: no rows and no views are added"
+        ),
         Report::LogFailed(error) => eprintln!(rt; "log: {error}"),
         Report::Unwritten => eprintln!(rt; "log: the last commits could not be written"),
         Report::Listening(_)
         | Report::WrongSecret { .. }
         | Report::TurnedAway { .. }
         | Report::DiskUsable
+        | Report::MemoryUsable { .. }
         | Report::Stopping(_)
         | Report::Stopped { .. }
         | Report::Failed(_) => Ok(()),

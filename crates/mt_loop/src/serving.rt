@@ -8,6 +8,9 @@ use crate::durability::Durability;
 use crate::gauge::{Gauge, Tally};
 use crate::limits::Limits;
 use crate::logging::{Log, keep_log};
+use crate::memory::{Memory, Watch};
+use crate::moving::{Share, share_of};
+use crate::patient::PatientDoor;
 use crate::reporting::Reporter;
 use crate::stop::Stop;
 use crate::worker::{Worker, work};
@@ -49,25 +52,20 @@ fn serve_desk<R: Wait + Clock + Eprint>(
     let Some(desk) = gauge.desks.get(number) else {
         return Ok(None);
     };
-    let mut door = HoldingDoor::new(gauge.index, gauge.rt, EVENTS);
-    match work(gauge, worker, desk, &mut door, stop) {
+    let worked = if worker.share == Share::Long {
+        let mut door = PatientDoor::new(gauge.index, gauge.rt);
+        work(gauge, worker, desk, &mut door, stop)
+    } else {
+        let mut door = HoldingDoor::new(gauge.index, gauge.rt, EVENTS);
+        work(gauge, worker, desk, &mut door, stop)
+    };
+    match worked {
         Ok(pass) => Ok(Some(pass)),
         Err(error) => {
             stop.stop(gauge.desks);
             Err(error)
         }
     }
-}
-
-// Says where it listens, and accepts until there is no more to accept.
-fn accept<R: Wait + Clock + Eprint>(
-    gauge: &Gauge<'_, R>,
-    acceptor: &mut Acceptor,
-    addresses: &[Address<'_>],
-    stop: &Stop,
-) -> io::Result<()> {
-    acceptor.say(gauge, addresses)?;
-    acceptor.run(gauge, stop)
 }
 
 // A desk and a worker for each pass.
@@ -80,11 +78,14 @@ fn make_workers<R: Net>(
 ) -> io::Result<(Vec<Desk>, Vec<Worker>)> {
     let mut desks = Vec::new(alloc);
     let mut workers = Vec::new(alloc);
+    let count = passes.len();
     for pass in passes {
         let poll = Poll::new(rt)?;
+        let number = desks.len();
+        let place = (number, share_of(number, count));
         desks.push(Desk::new(alloc, &poll)?)?;
         let tokens = Vec::from_slice(alloc, tokens)?;
-        workers.push(Worker::new(alloc, poll, pass, limits, tokens)?)?;
+        workers.push(Worker::new(alloc, poll, pass, limits, tokens, place)?)?;
     }
     Ok((desks, workers))
 }
@@ -94,7 +95,6 @@ fn run<R: Threads + Wait + Clock + Sync + Eprint>(
     alloc: Global,
     gauge: &Gauge<'_, R>,
     acceptor: &mut Acceptor,
-    addresses: &[Address<'_>],
     workers: Vec<Worker>,
     stop: &Stop,
 ) -> io::Result<Vec<Pass>> {
@@ -113,7 +113,7 @@ fn run<R: Threads + Wait + Clock + Sync + Eprint>(
             }
         }
         if begun.is_ok() {
-            begun = accept(gauge, acceptor, addresses, stop);
+            begun = acceptor.run(gauge, stop);
         }
         if begun.is_err() {
             stop.stop(gauge.desks);
@@ -157,48 +157,45 @@ fn listen_all<R: Net + Files>(
     Ok(listeners)
 }
 
-// Runs the threads of a server. Then no more commits are made, and its log may end.
+// Runs the threads of a server. Then no more commits are made: its log may end, and so may the readings of its memory.
 fn run_to_end<R: Threads + Wait + Clock + Sync + Eprint>(
     alloc: Global,
     gauge: &Gauge<'_, R>,
     acceptor: &mut Acceptor,
-    addresses: &[Address<'_>],
     workers: Vec<Worker>,
     stop: &Stop,
 ) -> io::Result<Vec<Pass>> {
-    let passes = run(alloc, gauge, acceptor, addresses, workers, stop);
+    let passes = run(alloc, gauge, acceptor, workers, stop);
     if let Some(durability) = gauge.durability {
         durability.end(gauge.rt);
     }
+    gauge.memory.end(gauge.rt);
     passes
 }
 
-// Runs the threads of a server. If it has a log, this thread keeps it until no more commits are made, and another one accepts.
-fn run_logged<R, D>(
+// Runs the threads of a server. Meanwhile this thread reads how much memory is used, and keeps the log if there is one.
+fn run_watched<R, D>(
     alloc: Global,
     gauge: &Gauge<'_, R>,
     acceptor: &mut Acceptor,
-    addresses: &[Address<'_>],
     workers: Vec<Worker>,
     log: Option<Log<D>>,
 ) -> io::Result<Ended>
 where
-    R: Threads + Wait + Clock + Sync + Eprint,
+    R: Threads + Wait + Clock + Files + Sync + Eprint,
     D: Disk + Drop,
 {
     let rt = gauge.rt;
     let stop = Stop::new(acceptor.poll())?;
     let stop = &stop;
-    let Some(log) = log else {
-        let passes = run(alloc, gauge, acceptor, addresses, workers, stop)?;
-        let is_logged = true;
-        return Ok(Ended { passes, is_logged });
-    };
     thread::scope(thread::scope_env(), rt, |scope| -> io::Result<Ended> {
-        let server = scope.spawn(move || run_to_end(
-            alloc, gauge, acceptor, addresses, workers, stop,
-        ))?;
-        let is_logged = keep_log(gauge, log);
+        let server = scope.spawn(move || run_to_end(alloc, gauge, acceptor, workers, stop))?;
+        let mut watch = Watch::new(gauge.start);
+        let is_logged = match log {
+            Some(log) => keep_log(gauge, log, &mut watch),
+            None => true,
+        };
+        watch.look_to_end(gauge);
         let passes = server.join(rt)?;
         Ok(Ended { passes, is_logged })
     })
@@ -220,8 +217,9 @@ pub struct Ended {
     pub is_logged: bool,
 }
 
-/// Serves an index by a worker for each pass. When it has begun it prints a line for each address: `listening PORT` or
-/// `listening unix:PATH`. If there is a log, commits go to it. Returns when all sessions have ended.
+/// Serves an index by a worker for each pass. If there are several, that of the last one answers long frames alone. When it
+/// has begun it prints a line for each address: `listening PORT` or `listening unix:PATH`. If there is a log, commits go to
+/// it. Returns when all sessions have ended.
 ///
 /// # Errors
 ///
@@ -250,6 +248,7 @@ where
     let (desks, workers) = make_workers(rt, alloc, passes, plan.limits, access.tokens)?;
     let tally = Tally::new(run_name(rt)?);
     let buffers = Buffers::new(plan.limits.buffers);
+    let memory = Memory::start(rt, plan.limits.memory)?;
     let known = durability_of(&log);
     let durability = known.as_ref();
     let gauge = Gauge {
@@ -258,11 +257,15 @@ where
         desks: &desks,
         tally: &tally,
         buffers: &buffers,
+        memory: &memory,
         reporter,
         start: Instant::now(rt)?,
         durability,
     };
-    let ended = run_logged(alloc, &gauge, &mut acceptor, addresses, workers, log);
+    let ended = match acceptor.say(&gauge, addresses) {
+        Ok(()) => run_watched(alloc, &gauge, &mut acceptor, workers, log),
+        Err(error) => Err(error),
+    };
     remove_sockets(rt, addresses);
     reporter.finish(rt);
     ended

@@ -21,6 +21,14 @@ impl Stream {
             Stream::Unix(stream) => registry.register(stream, token, both),
         }
     }
+
+    /// Ends the wait for it.
+    pub fn deregister(&mut self, registry: &Registry) -> io::Result<()> {
+        match self {
+            Stream::Tcp(stream) => registry.deregister(stream),
+            Stream::Unix(stream) => registry.deregister(stream),
+        }
+    }
 }
 
 impl Read for Stream {

@@ -130,6 +130,7 @@ impl Turns {
         connection: &mut Connection,
     ) -> u64 {
         self.server.inner.count = 0;
+        self.server.keeper.is_memory_full = gauge.memory.is_full();
         let (server, pass) = (&mut self.server, &mut self.pass);
         if connection.answer(server, shared, pass, gauge.buffers) {
             refuse_secret(gauge, connection);

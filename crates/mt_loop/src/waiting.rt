@@ -58,7 +58,7 @@ impl Worker {
     }
 
     // A connection is of the next round.
-    fn list(&mut self, key: usize) {
+    pub(crate) fn list(&mut self, key: usize) {
         if let Some(connection) = self.connections.get_mut(key) {
             if !connection.is_listed {
                 connection.is_listed = true;

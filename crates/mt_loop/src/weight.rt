@@ -9,17 +9,24 @@ ghost use Rattle.mt_loop.specs.Weights.{is_other};
 use mt_types::event::Request;
 use mt_wire::frame::Frame;
 use mt_wire::query::Query;
+use mt_wire::read::ReadQuery;
 use mt_wire::server::ServerQuery;
 
 /// The rows and queries after which a connection takes no further frame in a round.
 pub const TURN: usize = 1024;
 
-// The rows that a query may return, or 1. A build weighs as much as a round.
+/// The weight from which a frame is long: another worker answers it.
+pub const LONG: usize = 8192;
+
+// The rows that a query may return or count, or 1. A build is long.
 fn weight_of_query(query: &Query) -> usize {
     match query {
         Query::Call(Request::Range { limit, .. }) => usize::from(*limit),
         Query::ViewRead { limit, .. } => usize::from(*limit),
-        Query::Call(Request::Build { .. }) => TURN,
+        Query::Read(ReadQuery::Gets { keys, .. }) => keys.len(),
+        Query::Read(ReadQuery::RangeBack { limit, .. }) => usize::from(*limit),
+        Query::Read(ReadQuery::Count { most, .. }) => (*most as usize).min(LONG),
+        Query::Call(Request::Build { .. }) => LONG,
         _ => 1,
     }
 }

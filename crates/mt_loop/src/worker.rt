@@ -1,11 +1,12 @@
 //! A worker: it waits until some of its connections are ready, reads them, answers their frames, and writes.
 
 use crate::connection::Connection;
-use crate::desk::{Arrival, Desk, WAKER};
+use crate::desk::{Desk, WAKER};
 use crate::gauge::Gauge;
 use crate::limits::Limits;
+use crate::moving::{Share, destination};
 use crate::parking::Parking;
-use crate::report::{Asker, Report, unserved};
+use crate::report::{Asker, Report};
 use crate::stop::Stop;
 use crate::turns::Turns;
 use mio::{Events, Poll, Token};
@@ -38,31 +39,37 @@ const LAST_SECONDS: u64 = 10;
 /// What a worker keeps.
 #[derive(Drop)]
 pub struct Worker {
-    poll: Poll,
+    pub(crate) poll: Poll,
     events: Events,
     pub(crate) connections: Slab<Connection>,
     piece: Vec<u8>,
     // Connections of this round, and those of the next one that aren't waited for.
-    keys: Vec<usize>,
+    pub(crate) keys: Vec<usize>,
     pub(crate) again: Vec<usize>,
-    turns: Turns,
+    pub(crate) turns: Turns,
     pub(crate) parking: Parking,
     limits: Limits,
     pub(crate) alloc: Global,
     // Seconds since the start, and at the last look for connections that are late.
-    now: u64,
+    pub(crate) now: u64,
     looked: u64,
+    // The number of its desk, and which frames it answers.
+    pub(crate) number: usize,
+    pub(crate) share: Share,
 }
 
 impl Worker {
-    /// Returns a worker without connections, which waits by `poll`, for clients with these secrets.
+    /// Returns a worker without connections, which waits by `poll`, for clients with these secrets. `place` is the number of
+    /// its desk, and which frames it answers.
     pub fn new(
         alloc: Global,
         poll: Poll,
         pass: Pass,
         limits: Limits,
         tokens: Vec<Secret>,
+        place: (usize, Share),
     ) -> Result<Worker, AllocError> {
+        let (number, share) = place;
         Ok(Worker {
             poll,
             events: Events::with_capacity(alloc, EVENTS)?,
@@ -76,45 +83,9 @@ impl Worker {
             alloc,
             now: 0,
             looked: 0,
+            number,
+            share,
         })
-    }
-
-    // Keeps room for the keys of one connection more.
-    fn make_room(&mut self) -> Result<(), AllocError> {
-        let most = self.connections.len().saturating_add(1);
-        self.keys.reserve(most)?;
-        self.again.reserve(most)?;
-        Ok(())
-    }
-
-    // Takes a new connection, and waits for it.
-    fn welcome(&mut self, arrival: Arrival) -> io::Result<()> {
-        if self.make_room().is_err() {
-            return Err(ErrorKind::OutOfMemory.into());
-        }
-        let fresh = Connection::new(self.alloc, arrival, self.now, self.turns.first_role());
-        let Ok(key) = self.connections.insert(fresh) else {
-            return Err(ErrorKind::OutOfMemory.into());
-        };
-        let Some(connection) = self.connections.get_mut(key) else {
-            return Ok(());
-        };
-        let registered = connection.stream.register(self.poll.registry(), Token(key));
-        if registered.is_err() {
-            let _ended = self.connections.try_remove(key);
-        }
-        registered
-    }
-
-    // Takes the new connections of a desk. One that can't be served is closed.
-    fn welcome_all<R: Wait + Clock + Eprint>(&mut self, gauge: &Gauge<'_, R>, desk: &Desk) {
-        for arrival in desk.take(gauge.rt, self.alloc) {
-            let origin = arrival.origin;
-            if self.welcome(arrival).is_err() {
-                gauge.reporter.say(gauge.rt, &unserved(origin));
-                desk.leave();
-            }
-        }
     }
 
     // Ends a connection, and says why if its session was broken off.
@@ -212,9 +183,12 @@ impl Worker {
                 self.end(gauge, *key, desk);
                 continue;
             }
+            if let Some(to) = destination(gauge, self.share, self.turns.is_stopping, connection) {
+                self.send(gauge, *key, desk, to);
+                continue;
+            }
             if connection.is_ready() {
-                connection.is_listed = true;
-                let _ = self.again.push(*key);
+                self.list(*key);
             }
             self.park(*key, desk);
         }
@@ -293,6 +267,7 @@ impl Worker {
         if self.gather() {
             self.welcome_all(gauge, desk);
         }
+        self.defer();
         let keys = mem::replace(&mut self.keys, Vec::new(self.alloc));
         self.begin_all(gauge, &keys);
         self.turns
@@ -331,6 +306,7 @@ impl Worker {
         for key in &keys {
             if let Some(connection) = self.connections.get_mut(*key) {
                 connection.is_listed = true;
+                connection.moves = false;
                 connection.wake(true, false);
                 connection.end_wait();
                 connection.end_delay();
@@ -339,7 +315,8 @@ impl Worker {
         self.again = keys;
         let last = self.now.saturating_add(LAST_SECONDS);
         for _ in 0..LAST_ROUNDS {
-            if self.now > last || self.again.is_empty() && !self.has_output() {
+            let is_done = self.again.is_empty() && !self.has_output();
+            if self.now > last || is_done && desk.close(gauge.rt) {
                 break;
             }
             self.round(gauge, desk, shared, stop, LAST)?;
@@ -373,7 +350,7 @@ pub fn work<R: Wait + Clock + Eprint, S: Shared>(
         }
         if stop.is_closing() {
             worker.welcome_all(gauge, desk);
-            if worker.connections.is_empty() {
+            if worker.connections.is_empty() && desk.close(gauge.rt) {
                 break;
             }
         }

@@ -233,11 +233,7 @@ pub before_start : (start : Bound (List ℕ)) (new key : List ℕ) → is_from s
 before_start (Included first) new key out after = go (key_three first key)
   where
     go : KeyLess first key ⊎ ((first ≡ key) ⊎ KeyLess key first) → is_le (key_cmp first key) ≡ false
-    go (inl less) = absurd (false≢true (sym out ∙ ap is_le (cmp_less first new (below key after less))))
-      where
-        below : (k : List ℕ) → IsAfter k false new → KeyLess first k → KeyLess first new
-        below k (inl same) l = subst (KeyLess first) same l
-        below k (inr more) l = less_on first k new l (less_back k new more)
+    go (inl less) = absurd (false≢true (sym out ∙ ap is_le (cmp_less first new (past first key new less after))))
     go (inr (inl same)) = absurd (false≢true (sym out ∙ from_same after))
       where
         from_same : IsAfter key false new → is_le (key_cmp first new) ≡ true
@@ -247,11 +243,7 @@ before_start (Included first) new key out after = go (key_three first key)
 before_start (Excluded bound) new key out after = go (key_three bound key)
   where
     go : KeyLess bound key ⊎ ((bound ≡ key) ⊎ KeyLess key bound) → is_lt (key_cmp bound key) ≡ false
-    go (inl less) = absurd (false≢true (sym out ∙ ap is_lt (cmp_less bound new (below key after less))))
-      where
-        below : (k : List ℕ) → IsAfter k false new → KeyLess bound k → KeyLess bound new
-        below k (inl same) l = subst (KeyLess bound) same l
-        below k (inr more) l = less_on bound k new l (less_back k new more)
+    go (inl less) = absurd (false≢true (sym out ∙ ap is_lt (cmp_less bound new (past bound key new less after))))
     go (inr (inl same)) = ap is_lt (ap (key_cmp bound) (sym same) ∙ cmp_equal bound)
     go (inr (inr more)) = ap is_lt (cmp_greater bound key more)
 before_start Unbounded new key out after = absurd (false≢true (sym out))
@@ -273,16 +265,13 @@ module _ (start : Bound (List ℕ)) (s : MachineView) (before new : Option (List
       none : GivesPrevious (rows s.columns (moment h)) before None new
       none = subst (λ (f : Option Row). GivesPrevious (rows s.columns (moment h)) before f new) is (gives h stands)
 
-  spelled : (bound : Option (List ℕ)) (key k : List ℕ) → bound ≡ Some k → IfSome bound (λ x. key ≡ x) → key ≡ k
-  spelled bound key k is same = key_same bound key k is same
-
   pub previous_some : (found : Option Row) (row : Row) (key : List ℕ) → found ≡ Some row → IfSome new (λ x. key ≡ x) → is_from start key ≡ true → Previous found → Within (Some row)
   previous_some found row key is spells from gives h stands = go (subst (λ (f : Option Row). GivesPrevious (rows s.columns (moment h)) before f new) is (gives h stands))
     where
       go : GivesPrevious (rows s.columns (moment h)) before (Some row) new → GivesWithinBack start (rows s.columns (moment h)) before (Some row) new
       go (k, bound, previous) = (
         (k, bound, previous),
-        subst (λ (b : Option (List ℕ)). IsSomeAnd b (λ x. is_from start x ≡ true)) (sym bound) (subst (λ (x : List ℕ). is_from start x ≡ true) (spelled new key k bound spells) from),
+        subst (λ (b : Option (List ℕ)). IsSomeAnd b (λ x. is_from start x ≡ true)) (sym bound) (subst (λ (x : List ℕ). is_from start x ≡ true) (key_same new key k bound spells) from),
       )
 
   pub previous_past : (found : Option Row) (row : Row) (key : List ℕ) → found ≡ Some row → IfSome new (λ x. key ≡ x) → is_from start key ≡ false → Previous found → Within None
@@ -291,6 +280,6 @@ module _ (start : Bound (List ℕ)) (s : MachineView) (before new : Option (List
     where
       go : GivesPrevious (rows s.columns (moment h)) before (Some row) new → IsBefore before other ⊎ IsBefore new other → is_from start other ≡ false
       go (k, bound, (has, within, greatest)) (inl below) =
-          before_start start k other (subst (λ (x : List ℕ). is_from start x ≡ false) (spelled new key k bound spells) out) (greatest other its there below)
+          before_start start k other (subst (λ (x : List ℕ). is_from start x ≡ false) (key_same new key k bound spells) out) (greatest other its there below)
       go (k, bound, (has, within, greatest)) (inr below) =
-          before_start start k other (subst (λ (x : List ℕ). is_from start x ≡ false) (spelled new key k bound spells) out) (inr (subst (λ (b : Option (List ℕ)). IsBefore b other) bound below))
+          before_start start k other (subst (λ (x : List ℕ). is_from start x ≡ false) (key_same new key k bound spells) out) (inr (subst (λ (b : Option (List ℕ)). IsBefore b other) bound below))

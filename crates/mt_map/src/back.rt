@@ -1,6 +1,6 @@
 //! Walks over the rows of a map against the order of their keys, also within bounds.
 
-ghost use Rattle.std.specs.Prelude.{◌≡◌, ◌<◌, ◌↔◌, IfErr, IfOk, IfSome, IsErr, IsTrue, None, MatchOption, OnSome, Err, [], unwrap_or};
+ghost use Rattle.std.specs.Prelude.{◌≡◌, ◌<◌, ◌↔◌, IfErr, IfOk, IfSome, IsErr, IsTrue, None, MatchOption, OnSome, Err, [], false, unwrap_or};
 ghost use Rattle.std.specs.Option.{option_copied};
 ghost use Rattle.std.specs.Range.Bound.{bound_map};
 ghost use Rattle.mt_types.specs.Limits.{key_fault};
@@ -192,7 +192,8 @@ impl<'m> RangeBack<'m> {
     ///
     ///     let key = rows.key();
     pub fn key(&self) -> &[u8]
-        ensures { IfSome self.now.walk.before (λ key. result.now ≡ key) }
+        ensures key { IfSome self.now.walk.before (λ key. result.now ≡ key) }
+        ensures none { self.now.walk.failed ≡ false → self.now.walk.before ≡ None → result.now ≡ [] }
     {
         self.walk.key()
     }

@@ -1,4 +1,4 @@
-//! Walks over the rows of a map whose keys are within bounds, in the order of their keys.
+//! Walks over the rows of a map whose keys are within bounds, in the order of their keys, and their count.
 
 ghost use Rattle.std.specs.Prelude.{◌≡◌, ◌<◌, ◌↔◌, IfErr, IfOk, IsErr, IsTrue, MatchOption, OnSome, Err};
 ghost use Rattle.std.specs.Option.{option_copied};
@@ -9,11 +9,13 @@ ghost use Rattle.mt_promise.specs.History.{History, moment, rows};
 ghost use Rattle.mt_index.specs.Stands.{Stands};
 ghost use Rattle.mt_asked.specs.Bounds.{start_key};
 ghost use Rattle.mt_map.specs.Bounded.{BeginsFrom, GivesWithin};
+ghost use Rattle.mt_reads.specs.Counts.{count_fault, count_of};
 ghost use Rattle.mt_reads.specs.Walks.{keys_to_come};
 
 use crate::map::Map;
 use crate::walk::Rows;
 use mt_asked::bounds::{Bounds, is_up_to};
+use mt_reads::count;
 use mt_types::refusal::{NoMemory, Refusal};
 use mt_types::row::Row;
 use std::ops::Bound;
@@ -88,6 +90,25 @@ impl Map {
         }
         let _first = walk.next()?;
         Ok(walk)
+    }
+
+    /// Returns how many rows have keys from `from` on and before `to`, or before no bound, counted up to `most`.
+    ///
+    ///     println!(rt; "{} fruits", map.count(b"a", Some(b"g"), u32::MAX)?)?;
+    ///
+    /// Costs the steps of a walk: one for each row that is counted, and one more.
+    ///
+    /// # Errors
+    ///
+    /// `KeyTooLong` if `from` or `to` has more than `MAX_KEY_BYTES` bytes; otherwise `NoMemory` if an allocation is
+    /// refused.
+    pub fn count(&self, from: &[u8], to: Option<&[u8]>, most: u32) -> Result<u32, Refusal>
+        ensures count { IfOk result (λ count. (h : History) → Stands self.now.machine h
+            → count ≡ count_of (rows self.now.machine.columns (moment h)) from.now (option_copied to.entry) most) }
+        ensures fault { MatchOption (count_fault from.now (option_copied to.entry))
+            (IfErr result (λ refusal. refusal ≡ Refusal.NoMemory)) (λ refusal. result ≡ Err refusal) }
+    {
+        count(self.alloc, &self.machine, from, to, most)
     }
 }
 

@@ -1,7 +1,8 @@
 -- Rows that are read from a key on and before a bound, and returned from the last on.
 use Rattle.std.proofs.Common.{ℕ, ◌≡◌, ◌<◌, ◌≤◌, ◌+◌, ◌⊎◌, inl, inr, Bool, true, false, List, [], ◌∷◌, ◌++◌, length, take, drop, refl, sym, ap, subst, ◌∙◌, arith}
 use Rattle.std.specs.Prelude.{Option, Some, None}
-use Rattle.std.proofs.lemmas.List.{drop_at, take_at, length-append}
+use Rattle.std.proofs.lemmas.List.{drop_at, take_at, length-append, same_from_push}
+use Rattle.std.proofs.lemmas.Bool.{true≢false}
 use Rattle.std.specs.Borrow.{Bor}
 use Rattle.std.specs.FinMap.{get}
 use Rattle.std.specs.declared.cmp.Ordering.{Ordering}
@@ -15,8 +16,8 @@ use Rattle.mt_slice.specs.Place.{AreBytes}
 use Rattle.mt_slice.proofs.KeyOrder.{KeyLess, key_three, cmp_less, cmp_equal}
 use Rattle.mt_index.specs.Stands.{MachineView, Stands}
 use Rattle.mt_reads.specs.Walks.{At, IsAfter, IsToCome, GivesNext, RowsView, keys_of, keys_after}
-use Rattle.mt_reads.specs.Back.{IsBefore, IsPrevious, GivesPrevious, keys_before}
-use Rattle.mt_reads.specs.Reading.{Pairs, bytes_of, kept_of, IsDry, IsChunk, IsShort, IsBound, AreShort, IsKept, IsReading}
+use Rattle.mt_reads.specs.Back.{IsBefore, IsPrevious, GivesPrevious, bound_of, keys_before}
+use Rattle.mt_reads.specs.Reading.{Pairs, bytes_of, kept_of, NoneBetween, IsChunk, IsShort, IsBound, AreShort, IsKept, IsReading}
 use Rattle.mt_reads.proofs.KeysToCome.{less_than_all, fewer_after}
 use Rattle.mt_reads.proofs.Ranges.{key_order}
 use Rattle.mt_reads.proofs.WalkLemmas.{less_back}
@@ -26,10 +27,10 @@ pub before_on : (bound : Option (List ℕ)) (one other : List ℕ) → key_cmp o
 before_on None one other less before = tt
 before_on (Some end) one other less before = key_order.trans one other end less before
 
-not_itself : (key : List ℕ) → key_cmp key key ≡ Less → ⊥
+pub not_itself : (key : List ℕ) → key_cmp key key ≡ Less → ⊥
 not_itself key less = let clash : ◌≡◌ {A = Ordering} Equal Less = sym (cmp_equal key) ∙ less in cc
 
-three : (one other : List ℕ) → (key_cmp one other ≡ Less) ⊎ IsAfter other false one
+pub three : (one other : List ℕ) → (key_cmp one other ≡ Less) ⊎ IsAfter other false one
 three one other = go (key_three one other)
   where
     go : KeyLess one other ⊎ ((one ≡ other) ⊎ KeyLess other one) → (key_cmp one other ≡ Less) ⊎ IsAfter other false one
@@ -45,7 +46,7 @@ less_after : (one other more : List ℕ) → key_cmp one other ≡ Less → IsAf
 less_after one other more less (inl same) = subst (λ (k : List ℕ). key_cmp one k ≡ Less) same less
 less_after one other more less (inr after) = key_order.trans one other more less after
 
-not_after : (one other : List ℕ) → IsAfter one false other → key_cmp other one ≡ Less → ⊥
+pub not_after : (one other : List ℕ) → IsAfter one false other → key_cmp other one ≡ Less → ⊥
 not_after one other after less = not_itself one (after_less one other one after less)
 
 nothing_before : (key : List ℕ) → key_cmp key [] ≡ Less → ⊥
@@ -124,7 +125,7 @@ module _ (map : Rows) (start : List ℕ) where
   )
 
   -- what comes at the end, or after a key that isn't before it, isn't before it
-  past_end : (end : Option (List ℕ)) (one other : List ℕ) → (IsBefore end one → ⊥) → IsAfter one false other → IsBefore end other → ⊥
+  pub past_end : (end : Option (List ℕ)) (one other : List ℕ) → (IsBefore end one → ⊥) → IsAfter one false other → IsBefore end other → ⊥
   past_end end one other not (inl same) before = not (subst (IsBefore end) (sym same) before)
   past_end end one other not (inr less) before = not (before_on end one other less before)
 
@@ -199,22 +200,12 @@ not_empty : {X : Type 0} (xs : List X) (x : X) → xs ++ x ∷ [] ≡ [] → ⊥
 not_empty [] x e = cc
 not_empty (y ∷ xs) x e = cc
 
-snoc_same : {X : Type 0} (xs ys : List X) (x y : X) → xs ++ x ∷ [] ≡ ys ++ y ∷ [] → (xs ≡ ys) × (x ≡ y)
-snoc_same [] [] x y e = (refl, cc)
-snoc_same [] (b ∷ ys) x y e = absurd (not_empty ys y (let rest : ys ++ y ∷ [] ≡ [] = cc in rest))
-snoc_same (a ∷ xs) [] x y e = absurd (not_empty xs x (let rest : xs ++ x ∷ [] ≡ [] = cc in rest))
-snoc_same {X} (a ∷ xs) (b ∷ ys) x y e =
-    let first : a ≡ b = cc in
-    let rest : xs ++ x ∷ [] ≡ ys ++ y ∷ [] = cc in
-    let same = snoc_same xs ys x y rest in
-    (ap (λ (k : X). k ∷ xs) first ∙ ap (λ (k : List X). b ∷ k) same.0, same.1)
-
 -- ---- more rows are read, when none that were read are left
 no_pairs : (pairs : Pairs) → kept_of pairs ≡ [] → pairs ≡ []
 no_pairs [] none = refl
 no_pairs (pair ∷ pairs) none = absurd (not_empty (kept_of pairs) (length (bytes_of pairs), pair.1) none)
 
-joins : (map : Rows) (unread before : Option (List ℕ)) (start : List ℕ) (pairs : Pairs) → IsDry map unread before → IsChunk map (Some start) unread pairs → IsChunk map (Some start) before pairs
+joins : (map : Rows) (unread before : Option (List ℕ)) (start : List ℕ) (pairs : Pairs) → NoneBetween map unread before → IsChunk map (Some start) unread pairs → IsChunk map (Some start) before pairs
 joins map unread before start [] dry chunk = (
   (λ key row has below. chunk.0 key row has (dry.0 key row has below)),
   λ key less. dry.1 key (chunk.1 key less),
@@ -223,7 +214,7 @@ joins map unread before start (pair ∷ pairs) dry ((has, below, greatest), chun
     ((has, dry.1 pair.0 below, λ other its there before. greatest other its there (dry.0 other its there before)), chunk)
 
 module _ (s : MachineView) (unread before : Option (List ℕ)) (keys : List ℕ) (kept : List (ℕ × Bor Row)) (k : IsKept s keys kept unread before) where
-  dry : kept ≡ [] → (h : History) → Stands s h → IsDry (rows s.columns (moment h)) unread before
+  dry : kept ≡ [] → (h : History) → Stands s h → NoneBetween (rows s.columns (moment h)) unread before
   dry none h stands = subst (IsChunk (rows s.columns (moment h)) unread before) (no_pairs k.pairs (sym k.begins ∙ none)) (k.chunk h stands)
 
   pub refilled : (start more : List ℕ) (then : List (ℕ × Bor Row)) → kept ≡ [] → IsKept s more then (Some start) unread → IsKept s more then (Some start) before
@@ -257,7 +248,7 @@ module _ (s : MachineView) (unread before : Option (List ℕ)) (keys : List ℕ)
       go : (pairs : Pairs) → keys ≡ bytes_of pairs → kept ≡ kept_of pairs → AreShort pairs → ((h : History) → Stands s h → IsChunk (rows s.columns (moment h)) unread before pairs) → IsTaken begin row rest
       go [] bytes begins short chunk = absurd (not_empty rest (begin, row) (sym is ∙ begins))
       go (pair ∷ pairs) bytes begins short chunk =
-          let same = snoc_same (kept_of pairs) rest (length (bytes_of pairs), pair.1) (begin, row) (sym begins ∙ is) in
+          let same = same_from_push (kept_of pairs) rest (length (bytes_of pairs), pair.1) (begin, row) (sym begins ∙ is) in
           let at : length (bytes_of pairs) ≡ begin = ap (λ (e : ℕ × Bor Row). e.0) same.1 in
           let its : pair.1 ≡ row = ap (λ (e : ℕ × Bor Row). e.1) same.1 in
           record {
@@ -289,8 +280,11 @@ falls (Some end) key bound short below =
     omega (arith, few, fewer)
 
 -- ---- what is left then
-module _ (s : MachineView) (unread before : Option (List ℕ)) (keys : List ℕ) (kept : List (ℕ × Bor Row)) (r : IsReading s keys kept unread before)
+module _ (s : MachineView) (unread : Option (List ℕ)) (bounded : Bool) (bound keys : List ℕ) (kept : List (ℕ × Bor Row)) (r : IsReading s keys kept unread bounded bound)
     (begin : ℕ) (row : Bor Row) (rest : List (ℕ × Bor Row)) (is : kept ≡ rest ++ (begin, row) ∷ []) where
+  abbrev before : Option (List ℕ)
+  before = bound_of bounded bound
+
   abbrev its : IsTaken s unread before keys kept r.rows_left begin row rest
   its = taken s unread before keys kept r.rows_left begin row rest is
 
@@ -301,12 +295,13 @@ module _ (s : MachineView) (unread before : Option (List ℕ)) (keys : List ℕ)
     same_key : its.key ≡ key
     same_key = sym its.is_key ∙ sym moved
 
-    pub reading_left : IsReading s more rest unread (Some key)
-    reading_left = subst (λ (k : List ℕ). IsReading s more rest unread (Some k)) same_key (record {
+    pub reading_left : IsReading s more rest unread true key
+    reading_left = subst (IsReading s more rest unread true) same_key (record {
       quiet = r.quiet;
       rows_left = subst (λ (m : List ℕ). IsKept s m rest unread (Some its.key)) (sym left) its.left;
       upper = bound_short its.key its.short;
       lower = r.lower;
+      unbounded = λ is_not. absurd (true≢false is_not);
     })
 
     pub gives_taken : (h : History) → Stands s h → GivesPrevious (rows s.columns (moment h)) before (Some row.now) (Some key)
@@ -319,17 +314,18 @@ module _ (s : MachineView) (unread before : Option (List ℕ)) (keys : List ℕ)
     fewer_left (h, stands) = subst (λ (k : List ℕ). keys_before (Some k) < keys_before before) same_key (falls before its.key r.upper its.short (its.previous h stands).1)
 
 -- ---- and if more are read
-module _ (s : MachineView) (unread before : Option (List ℕ)) (keys : List ℕ) (kept : List (ℕ × Bor Row)) (r : IsReading s keys kept unread before) (none : kept ≡ [])
+module _ (s : MachineView) (unread : Option (List ℕ)) (bounded : Bool) (bound keys : List ℕ) (kept : List (ℕ × Bor Row)) (r : IsReading s keys kept unread bounded bound) (none : kept ≡ [])
     (start same : List ℕ) (bytes : AreBytes start) (fits : length start ≤ MAX_KEY_BYTES) (before_it : IsBefore unread start) (is : same ≡ start) where
   short_start : IsShort start
   short_start = (bytes, fits)
 
-  pub reading_refilled : (more : List ℕ) (then : List (ℕ × Bor Row)) → IsKept s more then (Some start) unread → IsReading s more then (Some same) before
-  reading_refilled more then m = subst (λ (k : List ℕ). IsReading s more then (Some k) before) (sym is) (record {
+  pub reading_refilled : (more : List ℕ) (then : List (ℕ × Bor Row)) → IsKept s more then (Some start) unread → IsReading s more then (Some same) bounded bound
+  reading_refilled more then m = subst (λ (k : List ℕ). IsReading s more then (Some k) bounded bound) (sym is) (record {
     quiet = r.quiet;
-    rows_left = refilled s unread before keys kept r.rows_left start more then none m;
+    rows_left = refilled s unread (bound_of bounded bound) keys kept r.rows_left start more then none m;
     upper = r.upper;
     lower = bound_short start short_start;
+    unbounded = r.unbounded;
   })
 
   pub refill_falls : keys_before (Some same) < keys_before unread

@@ -45,12 +45,12 @@ from_there start key ge = go (key_three key start)
     go (inr (inl same)) = inl (sym same)
     go (inr (inr more)) = inr (cmp_less start key more)
 
-at_or_after : (start key : List ℕ) → IsAfter start false key → is_ge (key_cmp key start) ≡ true
+pub at_or_after : (start key : List ℕ) → IsAfter start false key → is_ge (key_cmp key start) ≡ true
 at_or_after start key (inl same) = ap is_ge (ap (key_cmp key) same ∙ cmp_equal key)
 at_or_after start key (inr less) = ap is_ge (turned start key less)
 
 -- what is after a key that is to come is to come
-comes_later : (key : List ℕ) (given : Bool) (one other : List ℕ) → IsAfter key given one → key_cmp one other ≡ Less → IsAfter key given other
+pub comes_later : (key : List ℕ) (given : Bool) (one other : List ℕ) → IsAfter key given one → key_cmp one other ≡ Less → IsAfter key given other
 comes_later key true one other after less = key_order.trans key one other after less
 comes_later key false one other (inl same) less = inr (subst (λ (k : List ℕ). key_cmp k other ≡ Less) (sym same) less)
 comes_later key false one other (inr after) less = inr (key_order.trans key one other after less)

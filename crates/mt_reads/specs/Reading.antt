@@ -1,6 +1,7 @@
 -- How rows are read before a bound, some at a time: for the proof of a walk back.
 use Rattle.std.specs.Prelude.{ℕ, ◌≡◌, ◌≤◌, ◌+◌, List, [], ◌∷◌, ◌++◌, length, Option, Some, None, Bool, true, false}
 use Rattle.std.specs.Borrow.{Bor}
+use Rattle.std.specs.Option.{option_copied}
 use Rattle.std.specs.FinMap.{get}
 use Rattle.mt_types.specs.Rows.{Rows}
 use Rattle.mt_types.specs.declared.limits.TheConstants.{MAX_KEY_BYTES}
@@ -9,7 +10,8 @@ use Rattle.mt_promise.specs.History.{History, moment, rows}
 use Rattle.mt_slice.specs.Place.{AreBytes}
 use Rattle.mt_index.specs.Alone.{IsQuiet}
 use Rattle.mt_index.specs.Stands.{MachineView, Stands}
-use Rattle.mt_reads.specs.Back.{IsBefore, IsPrevious}
+use Rattle.mt_reads.specs.Back.{IsBefore, IsPrevious, GivesPrevious, bound_of}
+use Rattle.mt_reads.specs.declared.reading.Reading.{Reading}
 
 -- rows with their keys, that of the greatest key first
 abbrev pub Pairs : Type 0
@@ -26,14 +28,14 @@ kept_of [] = []
 kept_of (pair ∷ pairs) = kept_of pairs ++ (length (bytes_of pairs), pair.1) ∷ []
 
 -- each row of the map before the one bound is before the other, which isn't after it
-abbrev pub IsDry : Rows → Option (List ℕ) → Option (List ℕ) → Type 0
-IsDry map unread before =
+abbrev pub NoneBetween : Rows → Option (List ℕ) → Option (List ℕ) → Type 0
+NoneBetween map unread before =
     ((key : List ℕ) (row : Row) → get map key ≡ Some row → IsBefore before key → IsBefore unread key)
     × ((key : List ℕ) → IsBefore unread key → IsBefore before key)
 
 -- from a bound back these are the rows of the map, as far as another bound
 abbrev pub IsChunk : Rows → Option (List ℕ) → Option (List ℕ) → Pairs → Type 0
-IsChunk map unread before [] = IsDry map unread before
+IsChunk map unread before [] = NoneBetween map unread before
 IsChunk map unread before (pair ∷ pairs) =
     IsPrevious map before pair.0 pair.1.now × IsChunk map unread (Some pair.0) pairs
 
@@ -60,14 +62,27 @@ pub record IsKept (machine : MachineView) (keys : List ℕ) (kept : List (ℕ ×
   pub chunk : (h : History) → Stands machine h → IsChunk (rows machine.columns (moment h)) unread before pairs
 
 -- rows of a machine are read: those that are kept are to come, and then those before the bound of what isn't read
-pub record IsReading (machine : MachineView) (keys : List ℕ) (kept : List (ℕ × Bor Row)) (unread before : Option (List ℕ))
-    : Type 0 where
+pub record IsReading (machine : MachineView) (keys : List ℕ) (kept : List (ℕ × Bor Row)) (unread : Option (List ℕ))
+    (bounded : Bool) (key : List ℕ) : Type 0 where
   pub quiet : IsQuiet machine
-  pub rows_left : IsKept machine keys kept unread before
-  pub upper : IsBound before
+  pub rows_left : IsKept machine keys kept unread (bound_of bounded key)
+  pub upper : IsBound (bound_of bounded key)
   pub lower : IsBound unread
+  pub unbounded : bounded ≡ false → key ≡ []
+
+-- ---- the same of what the code keeps
+abbrev pub Reads : Reading → Type 0
+Reads r = IsReading r.machine.now r.chunk.keys.items r.chunk.rows.items r.unread r.is_bounded r.key.items
+
+abbrev pub bound_at : Reading → Option (List ℕ)
+bound_at r = bound_of r.is_bounded r.key.items
+
+-- the row before the bound of the one is returned, and its key is the bound of the other
+abbrev pub GivesRow : Reading → Reading → Option (Bor Row) → Type 0
+GivesRow old new row = (h : History) → Stands old.machine.now h
+    → GivesPrevious (rows old.machine.now.columns (moment h)) (bound_at old) (option_copied row) (bound_at new)
 
 -- unless memory was refused
-abbrev pub IsBack : Bool → MachineView → List ℕ → List (ℕ × Bor Row) → Option (List ℕ) → Option (List ℕ) → Type 0
-IsBack true machine keys kept unread before = Unit {0}
-IsBack false machine keys kept unread before = IsReading machine keys kept unread before
+abbrev pub IsBack : Bool → Reading → Type 0
+IsBack true r = Unit {0}
+IsBack false r = Reads r

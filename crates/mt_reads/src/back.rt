@@ -1,6 +1,6 @@
 //! Walks over the rows of a machine on which no change is under way, against the order of their keys.
 
-ghost use Rattle.std.specs.Prelude.{◌≡◌, ◌≤◌, ◌<◌, ◌+◌, ◌↔◌, IfErr, IfOk, IfSome, IsSomeAnd, IsErr, IsTrue, OnSome, false, length};
+ghost use Rattle.std.specs.Prelude.{◌≡◌, ◌≤◌, ◌<◌, ◌+◌, ◌↔◌, IfErr, IfOk, IfSome, IsSomeAnd, IsErr, IsTrue, None, OnSome, [], false, length};
 ghost use Rattle.std.specs.Option.{option_copied};
 ghost use Rattle.mt_types.specs.declared.limits.TheConstants.{MAX_KEY_BYTES};
 ghost use Rattle.mt_promise.specs.History.{History, moment, rows};
@@ -49,8 +49,7 @@ impl<'m> Model for RowsBack<'m> {
       failed = r.failed;
     } };
 
-    ghost invariant = { λ r. IsBack r.failed r.reading.machine.now r.reading.chunk.keys.items r.reading.chunk.rows.items
-        r.reading.unread (bound_of r.reading.is_bounded r.reading.key.items) };
+    ghost invariant = { λ r. IsBack r.failed r.reading };
 }
 
 impl<'m> RowsBack<'m> {
@@ -120,7 +119,8 @@ impl<'m> RowsBack<'m> {
     ///         println!(rt; "{} bytes", rows.key().len())?;
     ///     }
     pub fn key(&self) -> &[u8]
-        ensures { IfSome self.now.before (λ key. result.now ≡ key) }
+        ensures key { IfSome self.now.before (λ key. result.now ≡ key) }
+        ensures none { self.now.failed ≡ false → self.now.before ≡ None → result.now ≡ [] }
     {
         self.reading.key.as_slice()
     }

@@ -1,7 +1,9 @@
 //! The last key, and a range against the order of keys: a walk back with a limit.
 
 ghost use Rattle.std.specs.Prelude.{◌≡◌, ◌≤◌, ◌+◌, IfErr, IfOk, IfSome, MatchOption, Err, length};
+ghost use Rattle.std.specs.List.{AllByRecursion};
 ghost use Rattle.std.specs.Option.{option_copied};
+ghost use Rattle.mt_types.specs.Limited.{PairsAreLimited};
 ghost use Rattle.mt_types.specs.declared.limits.TheConstants.{MAX_KEY_BYTES};
 ghost use Rattle.mt_promise.specs.History.{History, moment, rows};
 ghost use Rattle.mt_index.specs.Alone.{IsQuiet};
@@ -64,8 +66,9 @@ pub fn range_back(
 ) -> Result<Pairs, NoMemory>
     requires quiet { IsQuiet machine.now }
     requires fits { IfSome (option_copied before) (λ key. length key ≤ MAX_KEY_BYTES + 1) }
-    ensures { IfOk result (λ pairs. (h : History) → Stands machine.now h
+    ensures pairs { IfOk result (λ pairs. (h : History) → Stands machine.now h
         → IsRangeBack (rows machine.now.columns (moment h)) columns.now (option_copied before.entry) limit pairs) }
+    ensures short { IfOk result (AllByRecursion (λ pair. length pair.0 ≤ MAX_KEY_BYTES)) }
 {
     let mut walk = RowsBack::of(alloc, machine, before)?;
     let room = usize::from(limit.min(ROOM_KEYS));
@@ -100,7 +103,9 @@ pub fn pairs_back(
         → IsRangeBack (rows machine.now.columns (moment h)) columns.now (option_copied before.entry) limit pairs) }
     ensures fault { MatchOption (back_fault machine.now.columns (option_copied before.entry) limit columns.now)
         (IfErr result (λ refusal. refusal ≡ Refusal.NoMemory)) (λ refusal. result ≡ Err refusal) }
+    ensures limited { IfOk result PairsAreLimited }
 {
+    let _stands = machine.is_idle();
     let key = before.unwrap_or(b"");
     if let Some(refusal) = range_fault(machine.columns(), key, limit, columns) {
         return Err(refusal);

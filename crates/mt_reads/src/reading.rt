@@ -1,14 +1,12 @@
 //! Rows that are read before a bound, some at a time, and returned from the last on.
 
-ghost use Rattle.std.specs.Prelude.{◌≡◌, true, ◌+◌, IfSome, ◌≢◌, ◌<◌, ◌≤◌, length, take, drop, ◌↔◌, IfOk, IsTrue, MatchOption, OnOk, OnSome, Some, None, [], ◌∷◌, ◌++◌, List, ℕ};
+ghost use Rattle.std.specs.Prelude.{◌≡◌, true, false, ◌+◌, IfSome, ◌≢◌, ◌<◌, ◌≤◌, length, take, drop, ◌↔◌, IfOk, IsTrue, MatchOption, OnOk, OnSome, Some, None, [], ◌∷◌, ◌++◌, List, ℕ};
 ghost use Rattle.std.specs.Option.{option_copied};
 ghost use Rattle.mt_types.specs.declared.limits.TheConstants.{MAX_KEY_BYTES};
 ghost use Rattle.mt_slice.specs.Place.{AreBytes};
-ghost use Rattle.mt_promise.specs.History.{History, moment, rows};
 ghost use Rattle.mt_index.specs.Alone.{IsQuiet};
-ghost use Rattle.mt_index.specs.Stands.{Stands};
-ghost use Rattle.mt_reads.specs.Back.{IsBefore, GivesPrevious, bound_of, keys_before};
-ghost use Rattle.mt_reads.specs.Reading.{IsBound, IsKept, IsReading};
+ghost use Rattle.mt_reads.specs.Back.{IsBefore, bound_of, keys_before};
+ghost use Rattle.mt_reads.specs.Reading.{GivesRow, IsBound, IsKept, Reads, bound_at};
 
 use crate::nearby::begin_before;
 use crate::rows::Rows;
@@ -32,8 +30,8 @@ pub(crate) struct Chunk<'m> {
     pub(crate) rows: Vec<(usize, &'m Row)>,
 }
 
-// Whether a key is before a bound, if there is one.
-fn is_before(key: &[u8], end: Option<&[u8]>) -> bool
+/// Returns whether a key is before a bound, if there is one.
+pub(crate) fn is_before(key: &[u8], end: Option<&[u8]>) -> bool
     ensures { IsTrue result ↔ IsBefore (option_copied end.entry) key.now }
 {
     match end {
@@ -42,8 +40,8 @@ fn is_before(key: &[u8], end: Option<&[u8]>) -> bool
     }
 }
 
-// Returns a bound, borrowed.
-fn bound(bytes: &Option<Bytes>) -> Option<&[u8]>
+/// Returns a bound, borrowed.
+pub(crate) fn bound(bytes: &Option<Bytes>) -> Option<&[u8]>
     ensures { option_copied result ≡ bytes.now }
 {
     match bytes {
@@ -121,11 +119,11 @@ impl<'m> Reading<'m> {
     ) -> Reading<'m>
         requires quiet { IsQuiet machine.now }
         requires bound { bound_of is_bounded key.items ≡ unread }
+        requires unbounded { is_bounded ≡ false → key.items ≡ [] }
         requires short { IsBound unread }
-        ensures reading { IsReading result.machine.now result.chunk.keys.items result.chunk.rows.items result.unread
-            (bound_of result.is_bounded result.key.items) }
+        ensures reading { Reads result }
         ensures machine { result.machine ≡ machine.exit }
-        ensures before { bound_of result.is_bounded result.key.items ≡ unread }
+        ensures before { bound_at result ≡ unread }
     {
         let chunk = Chunk {
             keys: Vec::new(alloc),
@@ -153,11 +151,9 @@ impl<'m> Reading<'m> {
     ) -> Result<Reading<'m>, NoMemory>
         requires quiet { IsQuiet machine.now }
         requires fits { IfSome (option_copied before) (λ key. length key ≤ MAX_KEY_BYTES + 1) }
-        ensures reading { IfOk result (λ reading. IsReading reading.machine.now reading.chunk.keys.items
-            reading.chunk.rows.items reading.unread (bound_of reading.is_bounded reading.key.items)) }
+        ensures reading { IfOk result Reads }
         ensures machine { IfOk result (λ reading. reading.machine ≡ machine.exit) }
-        ensures before { IfOk result (λ reading. bound_of reading.is_bounded reading.key.items
-            ≡ option_copied before.exit) }
+        ensures before { IfOk result (λ reading. bound_at reading ≡ option_copied before.exit) }
     {
         let Some(before) = before else {
             return Ok(Reading::with(alloc, machine, None, Vec::new(alloc), false));
@@ -181,15 +177,13 @@ impl<'m> Reading<'m> {
 
     // Reads the rows in front of those that were read.
     fn refill(&mut self) -> Result<(), NoMemory>
-        requires reading { IsReading self.old.machine.now self.old.chunk.keys.items self.old.chunk.rows.items
-            self.old.unread (bound_of self.old.is_bounded self.old.key.items) }
+        requires reading { Reads self.old }
         requires none { self.old.chunk.rows.items ≡ [] }
         requires more { self.old.unread ≢ Some [] }
-        ensures reading { OnOk result (IsReading self.new.machine.now self.new.chunk.keys.items self.new.chunk.rows.items
-            self.new.unread (bound_of self.new.is_bounded self.new.key.items)) }
+        ensures reading { OnOk result (Reads self.new) }
         ensures further { OnOk result (keys_before self.new.unread < keys_before self.old.unread) }
         ensures machine { self.new.machine ≡ self.old.machine }
-        ensures bound { bound_of self.new.is_bounded self.new.key.items ≡ bound_of self.old.is_bounded self.old.key.items }
+        ensures bound { bound_at self.new ≡ bound_at self.old }
     {
         let _stands = self.machine.is_idle();
         let end = bound(&self.unread);
@@ -202,17 +196,11 @@ impl<'m> Reading<'m> {
 
     // Returns the last row that is read and still to come.
     fn pop(&mut self) -> Result<Option<&'m Row>, NoMemory>
-        requires reading { IsReading self.old.machine.now self.old.chunk.keys.items self.old.chunk.rows.items
-            self.old.unread (bound_of self.old.is_bounded self.old.key.items) }
+        requires reading { Reads self.old }
         requires done { self.old.chunk.rows.items ≡ [] → self.old.unread ≡ Some [] }
-        ensures reading { OnOk result (IsReading self.new.machine.now self.new.chunk.keys.items self.new.chunk.rows.items
-            self.new.unread (bound_of self.new.is_bounded self.new.key.items)) }
-        ensures row { IfOk result (λ row. (h : History) → Stands self.old.machine.now h
-            → GivesPrevious (rows self.old.machine.now.columns (moment h)) (bound_of self.old.is_bounded self.old.key.items)
-            (option_copied row) (bound_of self.new.is_bounded self.new.key.items)) }
-        ensures fewer { IfOk result (λ row. OnSome row
-            (keys_before (bound_of self.new.is_bounded self.new.key.items)
-            < keys_before (bound_of self.old.is_bounded self.old.key.items))) }
+        ensures reading { OnOk result (Reads self.new) }
+        ensures row { IfOk result (GivesRow self.old self.new) }
+        ensures fewer { IfOk result (λ row. OnSome row (keys_before (bound_at self.new) < keys_before (bound_at self.old))) }
         ensures fits { IfOk result (λ row. OnSome row (length self.new.key.items ≤ MAX_KEY_BYTES)) }
         ensures bounded { IfOk result (λ row. OnSome row (self.new.is_bounded ≡ true)) }
         ensures machine { self.new.machine ≡ self.old.machine }
@@ -234,16 +222,10 @@ impl<'m> Reading<'m> {
     ///
     /// `NoMemory` if an allocation is refused. The reading must not be used after that.
     pub(crate) fn next(&mut self) -> Result<Option<&'m Row>, NoMemory>
-        requires { IsReading self.old.machine.now self.old.chunk.keys.items self.old.chunk.rows.items
-            self.old.unread (bound_of self.old.is_bounded self.old.key.items) }
-        ensures reading { OnOk result (IsReading self.new.machine.now self.new.chunk.keys.items self.new.chunk.rows.items
-            self.new.unread (bound_of self.new.is_bounded self.new.key.items)) }
-        ensures row { IfOk result (λ row. (h : History) → Stands self.old.machine.now h
-            → GivesPrevious (rows self.old.machine.now.columns (moment h)) (bound_of self.old.is_bounded self.old.key.items)
-            (option_copied row) (bound_of self.new.is_bounded self.new.key.items)) }
-        ensures fewer { IfOk result (λ row. OnSome row
-            (keys_before (bound_of self.new.is_bounded self.new.key.items)
-            < keys_before (bound_of self.old.is_bounded self.old.key.items))) }
+        requires { Reads self.old }
+        ensures reading { OnOk result (Reads self.new) }
+        ensures row { IfOk result (GivesRow self.old self.new) }
+        ensures fewer { IfOk result (λ row. OnSome row (keys_before (bound_at self.new) < keys_before (bound_at self.old))) }
         ensures fits { IfOk result (λ row. OnSome row (length self.new.key.items ≤ MAX_KEY_BYTES)) }
         ensures bounded { IfOk result (λ row. OnSome row (self.new.is_bounded ≡ true)) }
         ensures machine { self.new.machine ≡ self.old.machine }

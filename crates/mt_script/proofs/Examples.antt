@@ -6,7 +6,9 @@ use Rattle.mt_types.specs.declared.event.Request.TheVariants.{Get, Put, PutIf, R
 use Rattle.mt_types.specs.declared.view.ViewSpec.TheVariants.{Range as RangeOf, Prefix as PrefixOf}
 use Rattle.mt_types.specs.declared.view.RowTest.TheVariants.{Any, Equals, AtLeast}
 use Rattle.mt_types.specs.declared.event.Event.TheVariants.{Begin, Step, ViewRead, Advance}
-use Rattle.mt_script.specs.declared.command.Command.TheVariants.{Once, Finish, Alone, Feed}
+use Rattle.mt_script.specs.declared.command.Command.TheVariants.{Once, Finish, Alone, Feed, Read}
+use Rattle.mt_reads.specs.declared.quiet.QuietRead.TheVariants.{Gets, Count}
+use Rattle.mt_script.specs.Reads.{count_of, gets_of, read_of}
 use Rattle.mt_types.specs.declared.event.Outcome.TheVariants.{Moved}
 use Rattle.mt_script.specs.declared.command.Reply.TheVariants.{Bad, Came}
 use Rattle.mt_script.specs.Lines.{lines_of}
@@ -78,12 +80,20 @@ feeds : command_of (codes "feed 0 10") ≡ Some (Feed 0 10)
 unfolding command_of long_command_of view_command_of feed_of
 feeds = refl
 
+counts : command_of (codes "count 61 none 10") ≡ Some (Read (Count (97 ∷ []) None 10))
+unfolding command_of long_command_of view_command_of read_of count_of end_of decode_pairs
+counts = refl
+
+gets_two : command_of (codes "gets 61,- all") ≡ Some (Read (Gets ((97 ∷ []) ∷ [] ∷ []) []))
+unfolding command_of long_command_of view_command_of read_of gets_of columns_of decode_pairs
+gets_two = refl
+
 advances : command_of (codes "advance") ≡ Some (Once Advance)
 unfolding command_of
 advances = refl
 
 no_more_words : command_of (codes "advance 1") ≡ None
-unfolding command_of long_command_of view_command_of
+unfolding command_of long_command_of view_command_of read_of
 no_more_words = refl
 
 two_spaces : command_of (codes "step  7") ≡ None

@@ -3,9 +3,10 @@ use Rattle.std.specs.Prelude.{ℕ, ◌-◌, ◌^◌, if◌then◌else◌, List, 
 use Rattle.std.specs.Str.{bytes_eq}
 use Rattle.mt_types.specs.declared.event.Event.TheVariants.{Begin, Step, Apply, ViewRead, ViewDrop, Advance, Collect}
 use Rattle.mt_script.specs.declared.command.Command.{Command}
-use Rattle.mt_script.specs.declared.command.Command.TheVariants.{Once, Finish, Alone, Feed}
+use Rattle.mt_script.specs.declared.command.Command.TheVariants.{Once, Finish, Alone, Feed, Read}
 use Rattle.mt_script.specs.Words.{◌>>=◌, word_at, number_of, bytes_of}
 use Rattle.mt_script.specs.Reading.{request_of}
+use Rattle.mt_script.specs.Reads.{read_of}
 
 -- PASS REQUEST
 unfoldable pub begin_of : List ℕ → Option Command
@@ -65,18 +66,18 @@ feed_of text = do
   limit ← number_of 65535 from.1
   Some (Feed number limit)
 
--- of views and of the feed, by the first word of the line: apply VIEW, view VIEW FLOOR START LIMIT, drop VIEW or
--- feed FROM LIMIT
+-- of views, of the feed and of reads, by the first word of the line: apply VIEW, view VIEW FLOOR START LIMIT, drop VIEW,
+-- feed FROM LIMIT, or a read
 unfoldable pub view_command_of : List ℕ → List ℕ → Option Command
 view_command_of word text =
     if bytes_eq word (codes "apply") then apply_of text
     else if bytes_eq word (codes "view") then view_read_of text
     else if bytes_eq word (codes "drop") then view_drop_of text
     else if bytes_eq word (codes "feed") then feed_of text
-    else None
+    else (read_of word text >>= λ read. Some (Read read))
 
 -- of more than one word: of calls (begin PASS REQUEST, step CALL, finish CALL or alone REQUEST), of
--- views or of the feed
+-- views, of the feed or of reads
 unfoldable pub long_command_of : List ℕ → Option Command
 long_command_of line = do
   word ← word_at 32 line

@@ -2,6 +2,7 @@ pub mod Commands
 pub mod Lines
 pub mod Machine
 pub mod Reading
+pub mod Reads
 pub mod Script
 pub mod Showing
 pub mod Source

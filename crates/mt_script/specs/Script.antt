@@ -21,11 +21,13 @@ use Rattle.mt_commit.specs.Logged.{deltas_of}
 use Rattle.mt_script.specs.declared.fault.ScriptFault.{ScriptFault}
 use Rattle.mt_script.specs.declared.fault.ScriptFault.TheVariants.{Read, Start, NoMemory}
 use Rattle.mt_script.specs.declared.command.Command.{Command}
-use Rattle.mt_script.specs.declared.command.Command.TheVariants.{Once, Finish, Alone, Feed}
+use Rattle.mt_script.specs.declared.command.Command.TheVariants.{Once, Finish, Alone, Feed, Read as ReadLine}
 use Rattle.mt_script.specs.declared.command.Reply.{Reply}
-use Rattle.mt_script.specs.declared.command.Reply.TheVariants.{Bad, Busy, Came, Fed, NotFed}
+use Rattle.mt_script.specs.declared.command.Reply.TheVariants.{Bad, Busy, Came, Fed, NotFed, Read as ReadSo, NotRead}
 use Rattle.mt_script.specs.Lines.{lines_of, line_text, ReadsLines}
 use Rattle.mt_script.specs.Commands.{command_of}
+use Rattle.mt_reads.specs.declared.quiet.QuietRead.{QuietRead}
+use Rattle.mt_script.specs.Reads.{IsNotRead, IsReadSo, quiet_text}
 use Rattle.mt_script.specs.Showing.{outcome_text, refusal_text, delta_text}
 
 -- the lines of a reply, each with a line feed
@@ -35,6 +37,8 @@ reply_lines Busy = line_text (codes "busy")
 reply_lines (Came outcome) = line_text (outcome_text outcome)
 reply_lines (Fed deltas) = flat_map (λ delta. line_text (delta_text delta)) deltas
 reply_lines (NotFed refusal) = line_text (refusal_text refusal)
+reply_lines (ReadSo answer) = line_text (quiet_text answer)
+reply_lines (NotRead refusal) = line_text (refusal_text refusal)
 
 -- the lines of each reply
 abbrev pub output_of : List Reply → List ℕ
@@ -126,6 +130,13 @@ Feeds C keep from limit past (NotFed refusal) =
     ⊎ ((feed_refusal keep from limit past ≡ None) × (refusal ≡ WantOfMemory))
 Feeds C keep from limit past _ = ⊥
 
+-- a read of one moment, if no call is open: what a map of the rows answers, or why there is no answer
+abbrev pub ReadsOnce : ℕ → QuietRead → History → Reply → Type 0
+ReadsOnce C read past (ReadSo answer) = (open_calls past ≡ 0) × IsReadSo C read past answer
+ReadsOnce C read past (NotRead refusal) = (open_calls past ≡ 0) × IsNotRead C read refusal
+ReadsOnce C read past Busy = 0 < open_calls past
+ReadsOnce C read past _ = ⊥
+
 -- what a line says was answered so after this past, on an index of C columns that keeps `keep` commits for no reader,
 -- and led to this history
 abbrev pub Answers : ℕ → ℕ → Option Command → History → Reply → History → Type 0
@@ -134,6 +145,7 @@ Answers C keep (Some (Once event)) past reply h = Asks event past reply h
 Answers C keep (Some (Finish call)) past reply h = Ends call past reply h
 Answers C keep (Some (Alone request)) past reply h = DoesAlone C request past reply h
 Answers C keep (Some (Feed from limit)) past reply h = Feeds C keep from limit past reply × (h ≡ past)
+Answers C keep (Some (ReadLine read)) past reply h = ReadsOnce C read past reply × (h ≡ past)
 
 -- these lines, one after the other, were answered so, each by one reply
 abbrev pub AnswersAll : ℕ → ℕ → History → List (List ℕ) → List Reply → History → Type 0

@@ -1,5 +1,6 @@
 //! What a line of a script asks for, and what it is answered.
 
+use mt_reads::quiet::{QuietAnswer, QuietRead};
 use mt_types::event::{Event, Outcome, Request};
 use mt_types::items::Items;
 use mt_types::numbers::CallNo;
@@ -17,6 +18,8 @@ pub enum Command {
     Alone(Request),
     /// The deltas of the commits after the first `from`, at most `limit`. No event happens.
     Feed { from: u64, limit: u16 },
+    /// A read of one moment, if no call is open. No event happens.
+    Read(QuietRead),
 }
 
 /// What a line of a script is answered.
@@ -24,7 +27,7 @@ pub enum Command {
 pub enum Reply {
     /// The line says nothing, or what the index doesn't serve yet.
     Bad,
-    /// A call was to run alone while others are open. No event happened.
+    /// A call was to run alone, or a read to be of one moment, while calls are open. No event happened.
     Busy,
     /// What came of its last event.
     Came(Outcome),
@@ -32,4 +35,8 @@ pub enum Reply {
     Fed(Items<Delta>),
     /// Why a feed gave none.
     NotFed(Refusal),
+    /// The answer to a read of one moment.
+    Read(QuietAnswer),
+    /// Why such a read has none.
+    NotRead(Refusal),
 }

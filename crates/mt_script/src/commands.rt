@@ -7,6 +7,7 @@ ghost use Rattle.mt_script.specs.Commands.{begin_of, step_of, finish_of, alone_o
 use crate::command::Command;
 use crate::fault::LineError;
 use crate::reading::read_request;
+use crate::reads::read_quiet_of;
 use crate::words::{bytes_from, cut, number};
 use mt_types::event::Event;
 use mt_types::numbers::{CallNo, PassNo, ViewNo};
@@ -91,7 +92,7 @@ fn feed(text: &[u8]) -> Result<Command, LineError>
     Ok(Command::Feed { from, limit })
 }
 
-// A line of views or of the feed, by its first word and what follows.
+// A line of views, of the feed or of a read, by its first word and what follows.
 #[tactic(auto, unfolding(crate::specs::Commands::view_command_of))]
 fn view_command(alloc: Global, word: &[u8], rest: &[u8]) -> Result<Command, LineError>
     ensures { Gives (λ c. c) result (view_command_of word.now rest.now) }
@@ -105,7 +106,8 @@ fn view_command(alloc: Global, word: &[u8], rest: &[u8]) -> Result<Command, Line
     } else if word == b"feed".as_slice() {
         feed(rest)
     } else {
-        Err(LineError::Bad)
+        let read = read_quiet_of(alloc, word, rest)?;
+        Ok(Command::Read(read))
     }
 }
 
@@ -130,7 +132,7 @@ fn long_command(alloc: Global, line: &[u8]) -> Result<Command, LineError>
 
 /// What a line says, its words parted by one space: `begin PASS REQUEST`, `step CALL`, `finish CALL` or
 /// `alone REQUEST`; `apply VIEW`, `view VIEW FLOOR START LIMIT` or `drop VIEW`; `advance` or `collect`;
-/// `feed FROM LIMIT`. Costs what its request costs to read.
+/// `feed FROM LIMIT`; `gets KEYS COLS`, `back END LIMIT COLS` or `count START END MOST`. Costs what its request costs to read.
 #[tactic(auto, unfolding(crate::specs::Commands::command_of))]
 pub fn read_command(alloc: Global, line: &[u8]) -> Result<Command, LineError>
     ensures { Gives (λ c. c) result (command_of line.now) }

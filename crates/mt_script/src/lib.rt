@@ -6,6 +6,7 @@ pub mod command;
 pub mod commands;
 pub mod fault;
 pub mod reading;
+mod reads;
 mod replies;
 pub mod script;
 pub mod showing;

@@ -28,7 +28,7 @@ impl Part for (u8, Column) {
 }
 
 #[tactic(auto, unfolding(crate::specs::Reading::columns_of))]
-fn columns(alloc: Global, text: &[u8]) -> Result<ColumnNumbers, LineError>
+pub(crate) fn columns(alloc: Global, text: &[u8]) -> Result<ColumnNumbers, LineError>
     ensures { Gives (λ c. c) result (columns_of text.now) }
 {
     if text == b"all".as_slice() {
@@ -158,7 +158,7 @@ fn test(alloc: Global, text: &[u8]) -> Result<RowTest, LineError>
 }
 
 #[tactic(auto, unfolding(crate::specs::Reading::end_of))]
-fn end(alloc: Global, word: &[u8]) -> Result<Option<Bytes>, LineError>
+pub(crate) fn end(alloc: Global, word: &[u8]) -> Result<Option<Bytes>, LineError>
     ensures { Gives (λ e. e) result (end_of word.now) }
 {
     if word == b"none".as_slice() {

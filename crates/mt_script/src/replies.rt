@@ -7,6 +7,7 @@ ghost use Rattle.mt_script.specs.Showing.{delta_text};
 ghost use Rattle.mt_script.specs.Script.{reply_lines};
 
 use crate::command::Reply;
+use crate::reads::push_quiet;
 use crate::showing::{push_delta, push_outcome, push_refusal};
 use mt_types::row::Delta;
 use std::alloc::{AllocError, Global};
@@ -36,6 +37,14 @@ pub(crate) fn reply_text(alloc: Global, reply: &Reply) -> Result<String, AllocEr
         }
         Reply::Fed(deltas) => push_deltas(alloc, &mut text, deltas.as_slice())?,
         Reply::NotFed(refusal) => {
+            push_refusal(&mut text, *refusal)?;
+            text.push_str("\n")?;
+        }
+        Reply::Read(answer) => {
+            push_quiet(alloc, &mut text, answer)?;
+            text.push_str("\n")?;
+        }
+        Reply::NotRead(refusal) => {
             push_refusal(&mut text, *refusal)?;
             text.push_str("\n")?;
         }

@@ -9,7 +9,7 @@ ghost use Rattle.mt_promise.specs.History.{History};
 ghost use Rattle.mt_index.specs.Stands.{Stands};
 ghost use Rattle.mt_script.specs.Commands.{command_of};
 ghost use Rattle.mt_script.specs.Machine.{Leads, IsAsBefore};
-ghost use Rattle.mt_script.specs.Script.{goes_on, reply_lines, bad_lines, start_fault, Happens, Finishes, DoesAlone, Asks, Feeds, Answers, Played, Broke};
+ghost use Rattle.mt_script.specs.Script.{goes_on, reply_lines, bad_lines, start_fault, Happens, Finishes, DoesAlone, Asks, Feeds, ReadsOnce, Answers, Played, Broke};
 ghost use Rattle.mt_streams.specs.Sinks.{sink_writer, write_failed};
 ghost use Rattle.mt_script.specs.Source.{source_rest, source_unread, read_failed};
 ghost use Rattle.mt_script.specs.declared.fault.ScriptFault.TheVariants.{Read as ReadFault, Write as WriteFault, Start, NoMemory};
@@ -21,6 +21,7 @@ use crate::replies::reply_text;
 use crate::source::Source;
 use mt_index::machine::Machine;
 use mt_index::options::Options;
+use mt_reads::quiet::{QuietRead, read_quiet};
 use mt_streams::sink::Sink;
 use mt_types::event::{Event, Outcome, Request};
 use mt_types::items::Items;
@@ -93,6 +94,19 @@ fn feed(machine: &Machine, alloc: Global, from: u64, limit: u16) -> Reply
     }
 }
 
+// The answer to a read of one moment, if no call is open. No event happens.
+fn read(machine: &Machine, alloc: Global, read: &QuietRead) -> Reply
+    ensures { (h : History) → Stands machine.now h → ReadsOnce machine.now.columns read.now h result }
+{
+    if machine.open_calls() > 0 {
+        return Reply::Busy;
+    }
+    match read_quiet(alloc, machine, read) {
+        Ok(answer) => Reply::Read(answer),
+        Err(refusal) => Reply::NotRead(refusal),
+    }
+}
+
 // What a line is answered.
 fn answer(machine: &mut Machine, alloc: Global, line: &[u8]) -> Result<Reply, ScriptFault>
     ensures stands { IfOk result (λ reply. Leads machine.old
@@ -105,6 +119,7 @@ fn answer(machine: &mut Machine, alloc: Global, line: &[u8]) -> Result<Reply, Sc
         Ok(Command::Finish(call)) => Ok(Reply::Came(finish(machine, alloc, call))),
         Ok(Command::Alone(request)) => Ok(alone(machine, alloc, request)),
         Ok(Command::Feed { from, limit }) => Ok(feed(machine, alloc, from, limit)),
+        Ok(Command::Read(asked)) => Ok(read(machine, alloc, &asked)),
         Err(LineError::Bad) => Ok(Reply::Bad),
         Err(LineError::Memory) => Err(ScriptFault::NoMemory),
     }
@@ -177,7 +192,8 @@ fn start_fault(refusal: Refusal) -> ScriptFault
 ///
 /// A line is `begin PASS REQUEST`, `step CALL`, `finish CALL` or `alone REQUEST`, `apply VIEW`,
 /// `view VIEW FLOOR START LIMIT` or `drop VIEW`, `advance`, `collect`, or `feed FROM LIMIT`, which is answered by a line
-/// for each delta. A line of other bytes is answered `bad line`. The modules `commands`, `reading` and `showing` say
+/// for each delta, or `gets KEYS COLS`, `back END LIMIT COLS` or `count START END MOST`, which are answered from the rows
+/// of one moment. A line of other bytes is answered `bad line`. The modules `commands`, `reading` and `showing` say
 /// what a line asks for and how an outcome is written. `finish` makes at most 1,000,000 steps.
 ///
 /// Each reply is written in one piece. The writer isn't flushed. A line costs its event, its steps or its deltas,

@@ -54,7 +54,11 @@ fn push_row(alloc: Global, out: &mut String, pair: &(Key, Row)) -> Result<(), Al
     push_values(alloc, out, &pair.1.columns)
 }
 
-fn push_rows(alloc: Global, out: &mut String, pairs: &[(Key, Row)]) -> Result<(), AllocError>
+pub(crate) fn push_rows(
+    alloc: Global,
+    out: &mut String,
+    pairs: &[(Key, Row)],
+) -> Result<(), AllocError>
     ensures { OnOk result (string_bytes out.new ≡ string_bytes out.old ++ rows_text pairs.now) }
 {
     let count = pairs.len();
@@ -172,7 +176,11 @@ pub fn push_outcome(alloc: Global, out: &mut String, outcome: &Outcome) -> Resul
 }
 
 #[tactic(auto, unfolding(crate::specs::Showing::row_or_none))]
-fn push_row_or_none(alloc: Global, out: &mut String, row: &Option<Row>) -> Result<(), AllocError>
+pub(crate) fn push_row_or_none(
+    alloc: Global,
+    out: &mut String,
+    row: &Option<Row>,
+) -> Result<(), AllocError>
     ensures { OnOk result (string_bytes out.new ≡ string_bytes out.old ++ row_or_none row.now) }
 {
     match row {

@@ -27,12 +27,13 @@ use Rattle.mt_types.specs.declared.event.Outcome.TheVariants as outcomes
 use Rattle.mt_promise.specs.History.{Moment, StandingView, rows, view_of}
 use Rattle.mt_promise.specs.Legal.{begin_fault, MayReadView, MayRead, MayShow, MayDrop, page_of}
 use Rattle.mt_promise.specs.Alone.{IsPlain, IsPlainRefusal}
+use Rattle.mt_serve.proofs.QuietLemmas.{moment_read_is, read_once}
 use Rattle.mt_serve.proofs.RangeOnce.{range_once}
 use Rattle.mt_index.specs.Viewing.{page_outcome}
 use Rattle.mt_shared.specs.Turns.{drop_outcome}
 use Rattle.mt_wire.specs.Answered.{end_of}
 use Rattle.mt_wire.specs.declared.query.Query.{Query}
-use Rattle.mt_wire.specs.declared.query.Query.TheVariants.{Call, ViewRead, ViewDrop, Server}
+use Rattle.mt_wire.specs.declared.query.Query.TheVariants.{Call, Read, ViewRead, ViewDrop, Server}
 use Rattle.mt_wire.specs.declared.response.Response.{Response}
 use Rattle.mt_wire.specs.declared.response.Response.TheVariants.{Refused, Done, View, Dropped}
 use Rattle.mt_wire.specs.declared.response.End.{End}
@@ -228,6 +229,7 @@ asks_are s t (ViewRead view floor start limit) response feed close (result, inr 
     (page_is s.machine.columns (now s) (page_fault start limit) view.0 floor start limit result may (subst IsAmple is ample))
 asks_are s t (ViewDrop view) response feed close (result, (leads, (note, may)), is) ample =
     subst (IsAnswer s.machine.columns (now s) (ViewDrop view)) (sym is) (drop_is (view_of view.0 (now s).views) result may)
+asks_are s t (Read query) response feed close (same, plain) ample = moment_read_is s query response ample plain
 asks_are s t (Server query) response feed close (same, is) ample = is
 
 pub ample_answers : AmpleAnswersAreTheirs
@@ -288,6 +290,7 @@ answers_are_one C m (ViewRead view floor start limit) response other one two = b
         → MatchOption o (MatchOption (view_of view.0 m.views) (other ≡ Refused NoSuchView) (IsPage C m floor start limit other)) (λ due. other ≡ Refused due) → IsSame response other
     by_fault None one two = by_view (view_of view.0 m.views) one two
     by_fault (Some due) one two = both response other _ one two
+answers_are_one C m (Read query) response other one two = same_answer response other (read_once C m query response other one two)
 answers_are_one C m (Server query) response other one two = both response other _ one two
 answers_are_one C m (ViewDrop view) response other one two = by_view (view_of view.0 m.views) one two
   where

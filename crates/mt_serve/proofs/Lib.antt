@@ -9,6 +9,7 @@ pub mod AloneTurns
 pub mod PlainLemmas
 mod StageLemmas
 mod CallLemmas
+mod QuietLemmas
 mod RangeOnce
 mod AmpleLemmas
 mod NewestLemmas

@@ -16,7 +16,7 @@ use Rattle.mt_types.specs.declared.event.Outcome.TheVariants.{Epoch}
 use Rattle.mt_promise.specs.History.{History, Moment, StandingView, after_advance, moment, rows, view_built, without_view}
 use Rattle.mt_promise.specs.Alone.{IsPlain}
 use Rattle.mt_wire.specs.declared.query.Query.{Query}
-use Rattle.mt_wire.specs.declared.query.Query.TheVariants.{Call, ViewRead, ViewDrop, Server}
+use Rattle.mt_wire.specs.declared.query.Query.TheVariants.{Call, Read, ViewRead, ViewDrop, Server}
 use Rattle.mt_wire.specs.declared.response.Response.{Response}
 use Rattle.mt_wire.specs.Answered.{end_of}
 use Rattle.mt_serve.specs.Asking.{call_response, changes, end_changes}
@@ -134,6 +134,9 @@ asks_close s t (ViewDrop view) response close (Ok done, ((all, (note, past)), ma
     (close_more (newest t) (newest t) 1 (now t).views (omega arith) still, λ none. still)
 asks_close s t (ViewDrop view) response close (Err refusal, ((all, (note, past)), may), is) =
     let still : NoneBehind 0 t = subst (λ (h : History). Close 0 (length (moment h).commits) (moment h).views) (sym past) close in
+    (close_more (newest t) (newest t) 1 (now t).views (omega arith) still, λ none. still)
+asks_close s t (Read query) response close (same, is) =
+    let still : NoneBehind 0 t = subst (NoneBehind 0) (sym same) close in
     (close_more (newest t) (newest t) 1 (now t).views (omega arith) still, λ none. still)
 asks_close s t (Server query) response close (same, is) =
     let still : NoneBehind 0 t = subst (NoneBehind 0) (sym same) close in

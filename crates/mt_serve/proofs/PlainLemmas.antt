@@ -15,13 +15,14 @@ use Rattle.mt_shared.specs.Passes.{PassView}
 use Rattle.mt_shared.specs.Drives.{whole, IsDrive}
 use Rattle.mt_shared.specs.Reads.{ReadsNow}
 use Rattle.mt_shared.specs.Pages.{PagesNow}
+use Rattle.mt_shared.specs.Quiet.{QuietReadsNow}
 use Rattle.mt_shared.specs.Tidies.{Frees, Looks, Purges, Tidies, TidiesAll, TidiesOnce}
 use Rattle.mt_walk.specs.declared.place.TheConstants.{MAX_TIDIES}
 use Rattle.mt_index.specs.Viewing.{page_outcome}
 use Rattle.mt_shared.specs.Turns.{drop_outcome, turn}
 use Rattle.mt_shared.specs.Inner.{InnerView, Does}
 use Rattle.mt_wire.specs.declared.query.Query.{Query}
-use Rattle.mt_wire.specs.declared.query.Query.TheVariants.{Call, ViewRead, ViewDrop, Server}
+use Rattle.mt_wire.specs.declared.query.Query.TheVariants.{Call, Read, ViewRead, ViewDrop, Server}
 use Rattle.mt_wire.specs.declared.response.Response.{Response}
 use Rattle.mt_wire.specs.declared.frame.Frame.{Frame}
 use Rattle.mt_serve.specs.Asking.{Asks, Answers, AnswersAll, AnswersFrames, Follows, KeepsViews, PurgesFor, changes}
@@ -30,6 +31,7 @@ use Rattle.mt_serve.specs.declared.fault.SessionFault.TheVariants.{Write, NoMemo
 use Rattle.mt_serve.specs.Sessions.{BreaksIn, BreaksAt, requests_of}
 use Rattle.mt_serve.specs.Plain.{IsAlone, PlainlyAsks, PlainlyAnswers, PlainlyFollows, MayBeTidied, TidiesPlainly, TidiesPlainlyOnce, store_of, FreshIsAlone, AloneAnswersPlainly, AloneAnswersFramesPlainly, AloneServesPlainly, AloneBreaksPlainly, BreaksInPlainly, BreaksAtPlainly}
 use Rattle.mt_serve.specs.Store.{Store}
+use Rattle.mt_serve.proofs.QuietLemmas.{query_plainly}
 use Rattle.mt_serve.proofs.ReadLemmas.{read_same, read_ends}
 use Rattle.mt_serve.proofs.AloneEnds.{drive_ends}
 use Rattle.mt_serve.proofs.AloneEvents.{keeping, goes, leads_one, does_rises, runs_rise}
@@ -47,7 +49,7 @@ drive_rises s t p q request (Err refusal) d = elim d.refused [
 same_rise : (s t : InnerView) → t ≡ s → s.events ≤ t.events
 same_rise s t is = let equal = ap (λ (k : InnerView). k.events) is in omega (arith, equal)
 
-asks_rise : (s t : InnerView) (p q : PassView) (query : Query) (response : Response) → Asks Does ReadsNow PagesNow s p query response t q → s.events ≤ t.events
+asks_rise : (s t : InnerView) (p q : PassView) (query : Query) (response : Response) → Asks Does ReadsNow PagesNow QuietReadsNow s p query response t q → s.events ≤ t.events
 asks_rise s t p q (Call request) response (result, inl (inl (must, drive)), is) = drive_rises s t p q request result drive
 asks_rise s t p q (Call request) response (result, inr (within, short, same, pass), is) = same_rise s t same
 asks_rise s t p q (Call request) response (result, inl (inr read), is) =
@@ -55,6 +57,7 @@ asks_rise s t p q (Call request) response (result, inl (inr read), is) =
 asks_rise s t p q (ViewRead view floor start limit) response (result, inl (shown, same, pass), is) = same_rise s t same
 asks_rise s t p q (ViewRead view floor start limit) response (result, inr (must, does, told), is) = does_rises s t p q (ReadOf view floor start limit) (page_outcome result) does
 asks_rise s t p q (ViewDrop view) response (result, does, is) = does_rises s t p q (DropOf view) (drop_outcome result) does
+asks_rise s t p q (Read query) response (same, by) = same_rise s t same
 asks_rise s t p q (Server query) response (same, pass, is) = same_rise s t same
 
 keeps_rise : (s t : InnerView) (p q : PassView) → KeepsViews Does s p t q → s.events ≤ t.events
@@ -99,12 +102,12 @@ then_rise s t p q query true (m, r, kept, purges) =
     let b = purges_rise m t r q query purges in omega (arith, a, b)
 then_rise s t p q query false (is, same) = same_rise s t is
 
-answers_rise : (s t : InnerView) (p q : PassView) (query : Query) (response : Response) → Answers Does ReadsNow PagesNow Looks s p query response t q → s.events ≤ t.events
+answers_rise : (s t : InnerView) (p q : PassView) (query : Query) (response : Response) → Answers Does ReadsNow PagesNow QuietReadsNow Looks s p query response t q → s.events ≤ t.events
 answers_rise s t p q query response (m, r, asks, final) =
     let a = asks_rise s m p r query response asks in
     let b = then_rise m t r q query (changes response) final in omega (arith, a, b)
 
-all_rise : (s t : InnerView) (p q : PassView) (queries : List Query) (responses : List Response) → AnswersAll Does ReadsNow PagesNow Looks s p queries responses t q → s.events ≤ t.events
+all_rise : (s t : InnerView) (p q : PassView) (queries : List Query) (responses : List Response) → AnswersAll Does ReadsNow PagesNow QuietReadsNow Looks s p queries responses t q → s.events ≤ t.events
 all_rise s t p q [] [] (is, same) = let equal = ap (λ (k : InnerView). k.events) is in omega (arith, equal)
 all_rise s t p q (query ∷ queries) (response ∷ responses) (m, r, one, more) =
     let a = answers_rise s m p r query response one in
@@ -112,7 +115,7 @@ all_rise s t p q (query ∷ queries) (response ∷ responses) (m, r, one, more) 
 all_rise s t p q [] (response ∷ responses) never = absurd never
 all_rise s t p q (query ∷ queries) [] never = absurd never
 
-frames_rise : (s t : InnerView) (p q : PassView) (frames : List (Frame Query)) (replies : List (Frame Response)) → AnswersFrames Does ReadsNow PagesNow Looks s p frames replies t q → s.events ≤ t.events
+frames_rise : (s t : InnerView) (p q : PassView) (frames : List (Frame Query)) (replies : List (Frame Response)) → AnswersFrames Does ReadsNow PagesNow QuietReadsNow Looks s p frames replies t q → s.events ≤ t.events
 frames_rise s t p q [] [] (is, same) = let equal = ap (λ (k : InnerView). k.events) is in omega (arith, equal)
 frames_rise s t p q (frame ∷ frames) (reply ∷ replies) (m, r, one, more) =
     let a = all_rise s m p r frame.messages reply.messages one.1 in
@@ -134,7 +137,7 @@ few_left number (v ∷ views) =
     let rest = few_left number views in
     elim (cases_Bool (v.number == number)) [ inl b ↦ rw b (omega (arith, rest)) | inr b ↦ rw b (omega (arith, rest)) ]
 
-asks_plainly : (s t : InnerView) (p q : PassView) (h : History) (query : Query) (response : Response) → IsAlone s p h → t.events < greatest_number → Asks Does ReadsNow PagesNow s p query response t q → IsAsked (store_of s h) query response t q
+asks_plainly : (s t : InnerView) (p q : PassView) (h : History) (query : Query) (response : Response) → IsAlone s p h → t.events < greatest_number → Asks Does ReadsNow PagesNow QuietReadsNow s p query response t q → IsAsked (store_of s h) query response t q
 asks_plainly s t p q h (Call request) response a few (result, inl (inl (must, drive)), is) =
     let (final, alone, columns, ends) = drive_ends s t p q h request result a few drive in
     record { final = final; alone = alone; columns = columns; plain = (result, inl ends, is) }
@@ -185,6 +188,14 @@ asks_plainly s t p q h (ViewDrop view) response a few (Err refusal, does, is) =
       alone = record { stands = went.keeps.stands; ended = a.ended; few_views = a.few_views; own = went.keeps.own; seen = went.keeps.seen; counted = went.keeps.counted };
       columns = went.columns;
       plain = (Err refusal, (leads_one s t h (DropOf view) (Refused refusal) went.note went.happens, (went.note, went.may)), is);
+    }
+asks_plainly s t p q h (Read query) response a few (same, by) =
+    let (alone, plain) = query_plainly s p q h query response a by in
+    record {
+      final = h;
+      alone = subst (λ (k : InnerView). IsAlone k q h) (sym same) alone;
+      columns = ap (λ (k : InnerView). k.machine.columns) same;
+      plain = (ap (λ (k : InnerView). store_of k h) same, plain);
     }
 asks_plainly s t p q h (Server query) response a few (same, pass, is) = record {
   final = h;
@@ -294,7 +305,7 @@ record IsAnswered (s : Store) (query : Query) (response : Response) (t : InnerVi
   columns : t.machine.columns ≡ s.machine.columns
   plain : PlainlyAnswers s query response (store_of t final)
 
-answers_plainly : (s t : InnerView) (p q : PassView) (h : History) (query : Query) (response : Response) → IsAlone s p h → t.events < greatest_number → Answers Does ReadsNow PagesNow Looks s p query response t q → IsAnswered (store_of s h) query response t q
+answers_plainly : (s t : InnerView) (p q : PassView) (h : History) (query : Query) (response : Response) → IsAlone s p h → t.events < greatest_number → Answers Does ReadsNow PagesNow QuietReadsNow Looks s p query response t q → IsAnswered (store_of s h) query response t q
 answers_plainly s t p q h query response a few (m, r, asks, final) =
     let rises = then_rise m t r q query (changes response) final in
     let asked = asks_plainly s m p r h query response a (omega (arith, few, rises)) asks in
@@ -377,16 +388,16 @@ alone_serves s t p q h input old new summary a few served =
     )
 
 -- ---- a session that breaks off
-breaks_in_rise : (s t : InnerView) (p q : PassView) (fault : SessionFault) (frame : Frame Query) (old new : Option (List ℕ)) → BreaksIn Does ReadsNow PagesNow Looks s p fault frame old new t q → s.events ≤ t.events
+breaks_in_rise : (s t : InnerView) (p q : PassView) (fault : SessionFault) (frame : Frame Query) (old new : Option (List ℕ)) → BreaksIn Does ReadsNow PagesNow QuietReadsNow Looks s p fault frame old new t q → s.events ≤ t.events
 breaks_in_rise s t p q Write frame old new (reply, sent, unsent, answered, is, wrote) = all_rise s t p q frame.messages reply.messages answered.1
 breaks_in_rise s t p q WantsMemory frame old new (done, undone, responses, is, answered, same) = all_rise s t p q done responses answered
 breaks_in_rise s t p q _ frame old new never = absurd never
 
-breaks_rise : (s t : InnerView) (p q : PassView) (fault : SessionFault) (rest unread old new : Option (List ℕ)) → BreaksAt Does ReadsNow PagesNow Looks s p fault rest unread old new t q → s.events ≤ t.events
+breaks_rise : (s t : InnerView) (p q : PassView) (fault : SessionFault) (rest unread old new : Option (List ℕ)) → BreaksAt Does ReadsNow PagesNow QuietReadsNow Looks s p fault rest unread old new t q → s.events ≤ t.events
 breaks_rise s t p q fault rest unread old new (inl (other, stands, same, is, pass)) = let equal = ap (λ (k : InnerView). k.events) is in omega (arith, equal)
 breaks_rise s t p q fault rest unread old new (inr (frame, fits, there, breaks)) = breaks_in_rise s t p q fault frame old new breaks
 
-breaks_in_plainly : (s t : InnerView) (p q : PassView) (h : History) (fault : SessionFault) (frame : Frame Query) (old new : Option (List ℕ)) → IsAlone s p h → t.events < greatest_number → BreaksIn Does ReadsNow PagesNow Looks s p fault frame old new t q
+breaks_in_plainly : (s t : InnerView) (p q : PassView) (h : History) (fault : SessionFault) (frame : Frame Query) (old new : Option (List ℕ)) → IsAlone s p h → t.events < greatest_number → BreaksIn Does ReadsNow PagesNow QuietReadsNow Looks s p fault frame old new t q
     → (final : History) × IsAlone t q final × BreaksInPlainly (store_of s h) fault frame old new (store_of t final)
 breaks_in_plainly s t p q h Write frame old new a few (reply, sent, unsent, answered, is, wrote) =
     let (final, alone, columns, plain) = alone_answers s t p q h frame.messages reply.messages a few answered.1 in
@@ -396,7 +407,7 @@ breaks_in_plainly s t p q h WantsMemory frame old new a few (done, undone, respo
     (final, alone, (done, undone, responses, is, plain, same))
 breaks_in_plainly s t p q h _ frame old new a few never = absurd never
 
-breaks_plainly : (s t : InnerView) (p q : PassView) (h : History) (fault : SessionFault) (rest : List ℕ) (unread old new : Option (List ℕ)) → IsAlone s p h → t.events < greatest_number → BreaksAt Does ReadsNow PagesNow Looks s p fault (Some rest) unread old new t q
+breaks_plainly : (s t : InnerView) (p q : PassView) (h : History) (fault : SessionFault) (rest : List ℕ) (unread old new : Option (List ℕ)) → IsAlone s p h → t.events < greatest_number → BreaksAt Does ReadsNow PagesNow QuietReadsNow Looks s p fault (Some rest) unread old new t q
     → (final : History) × IsAlone t q final × BreaksAtPlainly (store_of s h) fault rest unread old new (store_of t final)
 breaks_plainly s t p q h fault rest unread old new a few (inl (other, stands, same, is, pass)) = (
   h,
@@ -410,7 +421,7 @@ breaks_plainly s t p q h fault rest unread old new a few (inr (frame, fits, (mor
 pub alone_breaks : AloneBreaksPlainly
 alone_breaks s t p q h input unread old new fault a few broken =
     let (more, is, front) = broken.served.read in
-    let at : BreaksAt Does ReadsNow PagesNow Looks broken.shared broken.pass fault (Some more) unread broken.between new t q = subst (λ (r : Option (List ℕ)). BreaksAt Does ReadsNow PagesNow Looks broken.shared broken.pass fault r unread broken.between new t q) is broken.breaks in
+    let at : BreaksAt Does ReadsNow PagesNow QuietReadsNow Looks broken.shared broken.pass fault (Some more) unread broken.between new t q = subst (λ (r : Option (List ℕ)). BreaksAt Does ReadsNow PagesNow QuietReadsNow Looks broken.shared broken.pass fault r unread broken.between new t q) is broken.breaks in
     let rises = breaks_rise broken.shared t broken.pass q fault (Some more) unread broken.between new at in
     let (past, between, columns, plain) = alone_answers_frames s broken.shared p broken.pass h broken.frames broken.served.replies a (omega (arith, few, rises)) broken.served.answered in
     let (final, alone, breaks) = breaks_plainly broken.shared t broken.pass q past fault more unread broken.between new between few at in (

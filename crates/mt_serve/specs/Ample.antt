@@ -6,7 +6,7 @@ use Rattle.mt_types.specs.Rows.{shown, version_of}
 use Rattle.mt_types.specs.Limits.{page_fault, request_fault}
 use Rattle.mt_types.specs.declared.row.Row.{Row}
 use Rattle.mt_types.specs.declared.refusal.Refusal.{Refusal}
-use Rattle.mt_types.specs.declared.refusal.Refusal.TheVariants.{NoMemory, ArenaFull, Spent, NoSuchView, Behind, OtherVersion}
+use Rattle.mt_types.specs.declared.refusal.Refusal.TheVariants.{BadLimit, NoMemory, ArenaFull, Spent, NoSuchView, Behind, OtherVersion}
 use Rattle.mt_types.specs.declared.event.TidyRule.{TidyRule}
 use Rattle.mt_types.specs.declared.event.Request.{Request}
 use Rattle.mt_types.specs.declared.event.Request.TheVariants.{Get, Put, PutIf, Remove, Range, Tidy, Build}
@@ -15,14 +15,17 @@ use Rattle.mt_promise.specs.History.{Moment, rows, view_of}
 use Rattle.mt_promise.specs.Legal.{begin_fault, page_of}
 use Rattle.mt_promise.specs.Alone.{IsRangeOfMap}
 use Rattle.mt_wire.specs.declared.query.Query.{Query}
-use Rattle.mt_wire.specs.declared.query.Query.TheVariants.{Call, ViewRead, ViewDrop, Server}
+use Rattle.mt_wire.specs.declared.query.Query.TheVariants.{Call, ViewRead, ViewDrop, Read, Server}
 use Rattle.mt_wire.specs.declared.response.Response.{Response}
 use Rattle.mt_wire.specs.declared.response.Response.TheVariants.{Refused, Done, View, Dropped}
 use Rattle.mt_wire.specs.declared.response.End.{End}
 use Rattle.mt_wire.specs.declared.response.End.TheVariants.{Absent, Found, Committed, Rows as RowsEnd, Tidied, Built}
+use Rattle.mt_reads.specs.Quiet.{IsQuietAnswer, quiet_fault}
+use Rattle.mt_reads.specs.declared.quiet.QuietRead.{QuietRead}
+use Rattle.mt_reads.specs.declared.quiet.QuietAnswer.{QuietAnswer}
 use Rattle.mt_shared.specs.Turns.{furthest}
 use Rattle.mt_serve.specs.Store.{Store, now, Leads}
-use Rattle.mt_serve.specs.Asking.{not_alone}
+use Rattle.mt_serve.specs.Asking.{counts_too_far, found_response, not_alone, quiet_of}
 use Rattle.mt_serve.specs.Plain.{PlainlyAnswers, NoneBehind, RanOut, MayBeTidied}
 
 -- nothing was changed, or one change was made
@@ -61,6 +64,11 @@ limit_broken C m (Get key asked) = request_fault C (Get key asked)
 limit_broken C m (Range start limit asked) = request_fault C (Range start limit asked)
 limit_broken C m request = begin_fault C m.begun 0 (length m.views) request
 
+-- the answer to a read of one moment that breaks no limit
+abbrev pub IsFoundAnswer : ℕ → Moment → QuietRead → Response → Type 0
+IsFoundAnswer C m read response = (answer : QuietAnswer) × IsQuietAnswer (rows C m) read answer
+    × (response ≡ found_response (length m.commits) (length m.commits) answer)
+
 -- THE ANSWER TO A QUERY, after these changes, with these views
 abbrev pub IsAnswer : ℕ → Moment → Query → Response → Type 0
 IsAnswer C m (Call request) response =
@@ -73,6 +81,9 @@ IsAnswer C m (ViewRead view floor start limit) response =
     (λ due. response ≡ Refused due)
 IsAnswer C m (ViewDrop view) response =
     MatchOption (view_of view.0 m.views) (response ≡ Refused NoSuchView) (λ v. response ≡ Dropped)
+IsAnswer C m (Read query) response = MatchBool (counts_too_far query) (response ≡ Refused BadLimit)
+    (MatchOption (quiet_fault C (quiet_of query)) (IsFoundAnswer C m (quiet_of query) response)
+    (λ due. response ≡ Refused due))
 IsAnswer C m (Server query) response = response ≡ not_alone
 
 -- the store was not short of memory, of nodes or of numbers

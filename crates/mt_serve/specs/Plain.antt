@@ -10,7 +10,7 @@ use Rattle.mt_types.specs.Limits.{request_fault}
 use Rattle.mt_types.specs.declared.numbers.PassNo.{PassNo}
 use Rattle.mt_types.specs.declared.numbers.CallNo.{CallNo}
 use Rattle.mt_types.specs.declared.refusal.Refusal.{Refusal}
-use Rattle.mt_types.specs.declared.refusal.Refusal.TheVariants.{NoMemory}
+use Rattle.mt_types.specs.declared.refusal.Refusal.TheVariants.{BadLimit, NoMemory}
 use Rattle.mt_types.specs.declared.event.Event.{Event}
 use Rattle.mt_types.specs.declared.event.Event.TheVariants.{Begin, Advance, Collect, ViewRead as ReadOf, ViewDrop as DropOf}
 use Rattle.mt_types.specs.declared.event.Outcome.{Outcome}
@@ -22,7 +22,7 @@ use Rattle.mt_types.specs.declared.event.Request.TheVariants.{Remove, Tidy}
 use Rattle.mt_types.specs.declared.event.Reply.{Reply}
 use Rattle.mt_types.specs.declared.view.Page.{Page}
 use Rattle.mt_types.specs.declared.limits.TheConstants.{MAX_VIEWS}
-use Rattle.mt_promise.specs.History.{History, StandingView, moment}
+use Rattle.mt_promise.specs.History.{History, StandingView, moment, rows}
 use Rattle.mt_promise.specs.Legal.{MayHappen}
 use Rattle.mt_promise.specs.Alone.{EndsPlainly, EndsRefused}
 use Rattle.mt_index.specs.declared.options.Options.{Options}
@@ -31,21 +31,27 @@ use Rattle.mt_shared.specs.declared.trace.Trace.TheVariants.{Off}
 use Rattle.mt_shared.specs.Passes.{PassView, IsNewPass}
 use Rattle.mt_shared.specs.Inner.{InnerView, Does, IsFresh, has_counters}
 use Rattle.mt_shared.specs.Reads.{IsRead, ReadsNow}
+use Rattle.mt_reads.specs.Quiet.{IsQuietAnswer, quiet_fault}
+use Rattle.mt_reads.specs.declared.quiet.QuietRead.{QuietRead}
+use Rattle.mt_reads.specs.declared.quiet.QuietAnswer.{QuietAnswer}
 use Rattle.mt_shared.specs.Pages.{PagesNow}
+use Rattle.mt_shared.specs.Quiet.{QuietReadsNow}
 use Rattle.mt_shared.specs.Tidies.{Looks, has_taken_out}
 use Rattle.mt_walk.specs.Removes.{RemovesWithin}
 use Rattle.mt_walk.specs.declared.place.TheConstants.{MAX_TIDIES}
 use Rattle.mt_index.specs.Viewing.{page_outcome}
 use Rattle.mt_shared.specs.Turns.{drop_outcome, furthest}
 use Rattle.mt_wire.specs.declared.query.Query.{Query}
-use Rattle.mt_wire.specs.declared.query.Query.TheVariants.{Call, ViewRead, ViewDrop, Server}
+use Rattle.mt_wire.specs.declared.query.Query.TheVariants.{Call, ViewRead, ViewDrop, Read, Server}
+use Rattle.mt_wire.specs.declared.read.ReadQuery.{ReadQuery}
 use Rattle.mt_wire.specs.declared.response.Response.{Response}
+use Rattle.mt_wire.specs.declared.response.Response.TheVariants.{Refused as Refusing}
 use Rattle.mt_wire.specs.declared.frame.Frame.{Frame}
 use Rattle.mt_wire.specs.Frames.{RequestsFit, request_frame, reply_frame}
 use Rattle.mt_serve.specs.declared.fault.SessionFault.{SessionFault}
 use Rattle.mt_serve.specs.declared.fault.SessionFault.TheVariants.{Write, NoMemory as WantsMemory}
 use Rattle.mt_serve.specs.declared.session.Summary.{Summary}
-use Rattle.mt_serve.specs.Asking.{Asks, call_response, page_response, drop_response, not_alone, changes, AnswersAll, AnswersFrames}
+use Rattle.mt_serve.specs.Asking.{counts_too_far, found_response, quiet_of, Asks, call_response, page_response, drop_response, not_alone, changes, AnswersAll, AnswersFrames}
 use Rattle.mt_serve.specs.Sources.{FaultIsAt}
 use Rattle.mt_serve.specs.Sessions.{requests_of, replies_of, IsServed, IsBroken}
 use Rattle.mt_serve.specs.Store.{Store, now, newest, Leads, fault, EndsBy, MayLack}
@@ -111,6 +117,23 @@ OneHappens s event outcome t =
 abbrev pub IsShownAtOnce : Store → Event → Outcome → Store → Type 0
 IsShownAtOnce s event outcome t = (t ≡ s) × ((note : ℕ) × MayHappen s.machine.columns s.past event outcome note)
 
+-- a read of one moment is answered by the rows after the changes so far; or it is refused for the first limit that it
+-- breaks, or, if it breaks none, since the store is out of memory
+abbrev pub IsFound : Store → QuietRead → Result QuietAnswer Refusal → Type 0
+IsFound s read (Ok answer) =
+    IsQuietAnswer (rows s.machine.columns (now s)) read answer × (quiet_fault s.machine.columns read ≡ None)
+IsFound s read (Err refusal) =
+    MatchOption (quiet_fault s.machine.columns read) (refusal ≡ NoMemory) (λ due. refusal ≡ due)
+
+abbrev pub read_response : ℕ → Result QuietAnswer Refusal → Response
+read_response at (Ok answer) = found_response at at answer
+read_response at (Err refusal) = Refusing refusal
+
+abbrev pub IsReadPlainly : Store → ReadQuery → Response → Type 0
+IsReadPlainly s query response = MatchBool (counts_too_far query) (response ≡ Refusing BadLimit)
+    ((found : Result QuietAnswer Refusal) × IsFound s (quiet_of query) found
+    × (response ≡ read_response (length (now s).commits) found))
+
 -- A page is what the view's filter and sums give afresh on the rows after the changes that it is at; a view that is
 -- dropped is there no more; each is refused if there is no such view. A query of the server is refused.
 abbrev pub PlainlyAsks : Store → Query → Response → Store → Type 0
@@ -123,6 +146,7 @@ PlainlyAsks s (ViewRead view floor start limit) response t =
 PlainlyAsks s (ViewDrop view) response t =
     (result : Result ⊤ Refusal) × OneHappens s (DropOf view) (drop_outcome result) t
     × (response ≡ drop_response result)
+PlainlyAsks s (Read query) response t = (t ≡ s) × IsReadPlainly s query response
 PlainlyAsks s (Server query) response t = (t ≡ s) × (response ≡ not_alone)
 
 -- ---- views are kept up
@@ -240,7 +264,7 @@ FreshIsAlone =
 abbrev pub AloneReadsAtOnce : Type 0
 AloneReadsAtOnce =
     (s t : InnerView) (p q : PassView) (h : History) (request : Request) (response : Response)
-    → IsAlone s p h → s.trace ≡ Off → IsRead request → Asks Does ReadsNow PagesNow s p (Call request) response t q
+    → IsAlone s p h → s.trace ≡ Off → IsRead request → Asks Does ReadsNow PagesNow QuietReadsNow s p (Call request) response t q
     → (result : Result Reply Refusal) × IsReadAtOnce (store_of s h) request result (store_of t h)
     × (response ≡ call_response result)
 
@@ -248,14 +272,14 @@ AloneReadsAtOnce =
 abbrev pub AloneAnswersPlainly : Type 0
 AloneAnswersPlainly =
     (s t : InnerView) (p q : PassView) (h : History) (queries : List Query) (responses : List Response)
-    → IsAlone s p h → t.events < greatest_number → AnswersAll Does ReadsNow PagesNow Looks s p queries responses t q
+    → IsAlone s p h → t.events < greatest_number → AnswersAll Does ReadsNow PagesNow QuietReadsNow Looks s p queries responses t q
     → (then : History) × IsAlone t q then × (t.machine.columns ≡ s.machine.columns)
     × PlainlyAnswersAll (store_of s h) queries responses (store_of t then)
 
 abbrev pub AloneAnswersFramesPlainly : Type 0
 AloneAnswersFramesPlainly =
     (s t : InnerView) (p q : PassView) (h : History) (frames : List (Frame Query)) (replies : List (Frame Response))
-    → IsAlone s p h → t.events < greatest_number → AnswersFrames Does ReadsNow PagesNow Looks s p frames replies t q
+    → IsAlone s p h → t.events < greatest_number → AnswersFrames Does ReadsNow PagesNow QuietReadsNow Looks s p frames replies t q
     → (then : History) × IsAlone t q then × (t.machine.columns ≡ s.machine.columns)
     × PlainlyAnswersFrames (store_of s h) frames replies (store_of t then)
 
@@ -272,7 +296,7 @@ pub record ServesPlainly (s : Store) (input : List ℕ) (old new : Option (List 
 abbrev pub AloneServesPlainly : Type 0
 AloneServesPlainly =
     (s t : InnerView) (p q : PassView) (h : History) (input : List ℕ) (old new : Option (List ℕ)) (summary : Summary)
-    → IsAlone s p h → t.events < greatest_number → IsServed Does ReadsNow PagesNow Looks s p (Some input) old summary new t q
+    → IsAlone s p h → t.events < greatest_number → IsServed Does ReadsNow PagesNow QuietReadsNow Looks s p (Some input) old summary new t q
     → (then : History) × IsAlone t q then × ServesPlainly (store_of s h) input old new (store_of t then)
 
 -- A SESSION ALONE THAT BREAKS OFF: the frames before are answered plainly; then no frame is there, for this fault, after
@@ -311,5 +335,5 @@ abbrev pub AloneBreaksPlainly : Type 0
 AloneBreaksPlainly =
     (s t : InnerView) (p q : PassView) (h : History) (input : List ℕ) (unread old new : Option (List ℕ))
     (fault : SessionFault)
-    → IsAlone s p h → t.events < greatest_number → IsBroken Does ReadsNow PagesNow Looks s p (Some input) old fault unread new t q
+    → IsAlone s p h → t.events < greatest_number → IsBroken Does ReadsNow PagesNow QuietReadsNow Looks s p (Some input) old fault unread new t q
     → (then : History) × IsAlone t q then × BreaksPlainly (store_of s h) input old fault unread new (store_of t then)

@@ -86,12 +86,12 @@ fn answer_each<S: Shared>(
     keeping: Keeping,
     queries: Vec<Query>,
 ) -> Result<Vec<Response>, AllocError>
-    ensures all { IfOk result (λ responses. AnswersAll S.does S.shows S.pages S.looks shared.old pass.old queries.items responses.items shared.new
+    ensures all { IfOk result (λ responses. AnswersAll S.does S.shows S.pages S.glances S.looks shared.old pass.old queries.items responses.items shared.new
         pass.new) }
     ensures limited { IfOk result (λ responses. AllByRecursion ResponseIsLimited responses.items) }
     ensures part { OnErr result ((done : List Query) × (undone : List Query) × (responses : List Response)
         × (queries.items ≡ done ++ undone)
-        × AnswersAll S.does S.shows S.pages S.looks shared.old pass.old done responses shared.new pass.new) }
+        × AnswersAll S.does S.shows S.pages S.glances S.looks shared.old pass.old done responses shared.new pass.new) }
 {
     let mut responses = Vec::new(alloc);
     for query in queries {
@@ -108,13 +108,13 @@ impl<S: Shared> Answers<S, Pass> for Answerer {
     ghost use Rattle.mt_serve.specs.Asking.{AnswersAll, AnswersFrame};
 
     // each of its queries, one after the other, by one answer
-    ghost answers = { λ a s p frame reply b t q. AnswersFrame S.does S.shows S.pages S.looks s p frame reply t q
+    ghost answers = { λ a s p frame reply b t q. AnswersFrame S.does S.shows S.pages S.glances S.looks s p frame reply t q
         × (b.count ≡ length frame.messages) };
 
     // a front of its queries was done
     ghost gives_up = { λ _ s p frame t q. (done : List Query) × (undone : List Query) × (responses : List Response)
         × (frame.messages ≡ done ++ undone)
-        × AnswersAll S.does S.shows S.pages S.looks s p done responses t q };
+        × AnswersAll S.does S.shows S.pages S.glances S.looks s p done responses t q };
 
     /// Answers each query of a frame, one after the other. `keeping` says whether a lock stays held.
     fn answer(

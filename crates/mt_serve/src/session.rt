@@ -50,9 +50,9 @@ pub fn session<R: Read, W: Write, S: Shared>(
     pass: &mut Pass,
 ) -> Result<Summary, SessionFault>
     requires { frames_left reader.old ≤ MOST_FRAMES }
-    ensures served { IfOk result (λ summary. IsServed S.does S.shows S.pages S.looks shared.old pass.old (frames_rest R.remaining reader.old)
+    ensures served { IfOk result (λ summary. IsServed S.does S.shows S.pages S.glances S.looks shared.old pass.old (frames_rest R.remaining reader.old)
         (W.contents (sink_writer writer.old)) summary (W.contents (sink_writer writer.new)) shared.new pass.new) }
-    ensures broken { IfErr result (λ fault. IsBroken S.does S.shows S.pages S.looks shared.old pass.old (frames_rest R.remaining reader.old)
+    ensures broken { IfErr result (λ fault. IsBroken S.does S.shows S.pages S.glances S.looks shared.old pass.old (frames_rest R.remaining reader.old)
         (W.contents (sink_writer writer.old)) fault (frames_unread R.remaining reader.new)
         (W.contents (sink_writer writer.new)) shared.new pass.new) }
     ensures read { IfErr result (λ fault. fault ≡ ReadFault → read_failed reader.new ≡ true) }

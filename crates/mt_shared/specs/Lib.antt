@@ -6,8 +6,8 @@ pub mod Inner
 pub mod Drives
 pub mod Turns
 pub mod Feeds
-pub mod Backs
 pub mod Reads
+pub mod Quiet
 pub mod Inside
 pub mod Changes
 pub mod Moments

@@ -10,8 +10,6 @@ ghost use Rattle.mt_types.specs.declared.event.Request.TheVariants.{Build, Get, 
 ghost use Rattle.mt_asked.specs.Borrowed.{request_of, sets_of, spec_of};
 ghost use Rattle.mt_asked.specs.Bounds.{start_key};
 ghost use Rattle.mt_shared.specs.Clients.{Changes, Drives, Reads, ReadsPage, answer_at, built_of, removed_of, row_of, rows_of, rows_within, stored_of, tidied_of};
-ghost use Rattle.std.specs.Option.{option_copied};
-ghost use Rattle.mt_shared.specs.Backs.{IsNowOrNone, RangesBackSomewhere};
 ghost use Rattle.mt_shared.specs.Feeds.{FeedsSomewhere};
 ghost use Rattle.mt_shared.specs.Turns.{IsStopped, KeepsUp, drop_outcome};
 
@@ -47,7 +45,7 @@ pub const TURNS: u64 = 64;
 /// A change keeps up the views, in at most `turns` turns, and tidies follow a remove, as [`drive_and_keep`] says.
 #[derive(Drop)]
 pub struct Client<S> {
-    alloc: Global,
+    pub(crate) alloc: Global,
     /// The access to the map.
     pub shared: S,
     /// The pass.
@@ -392,37 +390,5 @@ impl<'a, W: Wait> Client<Door<'a, W>> {
         ensures { FeedsSomewhere from limit result }
     {
         self.shared.feed(self.alloc, from, limit)
-    }
-
-    /// Returns the last rows whose keys are before `before`, or the last of all, at most `limit`, the greatest key first,
-    /// each with the columns that are asked for, or with all if none is asked for. Returns `None` if a put, remove or tidy
-    /// of another thread is open at this moment: a caller then asks again.
-    ///
-    ///     if let Some(last) = client.pairs_back(None, 10, &[])? {
-    ///         println!(rt; "{} rows at commit {}", last.value.len(), last.to)?;
-    ///     }
-    ///
-    /// # Errors
-    ///
-    /// Those of [`Door::pairs_back`].
-    pub fn pairs_back(
-        &self,
-        before: Option<&[u8]>,
-        limit: u16,
-        columns: &[u8],
-    ) -> Result<Option<At<Pairs>>, Refusal>
-        ensures { IsNowOrNone (RangesBackSomewhere (option_copied before.entry) limit columns.now) result }
-    {
-        match self.shared.pairs_back(self.alloc, before, limit, columns) {
-            Some(read) => {
-                let (at, value) = read?;
-                Ok(Some(At {
-                    value,
-                    from: at,
-                    to: at,
-                }))
-            }
-            None => Ok(None),
-        }
     }
 }

@@ -3,6 +3,7 @@
 ghost use Rattle.mt_shared.specs.Feeds.{CopiesSomewhere, FeedsSomewhere};
 ghost use Rattle.mt_shared.specs.Inner.{DoesSomewhere};
 ghost use Rattle.mt_shared.specs.Pages.{PagesSomewhere};
+ghost use Rattle.mt_shared.specs.Quiet.{QuietReadsSomewhere};
 ghost use Rattle.mt_shared.specs.Reads.{ReadsSomewhere};
 ghost use Rattle.mt_shared.specs.Tidies.{LooksSomewhere};
 
@@ -12,6 +13,7 @@ use crate::map::SharedMap;
 use crate::moment::Moment;
 use crate::pass::Pass;
 use bytes::Bytes;
+use mt_reads::quiet::{QuietAnswer, QuietRead};
 use mt_types::event::{Answer, Event, Outcome, Request};
 use mt_types::key::Key;
 use mt_types::numbers::{CallNo, PassNo, ViewNo};
@@ -139,6 +141,19 @@ impl<'a, W: Wait> Shared for Door<'a, W> {
     ) -> Option<Result<(u64, Answer), Refusal>> {
         let index = self.index;
         index.kept.read(self.wait).read(alloc, pass, request)
+    }
+
+    // somewhere in the order in which the lock is held it was read of what lay there
+    ghost glances = { λ _ read result. QuietReadsSomewhere read result };
+
+    /// Holds the lock once, together with other reads, for one `Inner::read_quiet`.
+    fn read_quiet(
+        &self,
+        alloc: Global,
+        read: &QuietRead,
+    ) -> Option<Result<(u64, QuietAnswer), Refusal>> {
+        let index = self.index;
+        index.kept.read(self.wait).read_quiet(alloc, read)
     }
 
     // somewhere in the order in which the lock is held it was read of what lay there

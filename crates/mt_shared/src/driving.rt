@@ -10,6 +10,9 @@ ghost use Rattle.mt_types.specs.declared.event.Request.{Request};
 ghost use Rattle.mt_types.specs.declared.event.Event.{Event};
 ghost use Rattle.mt_types.specs.declared.event.Outcome.{Outcome};
 ghost use Rattle.mt_types.specs.Limited.{AnswerIsLimited, OutcomeIsLimited, PageIsLimited};
+ghost use Rattle.mt_reads.specs.Quiet.{QuietAnswerIsLimited};
+ghost use Rattle.mt_reads.specs.declared.quiet.QuietAnswer.{QuietAnswer};
+ghost use Rattle.mt_reads.specs.declared.quiet.QuietRead.{QuietRead};
 ghost use Rattle.mt_shared.specs.Passes.{PassView, IsTold};
 ghost use Rattle.mt_shared.specs.Changes.{ChangeIsLimited, IsChanged};
 ghost use Rattle.mt_shared.specs.Reads.{IsReadAnswer};
@@ -18,6 +21,7 @@ ghost use Rattle.mt_shared.specs.Drives.{Finishes, HasGone, IsReplyTo, IsDriven,
 use crate::changing::Changed;
 use crate::pass::Pass;
 use bytes::Bytes;
+use mt_reads::quiet::{QuietAnswer, QuietRead};
 use mt_types::event::{Answer, Event, Outcome, Reply, Request};
 use mt_types::key::Key;
 use mt_types::numbers::{CallNo, PassNo, ViewNo};
@@ -105,6 +109,18 @@ pub trait Shared {
         ensures shows { shows self.now pass request.now result }
         ensures answer { IfSome result (λ read. IfOk read (λ now. IsReadAnswer now.1)) }
         ensures limited { IfSome result (λ read. IfOk read (λ now. AnswerIsLimited now.1)) };
+
+    /// What a read of one moment gives, of what is shared.
+    ghost glances: { Self → QuietRead → Option (Result (ℕ × QuietAnswer) Refusal) → Type 0 };
+
+    /// Reads of one moment, if no put, remove or tidy is open, as `Inner::read_quiet` does. Makes no event.
+    fn read_quiet(
+        &self,
+        alloc: Global,
+        read: &QuietRead,
+    ) -> Option<Result<(u64, QuietAnswer), Refusal>>
+        ensures glances { glances self.now read.now result }
+        ensures limited { IfSome result (λ found. IfOk found (λ now. QuietAnswerIsLimited now.1)) };
 
     /// What a page at once of a pass gives, of what is shared: by the view, the floor, the first key and the limit.
     ghost pages: { Self → PassNo → ViewNo → ℕ → List ℕ → ℕ → Option (Result Page Refusal) → Type 0 };

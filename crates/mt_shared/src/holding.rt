@@ -3,6 +3,7 @@
 ghost use Rattle.mt_shared.specs.Inner.{DoesSomewhere};
 ghost use Rattle.mt_shared.specs.Reads.{ReadsSomewhere};
 ghost use Rattle.mt_shared.specs.Pages.{PagesSomewhere};
+ghost use Rattle.mt_shared.specs.Quiet.{QuietReadsSomewhere};
 ghost use Rattle.mt_shared.specs.Tidies.{LooksSomewhere};
 
 use crate::changing::Changed;
@@ -13,6 +14,7 @@ use crate::map::SharedMap;
 use crate::pass::Pass;
 use crate::turn::Taken;
 use bytes::Bytes;
+use mt_reads::quiet::{QuietAnswer, QuietRead};
 use mt_types::event::{Answer, Event, Outcome, Request};
 use mt_types::key::Key;
 use mt_types::numbers::{CallNo, PassNo, ViewNo};
@@ -153,6 +155,22 @@ impl<'a, W: Wait> Shared for HoldingDoor<'a, W> {
             Held::Nothing => self.door.read(alloc, pass, request),
             Held::Reads(kept) => kept.read(alloc, pass, request),
             Held::Changes(kept, _) => kept.read(alloc, pass, request),
+        }
+    }
+
+    // somewhere in the order in which the lock is held it was read of what lay there
+    ghost glances = { λ _ read result. QuietReadsSomewhere read result };
+
+    /// Makes one `Inner::read_quiet`, if the lock is kept; otherwise does what `Door::read_quiet` does.
+    fn read_quiet(
+        &self,
+        alloc: Global,
+        read: &QuietRead,
+    ) -> Option<Result<(u64, QuietAnswer), Refusal>> {
+        match &self.held {
+            Held::Nothing => self.door.read_quiet(alloc, read),
+            Held::Reads(kept) => kept.read_quiet(alloc, read),
+            Held::Changes(kept, _) => kept.read_quiet(alloc, read),
         }
     }
 

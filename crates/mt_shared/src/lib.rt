@@ -4,9 +4,9 @@
 
 pub mod answers;
 pub mod asking;
-mod backs;
 pub mod changing;
 pub mod client;
+mod client_reads;
 pub mod counters;
 pub mod door;
 pub mod driving;
@@ -17,6 +17,7 @@ pub mod map;
 pub mod moment;
 pub mod pages;
 pub mod pass;
+pub mod quiet;
 pub mod reads;
 pub mod runs;
 pub mod settling;

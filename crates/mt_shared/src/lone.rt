@@ -9,7 +9,9 @@ ghost use Rattle.mt_shared.specs.Inner.{Does, IsInner, IsFresh, IsRefusedBy};
 ghost use Rattle.mt_shared.specs.Changes.{ChangeIsLimited, IsChanged};
 ghost use Rattle.mt_shared.specs.Drives.{HasGone, IsStarted, StartIsLimited};
 ghost use Rattle.mt_shared.specs.Reads.{IsReadAnswer, ReadsNow};
+ghost use Rattle.mt_reads.specs.Quiet.{QuietAnswerIsLimited};
 ghost use Rattle.mt_shared.specs.Pages.{PagesNow};
+ghost use Rattle.mt_shared.specs.Quiet.{QuietReadsNow};
 ghost use Rattle.mt_shared.specs.Tidies.{Looks};
 ghost use Rattle.mt_shared.specs.Passes.{IsTold};
 
@@ -19,6 +21,7 @@ use crate::inner::Inner;
 use crate::pass::Pass;
 use bytes::Bytes;
 use mt_index::options::Options;
+use mt_reads::quiet::{QuietAnswer, QuietRead};
 use mt_types::event::{Answer, Event, Outcome, Request};
 use mt_types::key::Key;
 use mt_types::numbers::{CallNo, PassNo, ViewNo};
@@ -133,6 +136,21 @@ impl Shared for Lone {
         ensures kept { IsInner self.now }
     {
         self.kept.read(alloc, pass, request)
+    }
+
+    ghost glances = { QuietReadsNow };
+
+    /// Does what `Inner::read_quiet` does.
+    fn read_quiet(
+        &self,
+        alloc: Global,
+        read: &QuietRead,
+    ) -> Option<Result<(u64, QuietAnswer), Refusal>>
+        ensures glances { QuietReadsNow self.now read.now result }
+        ensures limited { IfSome result (λ found. IfOk found (λ now. QuietAnswerIsLimited now.1)) }
+        ensures kept { IsInner self.now }
+    {
+        self.kept.read_quiet(alloc, read)
     }
 
     ghost pages = { PagesNow };

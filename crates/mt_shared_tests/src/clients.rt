@@ -1,5 +1,6 @@
 //! A client's calls by example, and pages of views.
 
+use bytes::Bytes;
 use mt_asked::borrowed::{Set, Spec, Test};
 use mt_asked::bounds::Bounds;
 use mt_index::options::Options;
@@ -12,6 +13,7 @@ use mt_types::numbers::ViewNo;
 use mt_types::refusal::Refusal;
 use mt_types::row::Row;
 use mt_types::view::Page;
+use std::alloc::Global;
 use std::ops::Bound;
 use std::sync::Wait;
 use std::test::Fail;
@@ -187,6 +189,63 @@ fn ranges_back_of_a_client(rt: HostRuntime) -> Result<(), Fail> {
     assert_eq!(rt; client.pairs_back(None, 0, &[]).is_err(), true);
     passes.push(client.pass)?;
     assert_eq!(rt; index.close(passes)?.commits, 12);
+    Ok(())
+}
+
+// The versions of the rows of some keys at one moment, 0 for a key that has none.
+fn versions_of<R: Wait>(
+    alloc: Global,
+    client: &mut Client<Door<'_, R>>,
+    keys: &[Bytes],
+) -> Result<Option<Vec<u64>>, Refusal> {
+    let Some(found) = client.get_many(keys, &[0])? else {
+        return Ok(None);
+    };
+    let mut versions = Vec::new(alloc);
+    for row in found.value.iter() {
+        versions.push(row.as_ref().map_or(0, |row| row.version))?;
+    }
+    Ok(Some(versions))
+}
+
+// How many rows a range has, and at how many commits.
+fn counted<R: Wait>(
+    client: &mut Client<Door<'_, R>>,
+    from: &[u8],
+    to: Option<&[u8]>,
+    most: u32,
+) -> Result<Option<(u32, u64)>, Refusal> {
+    Ok(client.count(from, to, most)?.map(|at| (at.value, at.to)))
+}
+
+#[test]
+fn many_keys_and_a_count_of_a_client(rt: HostRuntime) -> Result<(), Fail> {
+    let alloc = rt.alloc();
+    let (index, mut passes) = SharedMap::start(alloc, Options::default(), 1)?;
+    let pass = passes.pop().ok_or("pass")?;
+    let mut client = Client::new(alloc, Door::new(&index, &rt, 64), pass);
+    assert_eq!(rt; put_and_read_back(&mut client, None), Ok(Some((2, 4, 4))));
+    let keys = [
+        Bytes::from_static(b"c"),
+        Bytes::from_static(b"x"),
+        Bytes::from_static(b"a"),
+        Bytes::from_static(b"c"),
+    ];
+    let versions = versions_of(alloc, &mut client, &keys)?.ok_or("quiet")?;
+    assert_eq!(rt; versions.as_slice(), [3, 0, 1, 3].as_slice());
+    let none = versions_of(alloc, &mut client, &[])?.ok_or("quiet")?;
+    assert_eq!(rt; none.len(), 0);
+    assert_eq!(rt; counted(&mut client, b"", None, 100), Ok(Some((4, 4))));
+    assert_eq!(rt;
+        counted(&mut client, b"b", Some(b"d"), 100),
+        Ok(Some((2, 4)))
+    );
+    assert_eq!(rt; counted(&mut client, b"b", Some(b"d"), 1), Ok(Some((1, 4))));
+    let long = client.count(&[7; 1025], None, 1).is_err();
+    assert_eq!(rt; long, true);
+    assert_eq!(rt; client.pass.seen(), 4);
+    passes.push(client.pass)?;
+    assert_eq!(rt; index.close(passes)?.commits, 4);
     Ok(())
 }
 

@@ -13,7 +13,8 @@ use Rattle.mt_talk.specs.declared.server.Keeper.{Keeper}
 use Rattle.mt_talk.specs.declared.serving.Server.{Server}
 use Rattle.mt_wire.specs.declared.server.ServerRefusal.{ServerRefusal}
 use Rattle.mt_talk.specs.Serving.{alone, may_all, changes_rows, hindered, leaves, TurnsAway, Greets, Allows, Within, KeepsAlone}
-use Rattle.mt_talk.specs.Frames.{HasNoKey, ClosedIsBlind, HinderedKeepRows, ReadersRead}
+use Rattle.mt_talk.specs.Growing.{any_grows, memory_refusals}
+use Rattle.mt_talk.specs.Frames.{HasNoKey, ClosedIsBlind, FullGrowNothing, HinderedKeepRows, ReadersRead}
 
 -- ---- closed
 
@@ -50,13 +51,12 @@ lets_turned k l queries answered turned = subst (λ (o : Option (List Response))
 lets_some : (answered : Option (List Response)) (responses : List Response) (queries : List Query) → answered ≡ Some responses → Lets answered queries
 lets_some answered responses queries is = subst (λ (o : Option (List Response)). Lets o queries) (sym is) tt
 
-lets_leaves : (refusal : Option ServerRefusal) (queries : List Query) → may_all Read queries ≡ true → Lets (leaves refusal queries) queries
-lets_leaves None queries may = may
-lets_leaves (Some refusal) queries may = tt
+lets_any : (answered : Option (List Response)) (queries : List Query) → may_all Read queries ≡ true → Lets answered queries
+lets_any None queries may = may
+lets_any (Some responses) queries may = tt
 
 lets_allowed : (k l : Keeper) (queries : List Query) (query : Option ServerQuery) (answered : Option (List Response)) → may_all Read queries ≡ true → Allows k queries query answered l → Lets answered queries
-lets_allowed k l queries None answered may allows = subst (λ (o : Option (List Response)). Lets o queries) (sym allows.0) (lets_leaves (hindered k.read_only queries) queries may)
-lets_allowed k l queries (Some query) answered may (response, told, is, becomes) = lets_some answered _ queries is
+lets_allowed k l queries query answered may allows = lets_any answered queries may
 
 lets_by : (may : Bool) (k l : Keeper) (queries : List Query) (query : Option ServerQuery) (answered : Option (List Response)) → may_all Read queries ≡ may
     → MatchBool may (Allows k queries query answered l) (TurnsAway k queries answered l) → Lets answered queries
@@ -92,53 +92,78 @@ pub readers_read : {A S P : Type 0} (answers : A → S → P → Frame Query →
 readers_read answers a b s t p q frame reply reader (answered, keeps, then) =
     readers_by answers a b s t p q frame reply answered (lets_alone a.keeper b.keeper frame.messages (alone frame.messages) answered reader keeps) then
 
--- ---- while rows can't be changed
-abbrev Spares : Option (List Response) → List Query → Type 0
-Spares answered queries = MatchOption answered (changes_rows queries ≡ false) (λ responses. Unit {0})
+-- ---- while rows can't be changed, or the memory is full
 
-spares_some : (answered : Option (List Response)) (responses : List Response) (queries : List Query) → answered ≡ Some responses → Spares answered queries
-spares_some answered responses queries is = subst (λ (o : Option (List Response)). Spares o queries) (sym is) tt
+-- what is left to what is inside is refused for neither
+abbrev Leaves : Keeper → List Query → Option (List Response) → Type 0
+Leaves k queries answered = MatchOption answered (leaves (hindered k.read_only queries) k.is_memory_full queries ≡ None) (λ responses. Unit {0})
 
-spares_by : (changes : Bool) (refusal : ServerRefusal) (queries : List Query) → changes_rows queries ≡ changes → Spares (leaves (cond changes (Some refusal) None) queries) queries
-spares_by true refusal queries is = tt
-spares_by false refusal queries is = is
+leaves_some : (k : Keeper) (queries : List Query) (answered : Option (List Response)) (responses : List Response) → answered ≡ Some responses → Leaves k queries answered
+leaves_some k queries answered responses is = subst (λ (o : Option (List Response)). Leaves k queries o) (sym is) tt
 
-spares_left : (k l : Keeper) (queries : List Query) (query : Option ServerQuery) (answered : Option (List Response)) (refusal : ServerRefusal) → k.read_only ≡ Some refusal → Allows k queries query answered l → Spares answered queries
-spares_left k l queries None answered refusal hinders allows =
-    subst (λ (o : Option (List Response)). Spares o queries) (sym allows.0)
-    (subst (λ (o : Option ServerRefusal). Spares (leaves (hindered o queries) queries) queries) (sym hinders) (spares_by (changes_rows queries) refusal queries refl))
-spares_left k l queries (Some query) answered refusal hinders (response, told, is, becomes) = spares_some answered _ queries is
+none_is_none : (o : Option (List Response)) → MatchOption o (o ≡ None) (λ responses. Unit {0})
+none_is_none None = refl
+none_is_none (Some responses) = tt
 
-spares_may : (may : Bool) (k l : Keeper) (queries : List Query) (query : Option ServerQuery) (answered : Option (List Response)) (refusal : ServerRefusal) → k.read_only ≡ Some refusal
-    → MatchBool may (Allows k queries query answered l) (TurnsAway k queries answered l) → Spares answered queries
-spares_may true k l queries query answered refusal hinders allows = spares_left k l queries query answered refusal hinders allows
-spares_may false k l queries query answered refusal hinders turned = spares_some answered _ queries turned.0
+leaves_allowed : (k l : Keeper) (queries : List Query) (query : Option ServerQuery) (answered : Option (List Response)) → Allows k queries query answered l → Leaves k queries answered
+leaves_allowed k l queries None answered allows =
+    subst (λ (o : Option (List Response)). Leaves k queries o) (sym allows.0) (none_is_none (leaves (hindered k.read_only queries) k.is_memory_full queries))
+leaves_allowed k l queries (Some query) answered (response, told, is, becomes) = leaves_some k queries answered _ is
 
-spares_role : (role : Option Role) (k l : Keeper) (queries : List Query) (query : Option ServerQuery) (answered : Option (List Response)) (refusal : ServerRefusal) → k.read_only ≡ Some refusal
-    → MatchOption role (TurnsAway k queries answered l) (λ role. MatchBool (may_all role queries) (Allows k queries query answered l) (TurnsAway k queries answered l)) → Spares answered queries
-spares_role None k l queries query answered refusal hinders turned = spares_some answered _ queries turned.0
-spares_role (Some role) k l queries query answered refusal hinders within = spares_may (may_all role queries) k l queries query answered refusal hinders within
+leaves_may : (may : Bool) (k l : Keeper) (queries : List Query) (query : Option ServerQuery) (answered : Option (List Response))
+    → MatchBool may (Allows k queries query answered l) (TurnsAway k queries answered l) → Leaves k queries answered
+leaves_may true k l queries query answered allows = leaves_allowed k l queries query answered allows
+leaves_may false k l queries query answered turned = leaves_some k queries answered _ turned.0
 
-spares_greeted : (k l : Keeper) (queries : List Query) (newest : ℕ) (secret : List ℕ) (answered : Option (List Response)) → Greets k queries newest secret answered l → Spares answered queries
-spares_greeted k l queries newest secret answered (Some role, admits, greeted) = spares_some answered _ queries greeted.0
-spares_greeted k l queries newest secret answered (None, admits, turned) = spares_some answered _ queries turned.0
+leaves_role : (role : Option Role) (k l : Keeper) (queries : List Query) (query : Option ServerQuery) (answered : Option (List Response))
+    → MatchOption role (TurnsAway k queries answered l) (λ role. MatchBool (may_all role queries) (Allows k queries query answered l) (TurnsAway k queries answered l)) → Leaves k queries answered
+leaves_role None k l queries query answered turned = leaves_some k queries answered _ turned.0
+leaves_role (Some role) k l queries query answered within = leaves_may (may_all role queries) k l queries query answered within
 
-spares_alone : (k l : Keeper) (queries : List Query) (query : Option ServerQuery) (answered : Option (List Response)) (refusal : ServerRefusal) → k.read_only ≡ Some refusal → KeepsAlone k queries query answered l → Spares answered queries
-spares_alone k l queries (Some (Hello newest secret name)) answered refusal hinders keeps = spares_greeted k l queries newest secret answered keeps
-spares_alone k l queries (Some (Ping number)) answered refusal hinders keeps = spares_role k.role k l queries (Some (Ping number)) answered refusal hinders keeps
-spares_alone k l queries (Some Info) answered refusal hinders keeps = spares_role k.role k l queries (Some Info) answered refusal hinders keeps
-spares_alone k l queries (Some Views) answered refusal hinders keeps = spares_role k.role k l queries (Some Views) answered refusal hinders keeps
-spares_alone k l queries (Some (Wait of number milliseconds)) answered refusal hinders keeps = spares_role k.role k l queries (Some (Wait of number milliseconds)) answered refusal hinders keeps
-spares_alone k l queries (Some (Stop is_at_once)) answered refusal hinders keeps = spares_role k.role k l queries (Some (Stop is_at_once)) answered refusal hinders keeps
-spares_alone k l queries None answered refusal hinders keeps = spares_role k.role k l queries None answered refusal hinders keeps
+leaves_greeted : (k l : Keeper) (queries : List Query) (newest : ℕ) (secret : List ℕ) (answered : Option (List Response)) → Greets k queries newest secret answered l → Leaves k queries answered
+leaves_greeted k l queries newest secret answered (Some role, admits, greeted) = leaves_some k queries answered _ greeted.0
+leaves_greeted k l queries newest secret answered (None, admits, turned) = leaves_some k queries answered _ turned.0
 
-spares_frame : {A S P : Type 0} (answers : A → S → P → Frame Query → Frame Response → A → S → P → Type 0) (a b : Server A) (s t : S) (p q : P) (frame : Frame Query) (reply : Frame Response) (answered : Option (List Response))
-    → Spares answered frame.messages
+leaves_alone : (k l : Keeper) (queries : List Query) (query : Option ServerQuery) (answered : Option (List Response)) → KeepsAlone k queries query answered l → Leaves k queries answered
+leaves_alone k l queries (Some (Hello newest secret name)) answered keeps = leaves_greeted k l queries newest secret answered keeps
+leaves_alone k l queries (Some (Ping number)) answered keeps = leaves_role k.role k l queries (Some (Ping number)) answered keeps
+leaves_alone k l queries (Some Info) answered keeps = leaves_role k.role k l queries (Some Info) answered keeps
+leaves_alone k l queries (Some Views) answered keeps = leaves_role k.role k l queries (Some Views) answered keeps
+leaves_alone k l queries (Some (Wait of number milliseconds)) answered keeps = leaves_role k.role k l queries (Some (Wait of number milliseconds)) answered keeps
+leaves_alone k l queries (Some (Stop is_at_once)) answered keeps = leaves_role k.role k l queries (Some (Stop is_at_once)) answered keeps
+leaves_alone k l queries None answered keeps = leaves_role k.role k l queries None answered keeps
+
+-- a frame comes to what is inside only if this holds of its queries
+left_frame : {A S P : Type 0} (answers : A → S → P → Frame Query → Frame Response → A → S → P → Type 0) (T : Type 0) (a b : Server A) (s t : S) (p q : P) (frame : Frame Query) (reply : Frame Response) (answered : Option (List Response))
+    → Leaves a.keeper frame.messages answered
+    → (leaves (hindered a.keeper.read_only frame.messages) a.keeper.is_memory_full frame.messages ≡ None → T)
     → MatchOption answered (answers a.inner s p frame reply b.inner t q) (λ responses. (reply ≡ framed frame.version responses) × (b.inner ≡ a.inner) × (t ≡ s) × (q ≡ p))
-    → ((changes_rows frame.messages ≡ false) × answers a.inner s p frame reply b.inner t q) ⊎ ((b.inner ≡ a.inner) × (t ≡ s) × (q ≡ p))
-spares_frame answers a b s t p q frame reply None spares then = inl (spares, then)
-spares_frame answers a b s t p q frame reply (Some responses) spares then = inr (then.1, then.2, then.3)
+    → (T × answers a.inner s p frame reply b.inner t q) ⊎ ((b.inner ≡ a.inner) × (t ≡ s) × (q ≡ p))
+left_frame answers T a b s t p q frame reply None left holds then = inl (holds left, then)
+left_frame answers T a b s t p q frame reply (Some responses) left holds then = inr (then.1, then.2, then.3)
+
+keeps_rows : (changes : Bool) (refusal : ServerRefusal) (full : Bool) (queries : List Query) → leaves (cond changes (Some refusal) None) full queries ≡ None → changes ≡ false
+keeps_rows true refusal full queries left = absurd (cc)
+keeps_rows false refusal full queries left = refl
 
 pub hindered_keep_rows : {A S P : Type 0} (answers : A → S → P → Frame Query → Frame Response → A → S → P → Type 0) → HinderedKeepRows answers
 hindered_keep_rows answers a b s t p q frame reply refusal hinders (answered, keeps, then) =
-    spares_frame answers a b s t p q frame reply answered (spares_alone a.keeper b.keeper frame.messages (alone frame.messages) answered refusal hinders keeps) then
+    left_frame answers _ a b s t p q frame reply answered (leaves_alone a.keeper b.keeper frame.messages (alone frame.messages) answered keeps)
+    (λ left. keeps_rows (changes_rows frame.messages) refusal a.keeper.is_memory_full frame.messages
+    (subst (λ (o : Option ServerRefusal). leaves (hindered o frame.messages) a.keeper.is_memory_full frame.messages ≡ None) hinders left))
+    then
+
+bounds_growth : (any : Bool) (queries : List Query) → cond any (Some (memory_refusals queries)) None ≡ None → any ≡ false
+bounds_growth true queries left = absurd (cc)
+bounds_growth false queries left = refl
+
+grows_nothing : (refusal : Option ServerRefusal) (queries : List Query) → leaves refusal true queries ≡ None → any_grows queries ≡ false
+grows_nothing None queries left = bounds_growth (any_grows queries) queries left
+grows_nothing (Some refusal) queries left = absurd (cc)
+
+pub full_grow_nothing : {A S P : Type 0} (answers : A → S → P → Frame Query → Frame Response → A → S → P → Type 0) → FullGrowNothing answers
+full_grow_nothing answers a b s t p q frame reply full (answered, keeps, then) =
+    left_frame answers _ a b s t p q frame reply answered (leaves_alone a.keeper b.keeper frame.messages (alone frame.messages) answered keeps)
+    (λ left. grows_nothing (hindered a.keeper.read_only frame.messages) frame.messages
+    (subst (λ (full : Bool). leaves (hindered a.keeper.read_only frame.messages) full frame.messages ≡ None) full left))
+    then

@@ -15,6 +15,7 @@ use Rattle.mt_talk.specs.declared.tokens.Token.{Token}
 use Rattle.mt_talk.specs.declared.server.Keeper.{Keeper}
 use Rattle.mt_talk.specs.declared.serving.Server.{Server}
 use Rattle.mt_talk.specs.Tokens.{Admits}
+use Rattle.mt_talk.specs.Growing.{any_grows}
 use Rattle.mt_talk.specs.Serving.{alone, refusals, may_all, changes_rows, Keeps}
 
 -- what is inside answers it; or the server does, and neither what is inside nor what is shared is reached
@@ -46,7 +47,7 @@ ClosedIsBlind {A} {S} {P} answers =
     → (reply ≡ framed frame.version (refusals NotAllowed frame.messages)) × (b.keeper.role ≡ None)
     × (b.keeper.tokens.items ≡ a.keeper.tokens.items) × (b.inner ≡ a.inner) × (t ≡ s) × (q ≡ p)
 
--- A CLIENT THAT MAY READ reaches what is inside by gets, ranges and pages alone.
+-- A CLIENT THAT MAY READ reaches what is inside by gets, ranges, reads of one moment and pages alone.
 abbrev pub ReadersRead : {A S P : Type 0} → (A → S → P → Frame Query → Frame Response → A → S → P → Type 0) → Type 0
 ReadersRead {A} {S} {P} answers =
     (a b : Server A) (s t : S) (p q : P) (frame : Frame Query) (reply : Frame Response)
@@ -60,4 +61,12 @@ HinderedKeepRows {A} {S} {P} answers =
     (a b : Server A) (s t : S) (p q : P) (frame : Frame Query) (reply : Frame Response) (refusal : ServerRefusal)
     → a.keeper.read_only ≡ Some refusal → ServesFrame answers a s p frame reply b t q
     → ((changes_rows frame.messages ≡ false) × answers a.inner s p frame reply b.inner t q)
+    ⊎ ((b.inner ≡ a.inner) × (t ≡ s) × (q ≡ p))
+
+-- WHILE THE MEMORY IS FULL, a frame comes to what is inside only if none of its queries is a put or a build.
+abbrev pub FullGrowNothing : {A S P : Type 0} → (A → S → P → Frame Query → Frame Response → A → S → P → Type 0) → Type 0
+FullGrowNothing {A} {S} {P} answers =
+    (a b : Server A) (s t : S) (p q : P) (frame : Frame Query) (reply : Frame Response)
+    → a.keeper.is_memory_full ≡ true → ServesFrame answers a s p frame reply b t q
+    → ((any_grows frame.messages ≡ false) × answers a.inner s p frame reply b.inner t q)
     ⊎ ((b.inner ≡ a.inner) × (t ≡ s) × (q ≡ p))

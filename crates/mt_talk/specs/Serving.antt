@@ -4,7 +4,7 @@ use Rattle.std.specs.List.{list_any}
 use Rattle.sha2.specs.Sha256.{sha256}
 use Rattle.mt_types.specs.declared.event.Request.TheVariants.{Get, Put, PutIf, Remove, Range}
 use Rattle.mt_wire.specs.declared.query.Query.{Query}
-use Rattle.mt_wire.specs.declared.query.Query.TheVariants.{Call, ViewRead, Server}
+use Rattle.mt_wire.specs.declared.query.Query.TheVariants.{Call, ViewRead, Read as OfMoment, Server}
 use Rattle.mt_wire.specs.declared.response.Response.{Response}
 use Rattle.mt_wire.specs.declared.response.Response.TheVariants.{Refused, Server as Served}
 use Rattle.mt_types.specs.declared.refusal.Refusal.TheVariants.{NoSuchView}
@@ -21,15 +21,17 @@ use Rattle.mt_wire.specs.declared.server.ServerQuery.TheVariants.{Hello, Ping, I
 use Rattle.mt_wire.specs.declared.server.ServerResponse.TheVariants.{Refused as OfServer, Hello as Greeting, Ping as Ponged, Info as Counted, Views as Listed, Waited, Stopped}
 use Rattle.mt_talk.specs.declared.facts.Facts.{Facts}
 use Rattle.mt_talk.specs.declared.server.Keeper.{Keeper}
+use Rattle.mt_talk.specs.Growing.{within_memory}
 use Rattle.mt_talk.specs.Tokens.{Admits}
 
 -- ---- who may ask what
 
--- gets, ranges, pages of views, and what the server counts, lists and waits for
+-- gets, ranges, reads of one moment, pages of views, and what the server counts, lists and waits for
 abbrev pub reads : Query → Bool
 reads (Call (Get key columns)) = true
 reads (Call (Range start limit columns)) = true
 reads (ViewRead view floor start limit) = true
+reads (OfMoment query) = true
 reads (Server (Ping number)) = true
 reads (Server Info) = true
 reads (Server Views) = true
@@ -85,7 +87,7 @@ abbrev pub numbers : Facts → List ℕ
 numbers facts =
     facts.commits ∷ facts.nodes ∷ facts.standing ∷ facts.logged ∷ facts.connections ∷ facts.accepted ∷ facts.turned_away
     ∷ facts.frames ∷ facts.queries ∷ facts.faults ∷ facts.input_bytes ∷ facts.output_bytes ∷ unwrap_or facts.durable 0
-    ∷ facts.wrong_secrets ∷ facts.buffered_bytes ∷ facts.milliseconds ∷ []
+    ∷ facts.wrong_secrets ∷ facts.buffered_bytes ∷ facts.resident_bytes ∷ facts.milliseconds ∷ []
 
 -- the end of a wait for this number: whether the commits have reached it, or the view
 abbrev pub reached : ℕ → ℕ → Option ℕ → Response
@@ -130,6 +132,7 @@ pub record Becomes (k : Keeper) (role : Option Role) (stop : Option Bool) (l : K
   pub facts : l.facts ≡ k.facts
   pub tokens : l.tokens.items ≡ k.tokens.items
   pub read_only : l.read_only ≡ k.read_only
+  pub is_memory_full : l.is_memory_full ≡ k.is_memory_full
 
 -- each query is refused, and nothing changes
 abbrev pub TurnsAway : Keeper → List Query → Option (List Response) → Keeper → Type 0
@@ -142,14 +145,15 @@ Greets k queries newest secret answered l =
     × MatchOption found (TurnsAway k queries answered l)
     (λ role. (answered ≡ Some (greeting k.facts newest role ∷ [])) × Becomes k (Some role) k.stop l)
 
--- queries of the index are left to what is inside; or each is refused, since one changes a row and rows can't be changed
-abbrev pub leaves : Option ServerRefusal → List Query → Option (List Response)
-leaves None queries = None
-leaves (Some refusal) queries = Some (refusals refusal queries)
+-- queries of the index are left to what is inside; or each is refused, since one changes a row and rows can't be changed, or
+-- since one grows and the memory is full
+abbrev pub leaves : Option ServerRefusal → Bool → List Query → Option (List Response)
+leaves None is_memory_full queries = within_memory is_memory_full queries
+leaves (Some refusal) is_memory_full queries = Some (refusals refusal queries)
 
 -- queries that the client may ask: one of the server is answered, others are left to what is inside
 abbrev pub Allows : Keeper → List Query → Option ServerQuery → Option (List Response) → Keeper → Type 0
-Allows k queries None answered l = (answered ≡ leaves (hindered k.read_only queries) queries) × Becomes k k.role k.stop l
+Allows k queries None answered l = (answered ≡ leaves (hindered k.read_only queries) k.is_memory_full queries) × Becomes k k.role k.stop l
 Allows k queries (Some query) answered l =
     (response : Response) × IsTold k.facts query response × (answered ≡ Some (response ∷ []))
     × Becomes k k.role (stop_of query k.stop) l

@@ -39,6 +39,8 @@ pub struct Facts {
     pub output_bytes: u64,
     /// How many bytes of input and output are kept for all connections.
     pub buffered_bytes: u64,
+    /// How many bytes of the server were in the machine's memory when that was last read; 0 if it couldn't be.
+    pub resident_bytes: u64,
     /// The time since the start.
     pub milliseconds: u64,
     /// The views, if a client has asked for them.
@@ -84,6 +86,7 @@ impl Facts {
             count(b"durable", self.durable.unwrap_or(0)),
             count(b"wrong_secrets", self.wrong_secrets),
             count(b"buffered_bytes", self.buffered_bytes),
+            count(b"resident_bytes", self.resident_bytes),
             count(b"uptime_ms", self.milliseconds),
         ]?)
     }

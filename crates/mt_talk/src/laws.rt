@@ -1,7 +1,7 @@
 //! Laws of sessions as bytes in and bytes out, and of servers. Their bodies do nothing.
 
 ghost use Rattle.mt_talk.specs.Laws.{TalksAreStreams};
-ghost use Rattle.mt_talk.specs.Frames.{ClosedIsBlind, HinderedKeepRows, ReadersRead};
+ghost use Rattle.mt_talk.specs.Frames.{ClosedIsBlind, FullGrowNothing, HinderedKeepRows, ReadersRead};
 
 use crate::talk::Answers;
 
@@ -18,7 +18,8 @@ pub fn closed_servers_are_blind<S, P, A: Answers<S, P>>()
     ensures { ClosedIsBlind A.answers }
 {}
 
-/// If a client may read, a frame comes to what is inside only if it has gets, ranges and pages of views alone.
+/// If a client may read, a frame comes to what is inside only if it has gets, ranges, reads of one moment and pages of
+/// views alone.
 pub fn readers_read<S, P, A: Answers<S, P>>()
     ensures { ReadersRead A.answers }
 {}
@@ -26,4 +27,9 @@ pub fn readers_read<S, P, A: Answers<S, P>>()
 /// While rows can't be changed, a frame comes to what is inside only if none of its queries changes a row.
 pub fn hindered_servers_keep_rows<S, P, A: Answers<S, P>>()
     ensures { HinderedKeepRows A.answers }
+{}
+
+/// While the memory is full, a frame comes to what is inside only if none of its queries is a put or a build of a view.
+pub fn full_servers_grow_nothing<S, P, A: Answers<S, P>>()
+    ensures { FullGrowNothing A.answers }
 {}

@@ -2,6 +2,7 @@
 #![tactic(auto)]
 
 pub mod facts;
+pub mod growing;
 pub mod laws;
 pub mod listing;
 pub mod replying;

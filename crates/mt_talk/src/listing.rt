@@ -1,7 +1,8 @@
 //! The views of a server, as it lists them.
 
-ghost use Rattle.std.specs.Prelude.{◌≡◌, ◌⊎◌, ◌++◌, ◌∷◌, [], IfOk, IfErr, OnOk, OnErr};
-ghost use Rattle.mt_wire.specs.Limited.{ViewsAreLimited};
+ghost use Rattle.std.specs.Prelude.{◌≡◌, ◌≤◌, ◌↔◌, ◌⊎◌, ◌++◌, ◌∷◌, [], Err, length, IfOk, IfErr, OnOk, OnErr};
+ghost use Rattle.mt_types.specs.declared.limits.TheConstants.{MAX_VIEWS};
+ghost use Rattle.mt_wire.specs.Limited.{SpecIsLimited, ViewsAreLimited};
 
 use mt_types::copying::TryCopy;
 use mt_types::items::Items;
@@ -44,11 +45,12 @@ impl Listing {
     ///
     /// # Errors
     ///
-    /// `BadLimit` if there are `MAX_VIEWS` already, or if its specification breaks a limit of an index; `NoMemory` if an
+    /// `BadLimit` exactly if there are `MAX_VIEWS` already, or its specification breaks a limit of an index; `NoMemory` if an
     /// allocation is refused.
     pub fn push(&mut self, view: ListedView) -> Result<(), Refusal>
         ensures ok { OnOk result (self.new ≡ self.old ++ view ∷ []) }
         ensures err { OnErr result (self.new ≡ self.old) }
+        ensures limit { (result ≡ Err Refusal.BadLimit) ↔ ((MAX_VIEWS ≤ length self.old) ⊎ ¬ SpecIsLimited view.spec) }
         ensures why { IfErr result (λ refusal. (refusal ≡ Refusal.BadLimit) ⊎ (refusal ≡ Refusal.NoMemory)) }
     {
         if self.views.len() >= MAX_VIEWS || !spec_is_limited(&view.spec) {

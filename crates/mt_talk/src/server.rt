@@ -1,6 +1,6 @@
 //! What a server answers without its index: its own queries, and refusals of what a client may not ask.
 
-ghost use Rattle.std.specs.Prelude.{◌≡◌, ◌≤◌, ◌<◌, ◌∷◌, [], None, Some, length, IfOk, IfSome, OnErr};
+ghost use Rattle.std.specs.Prelude.{◌≡◌, ◌≤◌, ◌<◌, ◌∷◌, [], None, Some, false, length, IfOk, IfSome, OnErr};
 ghost use Rattle.std.specs.List.{list_any};
 ghost use Rattle.std.specs.Option.{option_map, option_copied};
 ghost use Rattle.mt_types.specs.declared.limits.TheConstants.{MAX_QUERIES};
@@ -14,6 +14,7 @@ ghost use Rattle.mt_talk.specs.Tokens.{first_role};
 ghost use Rattle.mt_talk.specs.Serving.{reads, writes, may, may_all, changes_row, changes_rows, hindered, leaves, refusals, common_version, greeting, waited, alone, IsTold, Greets, Allows, Within, Keeps};
 
 use crate::facts::Facts;
+use crate::growing::refuse_growth;
 use crate::tokens::{Token, admit};
 use mt_types::event::Request;
 use mt_types::items::Items;
@@ -33,13 +34,15 @@ pub struct Keeper {
     pub stop: Option<bool>,
     /// Why rows can't be changed now, if they can't.
     pub read_only: Option<ServerRefusal>,
+    /// Whether the memory is full, so that nothing may grow.
+    pub is_memory_full: bool,
     /// What is answered of the server.
     pub facts: Facts,
     tokens: Vec<Token>,
     alloc: Global,
 }
 
-// Gets, ranges, pages of views, and what the server counts, lists and waits for.
+// Gets, ranges, reads of one moment, pages of views, and what the server counts, lists and waits for.
 fn reads(query: &Query) -> bool
     ensures { result ≡ reads query.now }
 {
@@ -47,6 +50,7 @@ fn reads(query: &Query) -> bool
         query,
         Query::Call(Request::Get { .. } | Request::Range { .. })
             | Query::ViewRead { .. }
+            | Query::Read(_)
             | Query::Server(
                 ServerQuery::Ping(_)
                     | ServerQuery::Info
@@ -202,12 +206,14 @@ impl Keeper {
         ensures role { result.role ≡ None }
         ensures stop { result.stop ≡ None }
         ensures read_only { result.read_only ≡ None }
+        ensures memory { result.is_memory_full ≡ false }
         ensures tokens { result.tokens ≡ tokens }
     {
         Keeper {
             role: None,
             stop: None,
             read_only: None,
+            is_memory_full: false,
             facts: Facts::default(),
             tokens,
             alloc,
@@ -235,17 +241,18 @@ impl Keeper {
         Ok(Some(refuse_all(self.alloc, ServerRefusal::NotAllowed, queries)?))
     }
 
-    // Leaves these queries to what is inside, unless one changes a row and rows can't be changed now: then each is refused.
+    // Leaves these queries to what is inside, unless one changes a row and rows can't be changed now, or one grows and the
+    // memory is full: then each is refused.
     fn leave(&self, queries: &[Query]) -> Result<Option<Vec<Response>>, AllocError>
         requires some { 0 < length queries.now }
         requires few { length queries.now ≤ MAX_QUERIES }
         ensures value { IfOk result (λ answered. option_map (λ responses. responses.items) answered
-            ≡ leaves (hindered self.now.read_only queries.now) queries.now) }
+            ≡ leaves (hindered self.now.read_only queries.now) self.now.is_memory_full queries.now) }
         ensures holds { IfOk result (λ answered. IfSome answered (λ responses. Holds ResponseIsLimited responses.items)) }
     {
         match hindered(self.read_only, queries) {
             Some(refusal) => Ok(Some(refuse_all(self.alloc, refusal, queries)?)),
-            None => Ok(None),
+            None => refuse_growth(self.alloc, self.is_memory_full, queries),
         }
     }
 

@@ -50,7 +50,7 @@ fn asked(alloc: Global) -> Result<[Query; 2], Fail> {
     Ok([Query::Call(put), Query::Call(get)])
 }
 
-fn row(alloc: Global, version: u64) -> Result<Row, Fail> {
+pub fn row(alloc: Global, version: u64) -> Result<Row, Fail> {
     let columns = Columns::of_new_row(alloc, 1, &[(0, v())])?;
     Ok(Row { version, columns })
 }

@@ -13,6 +13,8 @@ mod interiors;
 #[cfg(test)]
 mod places;
 #[cfg(test)]
+mod reads;
+#[cfg(test)]
 mod served;
 #[cfg(test)]
 mod values;

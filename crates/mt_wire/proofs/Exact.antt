@@ -7,10 +7,9 @@ use Rattle.std.proofs.lemmas.Bool.{cases_lt, ltb-false, le-ltb}
 use Rattle.std.proofs.lemmas.List.{take_at, drop_at, take-append-drop, length-append, length-take, get_or-drop, get_or-take, get_or_past}
 use Rattle.std.proofs.lemmas.List.Concat.{flat_map-cons}
 use Rattle.std.proofs.lemmas.Nat.{be_bytes_2, be_bytes_4, be_bytes_8, from_be_bytes-to_be_bytes_2, from_be_bytes-to_be_bytes_4, from_be_bytes-to_be_bytes_8}
-use Rattle.mt_wire.specs.Spelling.{key_spelling, short_spelling, counted}
-use Rattle.mt_wire.specs.Fits.{KeyFits, ShortFits, CountedFits}
-use Rattle.mt_wire.specs.Reading.{Reader, ◌>>=◌, both, made, nothing_at, bytes_at, number_at, byte_at, key_at, short_at, times_at, counted_at, kind_at}
-use Rattle.mt_wire.proofs.ResponseReading.{counted16_at}
+use Rattle.mt_wire.specs.Spelling.{key_spelling, short_spelling, counted, counted16}
+use Rattle.mt_wire.specs.Fits.{KeyFits, ShortFits, CountedFits, Counted16Fits}
+use Rattle.mt_wire.specs.Reading.{Reader, ◌>>=◌, both, made, nothing_at, bytes_at, number_at, byte_at, key_at, short_at, times_at, counted_at, counted16_at, kind_at}
 
 abbrev pub IsBytes : List ℕ → Type 0
 IsBytes bytes = (i : ℕ) → get_or bytes i 0 < 256
@@ -286,7 +285,7 @@ pub counted_exact : {A : Type 0} {F : A → Type 0} {spell : A → List ℕ} {it
 counted_exact exact = record { takes = counted_takes exact; again = counted_again exact }
 
 counted16_takes : {A : Type 0} {F : A → Type 0} {spell : A → List ℕ} {item : Reader A} → IsExact A F spell item
-    → (bytes : List ℕ) (x : List A × List ℕ) → IsBytes bytes → counted16_at item bytes ≡ Some x → Takes bytes (to_be_bytes w16 (length x.0) ++ flat_map spell x.0) x.1 × ((length x.0 < 2 ^ 16) × AllByRecursion F x.0)
+    → (bytes : List ℕ) (x : List A × List ℕ) → IsBytes bytes → counted16_at item bytes ≡ Some x → Takes bytes (counted16 spell x.0) x.1 × Counted16Fits F x.0
 unfolding counted16_at
 counted16_takes {A} {F} {spell} {item} exact bytes x fits e =
     let p = bind_some (number_at w16 bytes) (λ n. times_at item n.0 n.1) x e in
@@ -296,12 +295,12 @@ counted16_takes {A} {F} {spell} {item} exact bytes x fits e =
     (subst (λ (n : ℕ). Takes bytes (to_be_bytes w16 n ++ flat_map spell x.0) x.1) (sym s.1) whole, (omega (arith, s.1, t.1), s.2))
 
 counted16_again : {A : Type 0} {F : A → Type 0} {spell : A → List ℕ} {item : Reader A} → IsExact A F spell item
-    → (xs : List A) (rest : List ℕ) → (length xs < 2 ^ 16) × AllByRecursion F xs → counted16_at item ((to_be_bytes w16 (length xs) ++ flat_map spell xs) ++ rest) ≡ Some (xs, rest)
+    → (xs : List A) (rest : List ℕ) → Counted16Fits F xs → counted16_at item (counted16 spell xs ++ rest) ≡ Some (xs, rest)
 unfolding counted16_at
 counted16_again {A} {F} {spell} {item} exact xs rest h =
     ap (counted16_at item) (append_assoc (to_be_bytes w16 (length xs)) (flat_map spell xs) rest)
     ∙ rw (number_again w16 (2 ^ 16) wide16 (length xs) (flat_map spell xs ++ rest) h.0, times_again exact xs rest h.1) refl
 
 pub counted16_exact : {A : Type 0} {F : A → Type 0} {spell : A → List ℕ} {item : Reader A} → IsExact A F spell item
-    → IsExact (List A) (λ xs. (length xs < 2 ^ 16) × AllByRecursion F xs) (λ xs. to_be_bytes w16 (length xs) ++ flat_map spell xs) (counted16_at item)
+    → IsExact (List A) (Counted16Fits F) (counted16 spell) (counted16_at item)
 counted16_exact exact = record { takes = counted16_takes exact; again = counted16_again exact }

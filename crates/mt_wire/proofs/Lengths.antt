@@ -1,5 +1,6 @@
 -- How long the spelling of an answer is at most, if the answer keeps the limits of an index.
 use Rattle.std.proofs.Common.{ℕ, ◌*◌, ◌≤◌, ◌++◌, List, [], ◌∷◌, length, Option, Some, None, true, false, All, arith, length-append}
+use Rattle.std.specs.Prelude.{IfSome}
 use Rattle.std.specs.List.{AllByRecursion, flat_map}
 use Rattle.std.specs.Int.{w64, to_be_bytes}
 use Rattle.std.proofs.lemmas.List.Elements.{All-nil, All-cons}
@@ -12,14 +13,14 @@ use Rattle.mt_types.specs.declared.view.ViewSpec.TheVariants.{Range as RangeOf, 
 use Rattle.mt_types.specs.declared.view.RowTest.{RowTest}
 use Rattle.mt_types.specs.declared.view.RowTest.TheVariants.{Any, Equals, AtLeast}
 use Rattle.mt_wire.specs.declared.response.Response.{Response}
-use Rattle.mt_wire.specs.declared.response.Response.TheVariants.{Refused, Done, View, Dropped, Server}
+use Rattle.mt_wire.specs.declared.response.Response.TheVariants.{Refused, Done, View, Dropped, FoundAll, Server}
 use Rattle.mt_wire.specs.declared.server.Count.{Count}
 use Rattle.mt_wire.specs.declared.server.ListedView.{ListedView}
 use Rattle.mt_wire.specs.declared.server.ServerResponse.{ServerResponse}
 use Rattle.mt_wire.specs.declared.server.ServerResponse.TheVariants.{Info, Views, Waited}
 use Rattle.mt_wire.specs.declared.response.End.{End}
 use Rattle.mt_wire.specs.declared.response.End.TheVariants.{Found, Rows}
-use Rattle.mt_wire.specs.Spelling.{key_spelling, short_spelling, test_spelling, end_spelling, spec_spelling, sum_spelling, row_spelling, pair_spelling, pairs_spelling, count_spelling, listed_spelling, served_spelling, response_spelling}
+use Rattle.mt_wire.specs.Spelling.{key_spelling, short_spelling, test_spelling, end_spelling, spec_spelling, sum_spelling, row_spelling, pair_spelling, pairs_spelling, found_spelling, count_spelling, listed_spelling, served_spelling, response_spelling}
 use Rattle.mt_wire.specs.Fits.{KeyFits, ServedLengths, ShortFits, TestLengths, EndLengths, SpecLengths, RowLengths, EndLengthsOf, ResponseLengths}
 use Rattle.mt_types.specs.Limited.{ColumnIsLimited, RowIsLimited, PairIsLimited, PairsAreLimited}
 use Rattle.mt_wire.specs.Limited.{EndIsLimited, TestIsLimited, UpperIsLimited, SpecIsLimited, ServedIsLimited, ResponseIsLimited}
@@ -62,6 +63,10 @@ pairs_most : (pairs : List (List ℕ × Row)) → PairsAreLimited pairs → leng
 pairs_most pairs h =
     let each = spelled_most PairIsLimited pair_spelling 2075 pair_most pairs h.1 in
     omega (arith, h.0, each)
+
+found_most : (found : Option Row) → IfSome found RowIsLimited → length (found_spelling found) ≤ 1050
+found_most None h = omega arith
+found_most (Some row) h = let most = row_most row h in omega (arith, most)
 
 -- ---- answers
 
@@ -120,6 +125,9 @@ response_most (View page) h =
     let sums = sums_most page.sums in
     let both = length-append (flat_map sum_spelling page.sums) (pairs_spelling page.rows) in
     omega (arith, h.0, rows, sums, both)
+response_most (FoundAll at rows) h =
+    let each = spelled_most (λ (found : Option Row). IfSome found RowIsLimited) found_spelling 1050 found_most rows h.1 in
+    omega (arith, h.0, each)
 response_most (Server response) h = let most = served_most response h in omega (arith, most)
 response_most _ h = omega arith
 
@@ -130,6 +138,10 @@ row_lengths row h = (omega (arith, h.0), each_of ColumnIsLimited ShortFits (λ c
 
 pairs_lengths : (pairs : List (List ℕ × Row)) → AllByRecursion PairIsLimited pairs → AllByRecursion (λ pair. RowLengths pair.1) pairs
 pairs_lengths pairs = each_of PairIsLimited (λ pair. RowLengths pair.1) (λ pair limited. row_lengths pair.1 limited.1) pairs
+
+found_lengths : (found : Option Row) → IfSome found RowIsLimited → IfSome found RowLengths
+found_lengths None h = tt
+found_lengths (Some row) h = row_lengths row h
 
 end_lengths : (end : End) → EndIsLimited end → EndLengthsOf end
 end_lengths (Found row) h = row_lengths row h
@@ -159,6 +171,8 @@ response_lengths (Refused refusal) h = tt
 response_lengths (Done start stop end) h = end_lengths end h
 response_lengths (View page) h = (omega (arith, h.0), (omega (arith, h.1.0), pairs_lengths page.rows h.1.1))
 response_lengths Dropped h = tt
+response_lengths (FoundAll at rows) h =
+    (omega (arith, h.0), each_of (λ (found : Option Row). IfSome found RowIsLimited) (λ found. IfSome found RowLengths) found_lengths rows h.1)
 response_lengths (Server response) h = served_lengths response h
 
 pub limited_replies_fit : LimitedRepliesFit

@@ -4,6 +4,7 @@ pub mod Exact
 pub mod ServedLists
 pub mod ServerLaws
 pub mod QueryLaws
+pub mod RowLaws
 pub mod ResponseLaws
 pub mod Joined
 pub mod FrameLaws

@@ -1,23 +1,26 @@
 -- Reading undoes the spelling of queries.
 use Rattle.std.proofs.Common.{◌≡◌, ℕ, zero, suc, ◌^◌, ◌<◌, Bool, true, false, cond, ltb, List, [], ◌∷◌, ◌++◌, Option, Some, None, refl, subst}
 use Rattle.std.specs.List.{AllByRecursion}
-use Rattle.std.specs.Int.{w16, w64, to_be_bytes}
+use Rattle.std.specs.Int.{w16, w32, w64, to_be_bytes}
 use Rattle.mt_types.specs.declared.event.Request.TheVariants.{Get, Put, PutIf, Remove, Range, Tidy, Build}
 use Rattle.mt_types.specs.declared.view.ViewSpec.{ViewSpec}
 use Rattle.mt_types.specs.declared.view.ViewSpec.TheVariants.{Range as RangeOf, Prefix as PrefixOf}
 use Rattle.mt_types.specs.declared.view.RowTest.{RowTest}
 use Rattle.mt_types.specs.declared.view.RowTest.TheVariants.{Any, Equals, AtLeast}
 use Rattle.mt_wire.specs.declared.query.Query.{Query}
-use Rattle.mt_wire.specs.declared.query.Query.TheVariants.{Call, ViewRead, ViewDrop, Server}
+use Rattle.mt_wire.specs.declared.query.Query.TheVariants.{Call, ViewRead, ViewDrop, Read, Server}
+use Rattle.mt_wire.specs.declared.read.ReadQuery.{ReadQuery}
+use Rattle.mt_wire.specs.declared.read.ReadQuery.TheVariants as reads
 use Rattle.mt_wire.specs.declared.server.ServerQuery.{ServerQuery}
 use Rattle.mt_wire.specs.declared.server.ServerQuery.TheVariants as asks
-use Rattle.mt_wire.specs.Spelling.{set_spelling, test_spelling, end_spelling, spec_spelling, query_spelling}
-use Rattle.mt_wire.specs.Fits.{ShortFits, TestLengths, TestNumbers, EndLengths, SpecLengths, SpecNumbers, QueryFits}
+use Rattle.mt_wire.specs.Spelling.{set_spelling, test_spelling, end_spelling, spec_spelling, read_spelling, query_spelling}
+use Rattle.mt_wire.specs.Fits.{ShortFits, TestLengths, TestNumbers, EndLengths, SpecLengths, SpecNumbers, ReadLengths, ReadNumbers, QueryFits}
 use Rattle.mt_wire.specs.Reading.{byte_at, number_at, kind_at, set_at, test_rest, end_rest, spec_rest, get_at, put_at, put_if_at, remove_at, range_at, tidy_at, build_at, view_read_at, view_drop_at, index_rest, made}
+use Rattle.mt_wire.specs.ReadReading.{gets_at, range_back_at, count_at, read_rest}
 use Rattle.mt_wire.specs.ServerReading.{server_rest}
 use Rattle.mt_wire.specs.QueryReading.{query_rest}
-use Rattle.mt_wire.proofs.ServerLaws.{TakesAt, server_takes, server_again}
-use Rattle.mt_wire.proofs.Exact.{IsBytes, Takes, IsExact, bind_some, some_is, wide16, wide64, both_exact, made_takes, made_again, kind_exact, nothing_exact, byte_exact, number_exact, key_exact, short_exact, counted_exact}
+use Rattle.mt_wire.proofs.ServerLaws.{TakesAt, kind_or, server_takes, server_again}
+use Rattle.mt_wire.proofs.Exact.{IsBytes, Takes, IsExact, bind_some, some_is, wide16, wide32, wide64, both_exact, made_takes, made_again, kind_exact, nothing_exact, byte_exact, number_exact, key_exact, short_exact, counted_exact, counted16_exact}
 
 abbrev n16 : IsExact ℕ (λ n. n < 2 ^ 16) (λ n. to_be_bytes w16 n) (number_at w16)
 n16 = number_exact w16 (2 ^ 16) wide16
@@ -89,6 +92,44 @@ spec_again (PrefixOf key test) rest h = made_again (λ x. PrefixOf x.0 x.1) (bot
 pub spec_exact : IsExact ViewSpec SpecFits spec_spelling (kind_at spec_rest)
 spec_exact = kind_exact spec_takes spec_again
 
+-- ---- reads of one moment
+
+n32 : IsExact ℕ (λ n. n < 2 ^ 32) (λ n. to_be_bytes w32 n) (number_at w32)
+n32 = number_exact w32 (2 ^ 32) wide32
+
+abbrev ReadFits : ReadQuery → Type 0
+ReadFits query = ReadLengths query × ReadNumbers query
+
+gets_takes : TakesAt ReadFits read_spelling 13 gets_at
+unfolding gets_at
+gets_takes = made_takes (λ x. reads.Gets x.0 x.1) read_spelling ReadFits 13 (both_exact (counted16_exact key_exact) short_exact) (λ x. refl) (λ x h. (h, tt))
+
+range_back_takes : TakesAt ReadFits read_spelling 14 range_back_at
+unfolding range_back_at
+range_back_takes = made_takes (λ x. reads.RangeBack x.0.0 x.0.1 x.1) read_spelling ReadFits 14 (both_exact (both_exact end_exact n16) short_exact) (λ x. refl) (λ x h. ((h.0.0, h.1), h.0.1))
+
+count_takes : TakesAt ReadFits read_spelling 15 count_at
+unfolding count_at
+count_takes = made_takes (λ x. reads.Count x.0.0 x.0.1 x.1) read_spelling ReadFits 15 (both_exact (both_exact key_exact end_exact) n32) (λ x. refl) (λ x h. ((h.0.0, h.0.1), h.1))
+
+no_read : (kind : ℕ) → TakesAt ReadFits read_spelling kind (λ bytes. None)
+no_read kind bytes y fits e = absurd cc
+
+read_takes : (kind : ℕ) → TakesAt ReadFits read_spelling kind (read_rest kind)
+unfolding read_rest
+read_takes kind =
+    kind_or ReadFits read_spelling kind 13 _ _ gets_takes
+    (kind_or ReadFits read_spelling kind 14 _ _ range_back_takes
+    (kind_or ReadFits read_spelling kind 15 _ _ count_takes (no_read kind)))
+
+read_again : (x : ReadQuery) (rest : List ℕ) → ReadFits x → kind_at read_rest (read_spelling x ++ rest) ≡ Some (x, rest)
+unfolding kind_at byte_at read_rest gets_at range_back_at count_at
+read_again (reads.Gets keys columns) rest h = made_again (λ x. reads.Gets x.0 x.1) (both_exact (counted16_exact key_exact) short_exact) (keys, columns) rest h.0
+read_again (reads.RangeBack before limit columns) rest h =
+    made_again (λ x. reads.RangeBack x.0.0 x.0.1 x.1) (both_exact (both_exact end_exact n16) short_exact) ((before, limit), columns) rest ((h.0.0, h.1), h.0.1)
+read_again (reads.Count start stop most) rest h =
+    made_again (λ x. reads.Count x.0.0 x.0.1 x.1) (both_exact (both_exact key_exact end_exact) n32) ((start, stop), most) rest ((h.0.0, h.0.1), h.1)
+
 -- ---- queries
 
 index_takes : (kind : ℕ) (bytes : List ℕ) (y : Query × List ℕ) → IsBytes bytes → index_rest kind bytes ≡ Some y → Takes (kind ∷ bytes) (query_spelling y.0) y.1 × QueryFits y.0
@@ -113,16 +154,27 @@ served_takes kind bytes y fits e =
     let t = server_takes kind bytes p.0 fits p.1 in
     subst (λ (z : Query × List ℕ). Takes (kind ∷ bytes) (query_spelling z.0) z.1 × QueryFits z.0) (some_is (Server p.0.0, p.0.1) y p.2) t
 
-either_takes : (is_low : Bool) (kind : ℕ) → TakesAt QueryFits query_spelling kind (cond is_low (index_rest kind) (made (λ x. Server x) (server_rest kind)))
-either_takes true = index_takes
-either_takes false = served_takes
+reads_takes : (kind : ℕ) → TakesAt QueryFits query_spelling kind (made (λ x. Read x) (read_rest kind))
+reads_takes kind bytes y fits e =
+    let p = bind_some (read_rest kind bytes) (λ x. Some (Read x.0, x.1)) y e in
+    let t = read_takes kind bytes p.0 fits p.1 in
+    subst (λ (z : Query × List ℕ). Takes (kind ∷ bytes) (query_spelling z.0) z.1 × QueryFits z.0) (some_is (Read p.0.0, p.0.1) y p.2) t
+
+either_takes : (is_low is_read : Bool) (kind : ℕ)
+    → TakesAt QueryFits query_spelling kind (cond is_low (index_rest kind) (cond is_read (made (λ x. Read x) (read_rest kind)) (made (λ x. Server x) (server_rest kind))))
+either_takes true is_read = index_takes
+either_takes false true = reads_takes
+either_takes false false = served_takes
 
 query_takes : (kind : ℕ) → TakesAt QueryFits query_spelling kind (query_rest kind)
 unfolding query_rest
-query_takes kind = either_takes (ltb kind 16) kind
+query_takes kind = either_takes (ltb kind 13) (ltb kind 16) kind
 
 served_again : (kind : ℕ) (bytes : List ℕ) (x : ServerQuery) (rest : List ℕ) → server_rest kind bytes ≡ Some (x, rest) → made (λ x. Server x) (server_rest kind) bytes ≡ Some (Server x, rest)
 served_again kind bytes x rest e = rw e refl
+
+reads_again : (kind : ℕ) (bytes : List ℕ) (x : ReadQuery) (rest : List ℕ) → read_rest kind bytes ≡ Some (x, rest) → made (λ x. Read x) (read_rest kind) bytes ≡ Some (Read x, rest)
+reads_again kind bytes x rest e = rw e refl
 
 query_again : (x : Query) (rest : List ℕ) → QueryFits x → kind_at query_rest (query_spelling x ++ rest) ≡ Some (x, rest)
 unfolding kind_at byte_at query_rest index_rest get_at put_at put_if_at remove_at range_at tidy_at build_at view_read_at view_drop_at
@@ -137,6 +189,9 @@ query_again (Call (Build spec)) rest h = made_again (λ x. Call (Build x)) spec_
 query_again (ViewRead view floor start limit) rest h =
     made_again (λ x. ViewRead (record { 0 = x.0.0.0 }) x.0.0.1 x.0.1 x.1) (both_exact (both_exact (both_exact n64 n64) key_exact) n16) (((view.0, floor), start), limit) rest (((h.1.0, h.1.1), h.0), h.1.2)
 query_again (ViewDrop view) rest h = made_again (λ x. ViewDrop (record { 0 = x })) n64 view.0 rest h.1
+query_again (Read (reads.Gets keys columns)) rest h = reads_again 13 _ (reads.Gets keys columns) rest (read_again (reads.Gets keys columns) rest h)
+query_again (Read (reads.RangeBack before limit columns)) rest h = reads_again 14 _ (reads.RangeBack before limit columns) rest (read_again (reads.RangeBack before limit columns) rest h)
+query_again (Read (reads.Count start stop most)) rest h = reads_again 15 _ (reads.Count start stop most) rest (read_again (reads.Count start stop most) rest h)
 query_again (Server (asks.Hello newest secret name)) rest h = served_again 16 _ (asks.Hello newest secret name) rest (server_again (asks.Hello newest secret name) rest h)
 query_again (Server (asks.Ping number)) rest h = served_again 17 _ (asks.Ping number) rest (server_again (asks.Ping number) rest h)
 query_again (Server asks.Info) rest h = served_again 18 _ asks.Info rest (server_again asks.Info rest h)

@@ -1,11 +1,8 @@
 -- Reading undoes the spelling of answers.
-use Rattle.std.proofs.Common.{◌≡◌, ℕ, zero, suc, ◌+◌, ◌*◌, ◌/◌, ◌%◌, ◌^◌, ◌<◌, ◌≤◌, Bool, true, false, cond, eqb, ltb, List, [], ◌∷◌, ◌++◌, length, Some, None, refl, sym, ap, subst, ◌∙◌, arith}
+use Rattle.std.proofs.Common.{◌≡◌, ℕ, zero, suc, ◌+◌, ◌*◌, ◌/◌, ◌%◌, ◌^◌, ◌<◌, Bool, true, false, cond, eqb, ltb, List, [], ◌∷◌, ◌++◌, Some, None, refl, sym, ap, subst, ◌∙◌, arith}
 use Rattle.std.specs.Prelude.{unwrap_or}
-use Rattle.std.specs.List.{AllByRecursion}
-use Rattle.std.specs.Int.{w64, to_be_bytes}
-use Rattle.std.proofs.lemmas.Bool.{ltb-false, le-ltb, eqb-true}
-use Rattle.mt_types.specs.declared.row.Row.{Row}
-use Rattle.mt_types.specs.declared.limits.TheConstants.{MAX_KEY_BYTES}
+use Rattle.std.specs.Int.{w32, w64, to_be_bytes}
+use Rattle.std.proofs.lemmas.Bool.{eqb-true}
 use Rattle.mt_types.specs.declared.event.TidyRule.{TidyRule}
 use Rattle.mt_types.specs.TidyNumbers.{tidy_of}
 use Rattle.mt_types.proofs.NumberLaws.{refusal_back, refusal_has, tidy_back, tidy_has}
@@ -14,7 +11,7 @@ use Rattle.mt_types.specs.declared.refusal.Refusal.TheVariants as refusals
 use Rattle.mt_types.specs.declared.refusal.Refusal.TheVariants.{FeedFull, Behind, OtherVersion}
 use Rattle.mt_types.specs.RefusalNumbers.{refusal_number, refusal_detail, refusal_of}
 use Rattle.mt_wire.specs.declared.response.Response.{Response}
-use Rattle.mt_wire.specs.declared.response.Response.TheVariants.{Refused, Done, View, Dropped, Server as Served}
+use Rattle.mt_wire.specs.declared.response.Response.TheVariants.{Refused, Done, View, Dropped, FoundAll, Server as Served}
 use Rattle.mt_wire.specs.declared.server.ServerRefusal.{ServerRefusal}
 use Rattle.mt_wire.specs.declared.server.ServerRefusal.TheVariants.{DiskFailed, DiskFull, InMemory, NotAllowed, TooMuchAtOnce}
 use Rattle.mt_wire.specs.declared.server.Role.{Role}
@@ -22,14 +19,15 @@ use Rattle.mt_wire.specs.declared.server.Role.TheVariants.{Read, Write, All}
 use Rattle.mt_wire.specs.declared.server.ServerResponse.{ServerResponse}
 use Rattle.mt_wire.specs.declared.server.ServerResponse.TheVariants.{Refused as OfServer, Hello, Ping, Info, Views, Waited, Stopped}
 use Rattle.mt_wire.specs.ServerNumbers.{role_number, server_refusal_detail, server_refusal_number}
-use Rattle.mt_wire.specs.declared.response.End.TheVariants.{Absent, Found, Committed, Rows, Tidied, Built}
-use Rattle.mt_wire.specs.Spelling.{key_spelling, sum_spelling, row_spelling, pair_spelling, pairs_spelling, refusal_spelling, rule_spelling, span_spelling, served_spelling, response_spelling}
-use Rattle.mt_wire.specs.Fits.{RowLengths, RefusalNumbers, ServerRefusalNumbers, ServedLengths, ServedNumbers, PairNumbers, ResponseFits}
-use Rattle.mt_wire.specs.Reading.{Reader, ◌>>=◌, both, made, byte_at, number_at, key_at, kind_at}
-use Rattle.mt_wire.proofs.ResponseReading.{counted16_at, sum_at, row_at, index_key_at, pair_at, refusal_rest, rule_rest, ended_rest, response_rest, zero_at, turned_rest, refused_rest, role_rest, hello_at, ping_at, info_at, views_at, waited_at, stopped_at, served_rest, span_at, absent_at, found_at, committed_at, rows_at, tidied_at, built_at, view_at}
+use Rattle.mt_wire.specs.declared.response.End.TheVariants.{Absent, Found, Committed, Rows, Tidied, Built, Counted}
+use Rattle.mt_wire.specs.Spelling.{sum_spelling, refusal_spelling, rule_spelling, span_spelling, served_spelling, response_spelling}
+use Rattle.mt_wire.specs.Fits.{RefusalNumbers, ServerRefusalNumbers, ServedLengths, ServedNumbers, ResponseFits}
+use Rattle.mt_wire.specs.Reading.{Reader, ◌>>=◌, both, made, byte_at, number_at, kind_at}
+use Rattle.mt_wire.proofs.ResponseReading.{sum_at, refusal_rest, rule_rest, ended_rest, response_rest, zero_at, turned_rest, refused_rest, role_rest, hello_at, ping_at, info_at, views_at, waited_at, stopped_at, served_rest, span_at, absent_at, found_at, committed_at, rows_at, tidied_at, built_at, view_at, found_all_at, total_at}
 use Rattle.mt_wire.proofs.ServerLaws.{TakesAt, flag_exact, kind_or}
+use Rattle.mt_wire.proofs.RowLaws.{row_exact, pairs_exact, pairs_parts, pairs_whole, found_exact, rows_parts, rows_whole}
 use Rattle.mt_wire.proofs.ServedLists.{count_exact, counts_parts, counts_whole, listed_exact, listed_parts, listed_whole}
-use Rattle.mt_wire.proofs.Exact.{IsBytes, IsBytes-rest, Takes, IsExact, bind_some, some_is, wide64, both_exact, made_takes, made_again, made_exact, kind_exact, nothing_exact, byte_exact, number_exact, key_exact, short_exact, counted_exact, counted16_exact}
+use Rattle.mt_wire.proofs.Exact.{IsBytes, IsBytes-rest, Takes, IsExact, bind_some, some_is, wide32, wide64, both_exact, made_takes, made_again, made_exact, kind_exact, nothing_exact, byte_exact, number_exact, counted_exact, counted16_exact}
 
 abbrev n64 : IsExact ℕ (λ n. n < 2 ^ 64) (λ n. to_be_bytes w64 n) (number_at w64)
 n64 = number_exact w64 (2 ^ 64) wide64
@@ -63,54 +61,6 @@ sum_exact = made_exact sum_of halves sum_spelling (λ sum. sum < 2 ^ 128) (both_
     (λ y h. halves_fit y h)
     (λ y. halves_back y)
     (λ y. refl)
-
-abbrev RowFits : Row → Type 0
-RowFits row = (row.version < 2 ^ 64) × RowLengths row
-
-row_exact : IsExact Row RowFits row_spelling row_at
-unfolding row_at
-row_exact = made_exact (λ x. record { version = x.0; columns = x.1 }) (λ row. (row.version, row.columns)) row_spelling RowFits (both_exact n64 (counted_exact short_exact))
-    (λ x h. refl) (λ x h. h) (λ y h. h) (λ y. refl) (λ y. refl)
-
-guard_short : {A : Type 0} (b : Bool) (x y : A) → cond b None (Some x) ≡ Some y → (b ≡ false) × (x ≡ y)
-guard_short true x y e = absurd cc
-guard_short false x y e = (refl, cc)
-
-abbrev IndexKeyFits : List ℕ → Type 0
-IndexKeyFits key = length key ≤ MAX_KEY_BYTES
-
-index_key_takes : (bytes : List ℕ) (x : List ℕ × List ℕ) → IsBytes bytes → index_key_at bytes ≡ Some x → Takes bytes (key_spelling x.0) x.1 × IndexKeyFits x.0
-unfolding index_key_at
-index_key_takes bytes x fits e =
-    let p = bind_some (key_at bytes) (λ key. cond (ltb MAX_KEY_BYTES (length key.0)) None (Some (key.0, key.1))) x e in
-    let g = guard_short (ltb MAX_KEY_BYTES (length p.0.0)) (p.0.0, p.0.1) x p.2 in
-    let t = key_exact.takes bytes p.0 fits p.1 in
-    subst (λ (y : List ℕ × List ℕ). Takes bytes (key_spelling y.0) y.1 × IndexKeyFits y.0) g.1 (t.0, ltb-false _ _ g.0)
-
-index_key_again : (key rest : List ℕ) → IndexKeyFits key → index_key_at (key_spelling key ++ rest) ≡ Some (key, rest)
-unfolding index_key_at
-index_key_again key rest h = rw (key_exact.again key rest (omega arith), le-ltb MAX_KEY_BYTES (length key) h) refl
-
-index_key_exact : IsExact (List ℕ) IndexKeyFits key_spelling index_key_at
-index_key_exact = record { takes = index_key_takes; again = index_key_again }
-
-abbrev PairFits : List ℕ × Row → Type 0
-PairFits pair = IndexKeyFits pair.0 × RowFits pair.1
-
-pair_exact : IsExact (List ℕ × Row) PairFits pair_spelling pair_at
-unfolding pair_at
-pair_exact = both_exact index_key_exact row_exact
-
-pairs_exact : IsExact (List (List ℕ × Row)) (λ pairs. (length pairs < 2 ^ 16) × AllByRecursion PairFits pairs) pairs_spelling (counted16_at pair_at)
-pairs_exact = counted16_exact pair_exact
-
-pairs_parts : (pairs : List (List ℕ × Row)) → AllByRecursion PairFits pairs → AllByRecursion (λ pair. RowLengths pair.1) pairs × AllByRecursion PairNumbers pairs
-pairs_parts [] h = (tt, tt)
-pairs_parts (pair ∷ pairs) h = let others = pairs_parts pairs h.1 in ((h.0.1.1, others.0), ((h.0.0, h.0.1.0), others.1))
-
-pairs_whole : (pairs : List (List ℕ × Row)) → AllByRecursion (λ pair. RowLengths pair.1) pairs → AllByRecursion PairNumbers pairs → AllByRecursion PairFits pairs
-pairs_whole [] h k = tt
-pairs_whole (pair ∷ pairs) h k = ((k.0.0, (k.0.1, h.0)), pairs_whole pairs h.1 k.1)
 
 -- the numbers of a refusal fit exactly if its detail, or 0, does
 numbers_of : (refusal : Refusal) → unwrap_or (refusal_detail refusal) 0 < 2 ^ 64 → RefusalNumbers refusal
@@ -177,6 +127,19 @@ ended_takes (suc (suc (suc (suc (suc (suc (suc zero))))))) =
     (λ x h. let parts = pairs_parts x.1 h.1.1 in ((h.0.1.0, (h.1.0, parts.0)), (h.0.0.0, h.0.0.1, h.0.1.1, parts.1)))
 ended_takes (suc (suc (suc (suc (suc (suc (suc (suc zero)))))))) = made_takes (λ _. Dropped) response_spelling ResponseFits 8 nothing_exact (λ x. refl) (λ x h. (tt, tt))
 ended_takes (suc (suc (suc (suc (suc (suc (suc (suc (suc kind))))))))) = λ bytes y fits e. absurd cc
+
+-- ---- reads of one moment
+
+n32 : IsExact ℕ (λ n. n < 2 ^ 32) (λ n. to_be_bytes w32 n) (number_at w32)
+n32 = number_exact w32 (2 ^ 32) wide32
+
+found_all_takes : TakesAt ResponseFits response_spelling 13 found_all_at
+unfolding found_all_at
+found_all_takes = made_takes (λ x. FoundAll x.0 x.1) response_spelling ResponseFits 13 (both_exact n64 (counted16_exact found_exact)) (λ x. refl) (λ x h. let parts = rows_parts x.1 h.1.1 in ((h.1.0, parts.0), (h.0, parts.1)))
+
+total_takes : TakesAt ResponseFits response_spelling 14 total_at
+unfolding total_at
+total_takes = made_takes (λ x. Done x.0.0 x.0.1 (Counted x.1)) response_spelling ResponseFits 14 (both_exact span_exact n32) (λ x. refl) (λ x h. (tt, (h.0.0, h.0.1, h.1)))
 
 -- ---- what a server answers
 
@@ -353,7 +316,10 @@ either_takes false = response_served
 
 response_takes : (kind : ℕ) → TakesAt ResponseFits response_spelling kind (response_rest kind)
 unfolding response_rest
-response_takes kind = kind_or ResponseFits response_spelling kind 0 _ _ refused_takes (either_takes (ltb kind 16) kind)
+response_takes kind =
+    kind_or ResponseFits response_spelling kind 0 _ _ refused_takes
+    (kind_or ResponseFits response_spelling kind 13 _ _ found_all_takes
+    (kind_or ResponseFits response_spelling kind 14 _ _ total_takes (either_takes (ltb kind 16) kind)))
 
 served_again : (kind : ℕ) (bytes : List ℕ) (x : ServerResponse) (rest : List ℕ) → served_rest kind bytes ≡ Some (x, rest) → made (λ x. Served x) (served_rest kind) bytes ≡ Some (Served x, rest)
 served_again kind bytes x rest e = rw e refl
@@ -387,7 +353,7 @@ served_back (Waited is_reached commits view) rest h = made_again (λ x. Waited x
 served_back (Stopped commits) rest h = made_again (λ x. Stopped x) n64 commits rest h.1
 
 response_again : (x : Response) (rest : List ℕ) → ResponseFits x → kind_at response_rest (response_spelling x ++ rest) ≡ Some (x, rest)
-unfolding kind_at byte_at response_rest ended_rest absent_at found_at committed_at rows_at tidied_at built_at view_at
+unfolding kind_at byte_at response_rest ended_rest absent_at found_at committed_at rows_at tidied_at built_at view_at found_all_at total_at
 response_again (Refused refusal) rest h = refused_again refusal rest h.1
 response_again (Done start stop Absent) rest h = made_again (λ x. Done x.0 x.1 Absent) span_exact (start, stop) rest (h.1.0, h.1.1)
 response_again (Done start stop (Found row)) rest h = made_again (λ x. Done x.0.0 x.0.1 (Found x.1)) (both_exact span_exact row_exact) ((start, stop), row) rest ((h.1.0, h.1.1), (h.1.2, h.0))
@@ -396,10 +362,12 @@ response_again (Done start stop (Rows pairs)) rest h =
     made_again (λ x. Done x.0.0 x.0.1 (Rows x.1)) (both_exact span_exact pairs_exact) ((start, stop), pairs) rest ((h.1.0, h.1.1), (h.0.0, pairs_whole pairs h.0.1 h.1.2))
 response_again (Done start stop (Tidied rule)) rest h = made_again (λ x. Done x.0.0 x.0.1 (Tidied x.1)) (both_exact span_exact rule_exact) ((start, stop), rule) rest ((h.1.0, h.1.1), tt)
 response_again (Done start stop (Built view)) rest h = made_again (λ x. Done x.0.0 x.0.1 (Built (record { 0 = x.1 }))) (both_exact span_exact n64) ((start, stop), view.0) rest ((h.1.0, h.1.1), h.1.2)
+response_again (Done start stop (Counted number)) rest h = made_again (λ x. Done x.0.0 x.0.1 (Counted x.1)) (both_exact span_exact n32) ((start, stop), number) rest ((h.1.0, h.1.1), h.1.2)
 response_again (View page) rest h =
     made_again (λ x. View (record { at = x.0.0.0; count = x.0.0.1; sums = x.0.1; rows = x.1 })) (both_exact (both_exact (both_exact n64 n64) (counted_exact sum_exact)) pairs_exact)
     (((page.at, page.count), page.sums), page.rows) rest (((h.1.0, h.1.1), (h.0.0, h.1.2)), (h.0.1.0, pairs_whole page.rows h.0.1.1 h.1.3))
 response_again Dropped rest h = refl
+response_again (FoundAll at rows) rest h = made_again (λ x. FoundAll x.0 x.1) (both_exact n64 (counted16_exact found_exact)) (at, rows) rest (h.1.0, (h.0.0, rows_whole rows h.0.1 h.1.1))
 response_again (Served (OfServer turned)) rest h = turned_served turned rest h.1
 response_again (Served (Hello version role columns run commits logged)) rest h = served_again 16 _ (Hello version role columns run commits logged) rest (served_back (Hello version role columns run commits logged) rest h)
 response_again (Served (Ping number commits)) rest h = served_again 17 _ (Ping number commits) rest (served_back (Ping number commits) rest h)

@@ -1,6 +1,6 @@
 -- Reading answers from left to right, as Reading.antt does queries: the laws need it, and no code does it.
-use Rattle.std.specs.Prelude.{ℕ, zero, suc, ◌+◌, ◌*◌, ◌^◌, List, length, Some, None, nat_lt, ◌==◌, if◌then◌else◌}
-use Rattle.std.specs.Int.{w16, w64}
+use Rattle.std.specs.Prelude.{ℕ, zero, suc, ◌+◌, ◌*◌, ◌^◌, List, length, Option, Some, None, nat_lt, ◌==◌, if◌then◌else◌}
+use Rattle.std.specs.Int.{w32, w64}
 use Rattle.mt_types.specs.declared.row.Row.{Row}
 use Rattle.mt_types.specs.declared.limits.TheConstants.{MAX_KEY_BYTES}
 use Rattle.mt_types.specs.declared.event.TidyRule.{TidyRule}
@@ -8,7 +8,7 @@ use Rattle.mt_types.specs.TidyNumbers.{tidy_of}
 use Rattle.mt_types.specs.declared.refusal.Refusal.{Refusal}
 use Rattle.mt_types.specs.RefusalNumbers.{refusal_of}
 use Rattle.mt_wire.specs.declared.response.Response.{Response}
-use Rattle.mt_wire.specs.declared.response.Response.TheVariants.{Refused, Done, View, Dropped, Server as Served}
+use Rattle.mt_wire.specs.declared.response.Response.TheVariants.{Refused, Done, View, Dropped, FoundAll, Server as Served}
 use Rattle.mt_wire.specs.declared.server.ServerRefusal.{ServerRefusal}
 use Rattle.mt_wire.specs.declared.server.ServerRefusal.TheVariants.{DiskFailed, DiskFull, InMemory, NotAllowed, TooMuchAtOnce}
 use Rattle.mt_wire.specs.declared.server.Role.{Role}
@@ -17,15 +17,9 @@ use Rattle.mt_wire.specs.declared.server.Count.{Count}
 use Rattle.mt_wire.specs.declared.server.ListedView.{ListedView}
 use Rattle.mt_wire.specs.declared.server.ServerResponse.{ServerResponse}
 use Rattle.mt_wire.specs.declared.server.ServerResponse.TheVariants.{Refused as OfServer, Hello, Ping, Info, Views, Waited, Stopped}
-use Rattle.mt_wire.specs.declared.response.End.TheVariants.{Absent, Found, Committed, Rows, Tidied, Built}
-use Rattle.mt_wire.specs.Reading.{Reader, ◌>>=◌, both, made, nothing_at, byte_at, number_at, key_at, short_at, times_at, counted_at, kind_at, spec_rest}
+use Rattle.mt_wire.specs.declared.response.End.TheVariants.{Absent, Found, Committed, Rows, Tidied, Built, Counted}
+use Rattle.mt_wire.specs.Reading.{Reader, ◌>>=◌, both, made, nothing_at, byte_at, number_at, key_at, short_at, counted_at, counted16_at, kind_at, spec_rest}
 use Rattle.mt_wire.specs.ServerReading.{flag_rest}
-
--- two bytes that count them, and the items
-unfoldable pub counted16_at : {A : Type 0} → Reader A → Reader (List A)
-counted16_at item bytes = do
-  n ← number_at w16 bytes
-  times_at item n.0 n.1
 
 unfoldable pub sum_at : Reader ℕ
 sum_at = made (λ x. x.0 * 2 ^ 64 + x.1) (both (number_at w64) (number_at w64))
@@ -94,6 +88,18 @@ ended_rest (suc (suc (suc (suc (suc (suc (suc zero))))))) = view_at
 ended_rest (suc (suc (suc (suc (suc (suc (suc (suc zero)))))))) = made (λ _. Dropped) nothing_at
 ended_rest (suc (suc (suc (suc (suc (suc (suc (suc (suc kind))))))))) = λ bytes. None
 
+-- whether a key has a row, and the row
+unfoldable pub found_rest : ℕ → Reader (Option Row)
+found_rest zero = made (λ _. None) nothing_at
+found_rest (suc zero) = made (λ x. Some x) row_at
+found_rest (suc (suc kind)) = λ bytes. None
+
+unfoldable pub found_all_at : Reader Response
+found_all_at = made (λ x. FoundAll x.0 x.1) (both (number_at w64) (counted16_at (kind_at found_rest)))
+
+unfoldable pub total_at : Reader Response
+total_at = made (λ x. Done x.0.0 x.0.1 (Counted x.1)) (both span_at (number_at w32))
+
 -- the number 0, and nothing else
 unfoldable pub zero_at : Reader (Unit {0})
 zero_at bytes = do
@@ -161,9 +167,11 @@ served_rest kind =
     else if kind == 21 then stopped_at
     else λ bytes. None
 
--- from 16 on answers are the server's
+-- from 16 on answers are the server's, and 13 and 14 answer reads of one moment
 unfoldable pub response_rest : ℕ → Reader Response
 response_rest kind =
     if kind == 0 then kind_at refused_rest
+    else if kind == 13 then found_all_at
+    else if kind == 14 then total_at
     else if nat_lt kind 16 then ended_rest kind
     else made (λ x. Served x) (served_rest kind)

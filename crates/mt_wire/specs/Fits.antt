@@ -1,5 +1,5 @@
 -- Which messages have a spelling that can be read again: their lengths and numbers fit their fields.
-use Rattle.std.specs.Prelude.{ℕ, ◌<◌, ◌≤◌, ◌^◌, List, length, Option, Some, None}
+use Rattle.std.specs.Prelude.{ℕ, ◌<◌, ◌≤◌, ◌^◌, List, length, Option, Some, None, IfSome}
 use Rattle.std.specs.List.{AllByRecursion}
 use Rattle.mt_types.specs.declared.event.Request.TheVariants.{Get, Put, PutIf, Remove, Range, Tidy, Build}
 use Rattle.mt_types.specs.declared.view.ViewSpec.{ViewSpec}
@@ -12,9 +12,11 @@ use Rattle.mt_types.specs.declared.limits.TheConstants.{MAX_KEY_BYTES}
 use Rattle.mt_types.specs.declared.refusal.Refusal.{Refusal}
 use Rattle.mt_types.specs.declared.refusal.Refusal.TheVariants.{FeedFull, Behind, OtherVersion}
 use Rattle.mt_wire.specs.declared.query.Query.{Query}
-use Rattle.mt_wire.specs.declared.query.Query.TheVariants.{Call, ViewRead, ViewDrop, Server}
+use Rattle.mt_wire.specs.declared.query.Query.TheVariants.{Call, ViewRead, ViewDrop, Read, Server}
+use Rattle.mt_wire.specs.declared.read.ReadQuery.{ReadQuery}
+use Rattle.mt_wire.specs.declared.read.ReadQuery.TheVariants as reads
 use Rattle.mt_wire.specs.declared.response.Response.{Response}
-use Rattle.mt_wire.specs.declared.response.Response.TheVariants.{Refused, Done, View, Dropped, Server as Served}
+use Rattle.mt_wire.specs.declared.response.Response.TheVariants.{Refused, Done, View, Dropped, FoundAll, Server as Served}
 use Rattle.mt_wire.specs.declared.server.Awaited.{Awaited}
 use Rattle.mt_wire.specs.declared.server.Awaited.TheVariants as awaits
 use Rattle.mt_wire.specs.declared.server.ServerRefusal.{ServerRefusal}
@@ -25,7 +27,7 @@ use Rattle.mt_wire.specs.declared.server.ServerQuery.TheVariants as asks
 use Rattle.mt_wire.specs.declared.server.ServerResponse.{ServerResponse}
 use Rattle.mt_wire.specs.declared.server.ServerResponse.TheVariants.{Refused as OfServer, Hello, Ping, Info, Views, Waited, Stopped}
 use Rattle.mt_wire.specs.declared.response.End.{End}
-use Rattle.mt_wire.specs.declared.response.End.TheVariants.{Absent, Found, Committed, Rows, Tidied, Built}
+use Rattle.mt_wire.specs.declared.response.End.TheVariants.{Absent, Found, Committed, Rows, Tidied, Built, Counted}
 
 -- ---- lengths, and counts
 
@@ -38,6 +40,10 @@ ShortFits bytes = length bytes < 2 ^ 8
 -- items that a byte counts
 abbrev pub CountedFits : {A : Type 0} → (A → Type 0) → List A → Type 0
 CountedFits Fits items = (length items < 2 ^ 8) × AllByRecursion Fits items
+
+-- items that two bytes count
+abbrev pub Counted16Fits : {A : Type 0} → (A → Type 0) → List A → Type 0
+Counted16Fits Fits items = (length items < 2 ^ 16) × AllByRecursion Fits items
 
 abbrev pub TestLengths : RowTest → Type 0
 TestLengths Any = Unit {0}
@@ -56,6 +62,11 @@ abbrev pub ServerLengths : ServerQuery → Type 0
 ServerLengths (asks.Hello newest secret name) = KeyFits secret × KeyFits name
 ServerLengths _ = Unit {0}
 
+abbrev pub ReadLengths : ReadQuery → Type 0
+ReadLengths (reads.Gets keys columns) = Counted16Fits KeyFits keys × ShortFits columns
+ReadLengths (reads.RangeBack before limit columns) = EndLengths before × ShortFits columns
+ReadLengths (reads.Count start stop most) = KeyFits start × EndLengths stop
+
 abbrev pub QueryLengths : Query → Type 0
 QueryLengths (Call (Get key columns)) = KeyFits key × ShortFits columns
 QueryLengths (Call (Put key sets)) = KeyFits key × CountedFits (λ set. ShortFits set.1) sets
@@ -66,13 +77,14 @@ QueryLengths (Call (Tidy key)) = KeyFits key
 QueryLengths (Call (Build spec)) = SpecLengths spec
 QueryLengths (ViewRead view floor start limit) = KeyFits start
 QueryLengths (ViewDrop view) = Unit {0}
+QueryLengths (Read query) = ReadLengths query
 QueryLengths (Server query) = ServerLengths query
 
 abbrev pub RowLengths : Row → Type 0
 RowLengths row = CountedFits ShortFits row.columns
 
 abbrev pub PairsLengths : List (List ℕ × Row) → Type 0
-PairsLengths pairs = (length pairs < 2 ^ 16) × AllByRecursion (λ pair. RowLengths pair.1) pairs
+PairsLengths pairs = Counted16Fits (λ pair. RowLengths pair.1) pairs
 
 abbrev pub EndLengthsOf : End → Type 0
 EndLengthsOf (Found row) = RowLengths row
@@ -80,7 +92,7 @@ EndLengthsOf (Rows pairs) = PairsLengths pairs
 EndLengthsOf _ = Unit {0}
 
 abbrev pub ServedLengths : ServerResponse → Type 0
-ServedLengths (Info counts) = (length counts < 2 ^ 16) × AllByRecursion (λ count. KeyFits count.name) counts
+ServedLengths (Info counts) = Counted16Fits (λ count. KeyFits count.name) counts
 ServedLengths (Views commits views) = CountedFits (λ view. SpecLengths view.spec) views
 ServedLengths _ = Unit {0}
 
@@ -89,6 +101,7 @@ ResponseLengths (Refused refusal) = Unit {0}
 ResponseLengths (Done start stop end) = EndLengthsOf end
 ResponseLengths (View page) = (length page.sums < 2 ^ 8) × PairsLengths page.rows
 ResponseLengths Dropped = Unit {0}
+ResponseLengths (FoundAll at rows) = Counted16Fits (λ found. IfSome found RowLengths) rows
 ResponseLengths (Served response) = ServedLengths response
 
 -- ---- numbers and keys, as their types keep them
@@ -113,6 +126,11 @@ ServerNumbers (asks.Wait of number milliseconds) =
     AwaitedNumbers of × (number < 2 ^ 64) × (milliseconds < 2 ^ 32)
 ServerNumbers _ = Unit {0}
 
+abbrev pub ReadNumbers : ReadQuery → Type 0
+ReadNumbers (reads.Gets keys columns) = Unit {0}
+ReadNumbers (reads.RangeBack before limit columns) = limit < 2 ^ 16
+ReadNumbers (reads.Count start stop most) = most < 2 ^ 32
+
 abbrev pub QueryNumbers : Query → Type 0
 QueryNumbers (Call (PutIf key sets version)) = version < 2 ^ 64
 QueryNumbers (Call (Range start limit columns)) = limit < 2 ^ 16
@@ -120,6 +138,7 @@ QueryNumbers (Call (Build spec)) = SpecNumbers spec
 QueryNumbers (Call request) = Unit {0}
 QueryNumbers (ViewRead view floor start limit) = (view.0 < 2 ^ 64) × (floor < 2 ^ 64) × (limit < 2 ^ 16)
 QueryNumbers (ViewDrop view) = view.0 < 2 ^ 64
+QueryNumbers (Read query) = ReadNumbers query
 QueryNumbers (Server query) = ServerNumbers query
 
 abbrev pub QueryFits : Query → Type 0
@@ -141,6 +160,7 @@ EndNumbers (Committed number) = number < 2 ^ 64
 EndNumbers (Rows pairs) = AllByRecursion PairNumbers pairs
 EndNumbers (Tidied rule) = Unit {0}
 EndNumbers (Built view) = view.0 < 2 ^ 64
+EndNumbers (Counted number) = number < 2 ^ 32
 
 abbrev pub ListedNumbers : ListedView → Type 0
 ListedNumbers view =
@@ -167,6 +187,8 @@ ResponseNumbers (View page) =
     (page.at < 2 ^ 64) × (page.count < 2 ^ 64) × AllByRecursion (λ sum. sum < 2 ^ 128) page.sums
     × AllByRecursion PairNumbers page.rows
 ResponseNumbers Dropped = Unit {0}
+ResponseNumbers (FoundAll at rows) =
+    (at < 2 ^ 64) × AllByRecursion (λ found. IfSome found (λ row. row.version < 2 ^ 64)) rows
 ResponseNumbers (Served response) = ServedNumbers response
 
 abbrev pub ResponseFits : Response → Type 0

@@ -9,6 +9,7 @@ pub mod FaultNumbers
 pub mod Frames
 pub mod Reading
 pub mod ServerReading
+pub mod ReadReading
 pub mod QueryReading
 pub mod Bodies
 pub mod KeptFields

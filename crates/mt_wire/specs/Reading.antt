@@ -84,6 +84,12 @@ counted_at item bytes = do
   n ← byte_at bytes
   times_at item n.0 n.1
 
+-- two bytes that count them, and the items
+unfoldable pub counted16_at : {A : Type 0} → Reader A → Reader (List A)
+counted16_at item bytes = do
+  n ← number_at w16 bytes
+  times_at item n.0 n.1
+
 -- a byte that tells the kind, and what comes after it
 unfoldable pub kind_at : {A : Type 0} → (ℕ → Reader A) → Reader A
 kind_at rest_at bytes = do

@@ -14,10 +14,12 @@ use Rattle.mt_types.specs.TidyNumbers.{tidy_number}
 use Rattle.mt_types.specs.declared.refusal.Refusal.{Refusal}
 use Rattle.mt_types.specs.RefusalNumbers.{refusal_number, refusal_detail}
 use Rattle.mt_wire.specs.declared.query.Query.{Query}
-use Rattle.mt_wire.specs.declared.query.Query.TheVariants.{Call, ViewRead, ViewDrop, Server}
+use Rattle.mt_wire.specs.declared.query.Query.TheVariants.{Call, ViewRead, ViewDrop, Read, Server}
+use Rattle.mt_wire.specs.declared.read.ReadQuery.{ReadQuery}
+use Rattle.mt_wire.specs.declared.read.ReadQuery.TheVariants as reads
 use Rattle.mt_wire.specs.declared.response.Response.{Response}
-use Rattle.mt_wire.specs.declared.response.Response.TheVariants.{Refused, Done, View, Dropped, Server as Served}
-use Rattle.mt_wire.specs.declared.response.End.TheVariants.{Absent, Found, Committed, Rows, Tidied, Built}
+use Rattle.mt_wire.specs.declared.response.Response.TheVariants.{Refused, Done, View, Dropped, FoundAll, Server as Served}
+use Rattle.mt_wire.specs.declared.response.End.TheVariants.{Absent, Found, Committed, Rows, Tidied, Built, Counted}
 use Rattle.mt_wire.specs.declared.server.ServerQuery.{ServerQuery}
 use Rattle.mt_wire.specs.declared.server.ServerQuery.TheVariants as asks
 use Rattle.mt_wire.specs.declared.server.ServerResponse.{ServerResponse}
@@ -46,6 +48,10 @@ set_spelling set = set.0 ∷ short_spelling set.1
 -- one byte that counts them, then the items
 abbrev pub counted : {A : Type 0} → (A → List ℕ) → List A → List ℕ
 counted item items = length items ∷ flat_map item items
+
+-- two bytes that count them, then the items
+abbrev pub counted16 : {A : Type 0} → (A → List ℕ) → List A → List ℕ
+counted16 item items = to_be_bytes w16 (length items) ++ flat_map item items
 
 abbrev pub test_spelling : RowTest → List ℕ
 test_spelling Any = 0 ∷ []
@@ -80,6 +86,13 @@ server_spelling (asks.Wait of number milliseconds) =
     20 ∷ (awaited_spelling of ++ to_be_bytes w64 number ++ to_be_bytes w32 milliseconds)
 server_spelling (asks.Stop is_at_once) = 21 ∷ flag_spelling is_at_once
 
+-- reads of one moment: the keys; the key before which a range begins, or none; the keys between which rows are counted
+abbrev pub read_spelling : ReadQuery → List ℕ
+read_spelling (reads.Gets keys columns) = 13 ∷ (counted16 key_spelling keys ++ short_spelling columns)
+read_spelling (reads.RangeBack before limit columns) =
+    14 ∷ (end_spelling before ++ to_be_bytes w16 limit ++ short_spelling columns)
+read_spelling (reads.Count start stop most) = 15 ∷ (key_spelling start ++ end_spelling stop ++ to_be_bytes w32 most)
+
 abbrev pub query_spelling : Query → List ℕ
 query_spelling (Call (Get key columns)) = 1 ∷ (key_spelling key ++ short_spelling columns)
 query_spelling (Call (Put key sets)) = 2 ∷ (key_spelling key ++ counted set_spelling sets)
@@ -93,6 +106,7 @@ query_spelling (ViewRead view floor start limit) =
 query_spelling (ViewDrop view) = 8 ∷ to_be_bytes w64 view.0
 query_spelling (Call (PutIf key sets version)) =
     9 ∷ (key_spelling key ++ to_be_bytes w64 version ++ counted set_spelling sets)
+query_spelling (Read query) = read_spelling query
 query_spelling (Server query) = server_spelling query
 
 -- a number of up to 128 bits: sixteen bytes
@@ -109,9 +123,14 @@ row_spelling row = to_be_bytes w64 row.version ++ columns_spelling row.columns
 abbrev pub pair_spelling : List ℕ × Row → List ℕ
 pair_spelling pair = key_spelling pair.0 ++ row_spelling pair.1
 
--- two bytes that count them, then the rows with their keys
+-- rows with their keys
 abbrev pub pairs_spelling : List (List ℕ × Row) → List ℕ
-pairs_spelling pairs = to_be_bytes w16 (length pairs) ++ flat_map pair_spelling pairs
+pairs_spelling pairs = counted16 pair_spelling pairs
+
+-- the row of a key, if it has one
+abbrev pub found_spelling : Option Row → List ℕ
+found_spelling None = 0 ∷ []
+found_spelling (Some row) = 1 ∷ row_spelling row
 
 -- the number of a refusal, and what goes with it, or 0
 abbrev pub refusal_spelling : Refusal → List ℕ
@@ -140,7 +159,7 @@ served_spelling (Hello version role columns run commits logged) =
     16 ∷ version ∷ role_number role ∷ columns
     ∷ (sum_spelling run ++ to_be_bytes w64 commits ++ to_be_bytes w64 logged)
 served_spelling (Ping number commits) = 17 ∷ (to_be_bytes w64 number ++ to_be_bytes w64 commits)
-served_spelling (Info counts) = 18 ∷ (to_be_bytes w16 (length counts) ++ flat_map count_spelling counts)
+served_spelling (Info counts) = 18 ∷ counted16 count_spelling counts
 served_spelling (Views commits views) = 19 ∷ (to_be_bytes w64 commits ++ counted listed_spelling views)
 served_spelling (Waited is_reached commits view) =
     20 ∷ (flag_spelling is_reached ++ to_be_bytes w64 commits ++ to_be_bytes w64 view)
@@ -154,10 +173,12 @@ response_spelling (Done start stop (Committed number)) = 3 ∷ (span_spelling st
 response_spelling (Done start stop (Rows pairs)) = 4 ∷ (span_spelling start stop ++ pairs_spelling pairs)
 response_spelling (Done start stop (Tidied rule)) = 5 ∷ (span_spelling start stop ++ rule_spelling rule)
 response_spelling (Done start stop (Built view)) = 6 ∷ (span_spelling start stop ++ to_be_bytes w64 view.0)
+response_spelling (Done start stop (Counted number)) = 14 ∷ (span_spelling start stop ++ to_be_bytes w32 number)
 response_spelling (View page) =
     7 ∷ (to_be_bytes w64 page.at ++ to_be_bytes w64 page.count ++ counted sum_spelling page.sums
     ++ pairs_spelling page.rows)
 response_spelling Dropped = 8 ∷ []
+response_spelling (FoundAll at rows) = 13 ∷ (to_be_bytes w64 at ++ counted16 found_spelling rows)
 response_spelling (Served response) = served_spelling response
 
 -- these messages, in a frame of this version

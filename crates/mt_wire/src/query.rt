@@ -1,5 +1,6 @@
 //! What a client asks.
 
+use crate::read::ReadQuery;
 use crate::server::ServerQuery;
 use bytes::Bytes;
 use mt_types::event::Request;
@@ -19,6 +20,8 @@ pub enum Query {
     },
     /// Ends a view.
     ViewDrop(ViewNo),
+    /// Reads of one moment. Versions 1 and 2 have none.
+    Read(ReadQuery),
     /// Asks the server itself. Versions 1 and 2 have none.
     Server(ServerQuery),
 }

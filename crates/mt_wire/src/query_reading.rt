@@ -6,6 +6,7 @@ ghost use Rattle.mt_wire.specs.Reading.{Gives, kind_at, test_rest, end_rest, spe
 
 use crate::fault::ReadError;
 use crate::query::Query;
+use crate::read_reading::read_query;
 use crate::reading::{Readable, byte, column_numbers, counted, key, number16, number64, short};
 use crate::server_reading::server_query;
 use bytes::Bytes;
@@ -66,7 +67,7 @@ fn end_of_kind(input: &mut Bytes, kind: u8) -> Result<Option<Bytes>, ReadError>
 }
 
 #[tactic(auto, unfolding(crate::specs::Reading::kind_at))]
-fn end(input: &mut Bytes) -> Result<Option<Bytes>, ReadError>
+pub fn end(input: &mut Bytes) -> Result<Option<Bytes>, ReadError>
     ensures { Gives (λ x. (x, input.new)) result (kind_at end_rest input.old) }
 {
     let kind = byte(input)?;
@@ -209,13 +210,16 @@ fn index_query(alloc: Global, input: &mut Bytes, kind: u8) -> Result<Query, Read
     }
 }
 
-// From kind 16 on queries are of the server.
+// From kind 13 on queries are reads of one moment, and from 16 on of the server.
 #[tactic(auto, unfolding(crate::specs::QueryReading::query_rest))]
 fn query_of_kind(alloc: Global, input: &mut Bytes, kind: u8) -> Result<Query, ReadError>
     ensures { Gives (λ x. (x, input.new)) result (query_rest kind input.old) }
 {
-    if kind < 16 {
+    if kind < 13 {
         return index_query(alloc, input, kind);
+    }
+    if kind < 16 {
+        return Ok(Query::Read(read_query(alloc, input, kind)?));
     }
     Ok(Query::Server(server_query(input, kind)?))
 }

@@ -51,7 +51,7 @@ fn write_test(out: &mut Vec<u8>, test: &RowTest) -> Result<(), AllocError>
     Ok(())
 }
 
-fn write_end(out: &mut Vec<u8>, end: &Option<Bytes>) -> Result<(), AllocError>
+pub fn write_end(out: &mut Vec<u8>, end: &Option<Bytes>) -> Result<(), AllocError>
     requires { EndLengths end.now }
     ensures { OnOk result (out.new.items ≡ out.old.items ++ end_spelling end.now) }
 {
@@ -146,7 +146,7 @@ fn test_fits(test: &RowTest) -> bool
     }
 }
 
-fn end_fits(end: &Option<Bytes>) -> bool
+pub fn end_fits(end: &Option<Bytes>) -> bool
     ensures { IsTrue result ↔ EndLengths end.now }
 {
     match end {
@@ -205,6 +205,7 @@ impl Writable for Query {
                 out.push(8)?;
                 number64(out, view.0)
             }
+            Query::Read(query) => query.write(out),
             Query::Server(query) => query.write(out),
         }
     }
@@ -214,6 +215,7 @@ impl Writable for Query {
             Query::Call(request) => request_fits(request),
             Query::ViewRead { start, .. } => key_fits(start),
             Query::ViewDrop(_) => true,
+            Query::Read(query) => query.fits(),
             Query::Server(query) => query.fits(),
         }
     }

@@ -2,7 +2,7 @@
 
 ghost use Rattle.std.specs.Prelude.{◌≡◌};
 ghost use Rattle.std.specs.Int.{w16, w32, w64};
-ghost use Rattle.mt_wire.specs.Reading.{Gives, Reader, byte_at, number_at, bytes_at, key_at, short_at, times_at, counted_at};
+ghost use Rattle.mt_wire.specs.Reading.{Gives, Reader, byte_at, number_at, bytes_at, key_at, short_at, times_at, counted_at, counted16_at};
 
 use crate::fault::ReadError;
 use bytes::{Buf, Bytes};
@@ -101,5 +101,13 @@ pub fn counted<T: Readable + Drop>(alloc: Global, input: &mut Bytes) -> Result<V
     ensures { Gives (λ x. (x.items, input.new)) result (counted_at T.reading input.old) }
 {
     let count = byte(input)?;
+    items(alloc, input, usize::from(count))
+}
+
+#[tactic(auto, unfolding(crate::specs::Reading::counted16_at))]
+pub fn counted16<T: Readable + Drop>(alloc: Global, input: &mut Bytes) -> Result<Vec<T>, ReadError>
+    ensures { Gives (λ x. (x.items, input.new)) result (counted16_at T.reading input.old) }
+{
+    let count = number16(input)?;
     items(alloc, input, usize::from(count))
 }

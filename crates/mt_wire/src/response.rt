@@ -5,6 +5,7 @@ ghost use Rattle.mt_wire.specs.Answered.{end_of};
 
 use crate::server::ServerResponse;
 use mt_types::event::{Answer, Reply, TidyRule};
+use mt_types::items::Items;
 use mt_types::numbers::ViewNo;
 use mt_types::refusal::Refusal;
 use mt_types::row::{Pairs, Row};
@@ -27,6 +28,13 @@ pub enum Response {
     View(Page),
     /// The view has ended.
     Dropped,
+    /// What many keys have at one moment.
+    FoundAll {
+        /// The number of commits at that moment.
+        at: u64,
+        /// The row of each key, in the order of the query, or `None` for a key that has no row.
+        rows: Items<Option<Row>>,
+    },
     /// What the server itself answers.
     Server(ServerResponse),
 }
@@ -40,12 +48,14 @@ pub enum End {
     Found(Row),
     /// The number of the commit of a put or a remove.
     Committed(u64),
-    /// The rows of a range, with their keys.
+    /// The rows of a range, with their keys, in the order of the range.
     Rows(Pairs),
     /// What a tidy did.
     Tidied(TidyRule),
     /// The view of a build.
     Built(ViewNo),
+    /// How many rows a range has.
+    Counted(u32),
 }
 
 fn end_of(answer: Answer) -> End

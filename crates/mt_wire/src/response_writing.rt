@@ -7,8 +7,8 @@ ghost use Rattle.mt_wire.specs.declared.response.Response.TheVariants.{Done, Vie
 
 use crate::response::{End, Response};
 use crate::writing::{
-    Writable, all_fit, counted, counted_fits, head, items, key, number16, number64, short,
-    short_fits,
+    Writable, counted, counted_fits, counted16, counted16_fits, head, key, number32, number64,
+    short, short_fits,
 };
 use mt_types::event::TidyRule;
 use mt_types::key::Key;
@@ -42,7 +42,7 @@ fn write_columns(out: &mut Vec<u8>, columns: &Columns) -> Result<(), AllocError>
     out.extend_from_slice(columns.as_packed())
 }
 
-fn write_row(out: &mut Vec<u8>, row: &Row) -> Result<(), AllocError>
+pub fn write_row(out: &mut Vec<u8>, row: &Row) -> Result<(), AllocError>
     ensures { OnOk result (out.new.items ≡ out.old.items ++ row_spelling row.now) }
 {
     number64(out, row.version)?;
@@ -50,7 +50,7 @@ fn write_row(out: &mut Vec<u8>, row: &Row) -> Result<(), AllocError>
 }
 
 // The lengths of a row are bytes already.
-fn row_fits(row: &Row) -> bool
+pub fn row_fits(row: &Row) -> bool
     ensures { IsTrue result ↔ RowLengths row.now }
 {
     let _packable = row.columns.len();
@@ -79,8 +79,7 @@ fn write_pairs(out: &mut Vec<u8>, pairs: &[(Key, Row)]) -> Result<(), AllocError
     requires { PairsLengths pairs.now }
     ensures { OnOk result (out.new.items ≡ out.old.items ++ pairs_spelling pairs.now) }
 {
-    number16(out, pairs.len() as u16)?;
-    items(out, pairs)
+    counted16(out, pairs)
 }
 
 fn write_refusal(out: &mut Vec<u8>, refusal: &Refusal) -> Result<(), AllocError>
@@ -123,6 +122,10 @@ fn write_done(out: &mut Vec<u8>, from: u64, to: u64, end: &End) -> Result<(), Al
             head(out, 6, from, to)?;
             number64(out, view.0)
         }
+        End::Counted(number) => {
+            head(out, 14, from, to)?;
+            number32(out, *number)
+        }
     }
 }
 
@@ -138,7 +141,7 @@ fn write_page(out: &mut Vec<u8>, page: &Page) -> Result<(), AllocError>
 fn pairs_fit(pairs: &[(Key, Row)]) -> bool
     ensures { IsTrue result ↔ PairsLengths pairs.now }
 {
-    pairs.len() < 0x1_0000 && all_fit(pairs)
+    counted16_fits(pairs)
 }
 
 fn end_fits(end: &End) -> bool
@@ -147,7 +150,7 @@ fn end_fits(end: &End) -> bool
     match end {
         End::Found(row) => row_fits(row),
         End::Rows(pairs) => pairs_fit(pairs.as_slice()),
-        End::Absent | End::Committed(_) | End::Tidied(_) | End::Built(_) => true,
+        End::Absent | End::Committed(_) | End::Tidied(_) | End::Built(_) | End::Counted(_) => true,
     }
 }
 
@@ -168,6 +171,11 @@ impl Writable for Response {
             Response::Done { from, to, end } => write_done(out, *from, *to, end),
             Response::View(page) => write_page(out, page),
             Response::Dropped => Ok(out.push(8)?),
+            Response::FoundAll { at, rows } => {
+                out.push(13)?;
+                number64(out, *at)?;
+                counted16(out, rows.as_slice())
+            }
             Response::Server(response) => response.write(out),
         }
     }
@@ -177,6 +185,7 @@ impl Writable for Response {
             Response::Done { end, .. } => end_fits(end),
             Response::View(page) => page.sums.as_slice().len() < 0x100
                 && pairs_fit(page.rows.as_slice()),
+            Response::FoundAll { rows, .. } => counted16_fits(rows.as_slice()),
             Response::Refused(_) | Response::Dropped => true,
             Response::Server(response) => response.fits(),
         }

@@ -54,7 +54,7 @@ pub enum Awaited {
 /// What a client may do.
 #[derive(Clone, Copy, Debug, PartialEq, Eq)]
 pub enum Role {
-    /// Gets, ranges, pages of views, and what the server counts, lists and waits for.
+    /// Gets, ranges, reads of one moment, pages of views, and what the server counts, lists and waits for.
     Read,
     /// Also changes of rows and of views.
     Write,

@@ -6,7 +6,7 @@ ghost use Rattle.mt_wire.specs.Spelling.{awaited_spelling};
 use crate::query_writing::{spec_fits, write_spec};
 use crate::server::{Awaited, Count, ListedView, ServerQuery, ServerResponse};
 use crate::writing::{
-    Writable, all_fit, counted, counted_fits, head, items, key, key_fits, number16, number32,
+    Writable, counted, counted_fits, counted16, counted16_fits, head, key, key_fits, number32,
     number64,
 };
 use std::alloc::AllocError;
@@ -143,8 +143,7 @@ impl Writable for ServerResponse {
             ServerResponse::Ping { number, commits } => head(out, 17, *number, *commits),
             ServerResponse::Info(counts) => {
                 out.push(18)?;
-                number16(out, counts.len() as u16)?;
-                items(out, counts.as_slice())
+                counted16(out, counts.as_slice())
             }
             ServerResponse::Views { commits, views } => {
                 out.push(19)?;
@@ -169,7 +168,7 @@ impl Writable for ServerResponse {
 
     fn fits(&self) -> bool {
         match self {
-            ServerResponse::Info(counts) => counts.len() < 0x1_0000 && all_fit(counts.as_slice()),
+            ServerResponse::Info(counts) => counted16_fits(counts.as_slice()),
             ServerResponse::Views { views, .. } => counted_fits(views.as_slice()),
             ServerResponse::Refused(_)
             | ServerResponse::Hello { .. }

@@ -10,9 +10,9 @@ use mt_types::event::Request;
 /// A version of the wire. A frame of answers has the version of the queries that it answers.
 #[derive(Clone, Copy, Debug, PartialEq, Eq)]
 pub enum WireVersion {
-    /// It has each query of the index except the conditional put.
+    /// It has each query of version 2 except the conditional put.
     One,
-    /// It has each query of the index.
+    /// It has each query except reads of one moment and queries of the server.
     Two,
     /// It has each query.
     Three,
@@ -48,7 +48,7 @@ impl WireVersion {
     {
         match (self, query) {
             (WireVersion::One, Query::Call(Request::PutIf { .. })) => false,
-            (WireVersion::One | WireVersion::Two, Query::Server(_)) => false,
+            (WireVersion::One | WireVersion::Two, Query::Read(_) | Query::Server(_)) => false,
             _ => true,
         }
     }

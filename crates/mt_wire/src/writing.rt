@@ -3,8 +3,8 @@
 ghost use Rattle.std.specs.Prelude.{◌≡◌, ◌∷◌, ◌<◌, ◌^◌, ◌++◌, ◌↔◌, ℕ, List, IsTrue, OnOk, length};
 ghost use Rattle.std.specs.List.{AllByRecursion, flat_map};
 ghost use Rattle.std.specs.Int.{w16, w32, w64, to_be_bytes};
-ghost use Rattle.mt_wire.specs.Spelling.{key_spelling, short_spelling, counted};
-ghost use Rattle.mt_wire.specs.Fits.{KeyFits, ShortFits, CountedFits};
+ghost use Rattle.mt_wire.specs.Spelling.{key_spelling, short_spelling, counted, counted16};
+ghost use Rattle.mt_wire.specs.Fits.{KeyFits, ShortFits, CountedFits, Counted16Fits};
 
 use std::alloc::AllocError;
 
@@ -86,6 +86,14 @@ pub fn counted<T: Writable>(out: &mut Vec<u8>, list: &[T]) -> Result<(), AllocEr
     items(out, list)
 }
 
+pub fn counted16<T: Writable>(out: &mut Vec<u8>, list: &[T]) -> Result<(), AllocError>
+    requires { Counted16Fits T.lengths list.now }
+    ensures { OnOk result (out.new.items ≡ out.old.items ++ counted16 T.spelling list.now) }
+{
+    number16(out, list.len() as u16)?;
+    items(out, list)
+}
+
 pub fn key_fits(key: &[u8]) -> bool
     ensures { IsTrue result ↔ KeyFits key.now }
 {
@@ -113,4 +121,10 @@ pub fn counted_fits<T: Writable>(items: &[T]) -> bool
     ensures { IsTrue result ↔ CountedFits T.lengths items.now }
 {
     items.len() < 0x100 && all_fit(items)
+}
+
+pub fn counted16_fits<T: Writable>(items: &[T]) -> bool
+    ensures { IsTrue result ↔ Counted16Fits T.lengths items.now }
+{
+    items.len() < 0x1_0000 && all_fit(items)
 }

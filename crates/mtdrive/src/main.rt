@@ -33,11 +33,14 @@ Each line of standard input is one of
   drop VIEW            ends a view: `dropped` or a refusal
   advance, collect     the next epoch: `epoch N`; frees retired nodes: `freed N`
   feed FROM LIMIT      the commits after FROM, at most LIMIT: a line `delta N KEY BEFORE AFTER` for each, or a refusal
+  gets KEYS COLS, back END LIMIT COLS, count START END MOST   the rows of keys joined by commas: `found N ROWS`; the last rows
+                       before END: `rows N ROWS`; how many rows are from START on and before END, up to MOST: `count N`; a
+                       refusal, or `busy` if a call is open
 A REQUEST is `get KEY COLS`, `put KEY SETS`, `putif KEY VERSION SETS`, `remove KEY`, `range START LIMIT COLS`,
 `tidy KEY` or `build SPEC`. A `putif` puts only if the row has this version, or, for VERSION 0, if there is none;
 otherwise it is refused, by `refused 16 N` if the row has version N. Keys and columns are hex, `-` is empty; COLS is
 `all` or numbers joined by commas, SETS is `-` or COL=BYTES joined by commas. A SPEC is `range LO HI TEST`, in which
-HI is a key or `none`, or `prefix KEY TEST`; a TEST is `any`, `equals COL BYTES` or `atleast COL NUMBER`. Other lines
+HI, as an END, is a key or `none`, or `prefix KEY TEST`; a TEST is `any`, `equals COL BYTES` or `atleast COL NUMBER`. Other lines
 print `bad line`.
 
 The status is 0; 1 if a line was bad; 2 for a bad command line; 3 if reading or writing failed, or memory was refused.";

@@ -56,8 +56,10 @@ with_limit_rules app =
 abbrev pub with_operating_rules : App → App
 with_operating_rules app =
     with_rule
+    (with_rule
     (with_rule app (text_rule (codes "log")))
-    (number_rule (codes "buffers") 0 1099511627776)
+    (number_rule (codes "buffers") 0 1099511627776))
+    (number_rule (codes "memory") 0 1099511627776)
 
 -- the options without a value
 abbrev pub with_flag_rules : App → App
@@ -84,6 +86,7 @@ pub record AreFound (matches : ArgMatches) (settings : Settings) : Type 0 where
   pub sync : option_map (λ text. text.now) settings.sync ≡ first_value (found_of matches) (codes "sync")
   pub log : option_map (λ text. text.now) settings.log ≡ first_value (found_of matches) (codes "log")
   pub buffers : IsNumber 64 (one_text (found_of matches) (codes "buffers")) 1073741824 settings.buffers
+  pub memory : IsNumber 64 (one_text (found_of matches) (codes "memory")) 0 settings.memory
   pub hello : IsNumber 64 (one_text (found_of matches) (codes "hello-timeout")) 10 settings.hello
   pub idle : IsNumber 64 (one_text (found_of matches) (codes "idle-timeout")) 0 settings.idle
   pub frame : IsNumber 64 (one_text (found_of matches) (codes "frame-timeout")) 30 settings.frame

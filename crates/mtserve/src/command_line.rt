@@ -50,6 +50,8 @@ pub struct Settings<'a> {
     pub log: Option<&'a str>,
     /// The most bytes that are kept for all connections together; 0 is no limit.
     pub buffers: u64,
+    /// The most bytes of the process that may be resident while rows and views are added; 0 is no limit.
+    pub memory: u64,
     /// The most seconds until a client has said hello, on a server with secrets; 0 is no limit.
     pub hello: u64,
     /// Whether all may do all wherever the server listens.
@@ -160,9 +162,13 @@ How the lines on standard error are, after the first: plain, or pairs (with a ti
 plain]";
     let buffers =
         "The most bytes of input and output that are kept for all connections; 0 is no limit [default: 1073741824]";
+    let memory = "\
+The most bytes of the process that may be in memory: while there are more, puts and builds of views are refused; 0 is no
+limit [default: 0]";
     command
         .arg(text_option(alloc, "log", "FORM", log))?
-        .arg(number_option(alloc, "buffers", 0, 1099511627776, buffers))
+        .arg(number_option(alloc, "buffers", 0, 1099511627776, buffers))?
+        .arg(number_option(alloc, "memory", 0, 1099511627776, memory))
 }
 
 // The options without a value.
@@ -218,6 +224,7 @@ fn settings_of<'a>(matches: &ArgMatches<'a>) -> Settings<'a>
         sync: matches.get_str("sync"),
         log: matches.get_str("log"),
         buffers: number(matches, "buffers", 1_073_741_824),
+        memory: number(matches, "memory", 0),
         hello: number(matches, "hello-timeout", 10),
         is_open: matches.get_flag("open"),
         idle: number(matches, "idle-timeout", 0),

@@ -89,6 +89,7 @@ fn plan_of(settings: Settings<'_>) -> Plan {
             frame: settings.frame,
             write: settings.write,
             buffers: settings.buffers,
+            memory: settings.memory,
         },
         sessions: session_count(settings),
         watches_input: settings.watches_input,
@@ -152,12 +153,14 @@ fn open_index<R: Threads + Wait>(
     settings: Settings<'_>,
     syncing: Syncing,
 ) -> Result<(SharedMap, Vec<Pass>, Option<FileLog>), ServeError> {
-    let (alloc, workers) = (host.alloc(), worker_count(rt, settings));
+    // (a worker more is for long frames)
+    let passes = worker_count(rt, settings).saturating_add(1);
+    let alloc = host.alloc();
     let Some(folder) = settings.folder else {
-        let (index, passes) = SharedMap::start(alloc, settings.options, workers)?;
+        let (index, passes) = SharedMap::start(alloc, settings.options, passes)?;
         return Ok((index, passes, None));
     };
-    let (index, passes) = SharedMap::start(alloc, logged_options(settings.options), workers)?;
+    let (index, passes) = SharedMap::start(alloc, logged_options(settings.options), passes)?;
     let opened = open_log(host, folder, index.columns())?;
     let mut passes = passes;
     let Some(pass) = passes.pop() else {

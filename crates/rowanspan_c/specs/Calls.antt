@@ -13,7 +13,7 @@ use Rattle.mt_map.specs.Tidies.{ChangeComesTo, MapMakes, MapView}
 use Rattle.mt_map.specs.Views.{IsStopped, KeepsUp}
 use Rattle.rowanspan_c.specs.declared.status.TheConstants.{DONE, CLOSED, HELD}
 use Rattle.rowanspan_c.specs.declared.changing.TheConstants.{MOST_TURNS}
-use Rattle.rowanspan_c.specs.Questions.{IsCausedBy}
+use Rattle.rowanspan_c.specs.Questions.{CountsTo, IsCausedBy}
 use Rattle.rowanspan_c.specs.Told.{Tells, TellsCount, TellsEnd, TellsOutcome, TellsRead}
 
 -- ---- what comes of it
@@ -50,6 +50,12 @@ KeepsViews (Some s) next status told =
     × IfOk kept (λ applied. KeepsUp s.machine MOST_TURNS applied t.machine)
     × IfErr kept (λ refusal. IsStopped s.machine MOST_TURNS refusal t.machine)
     × (t.tidies ≡ s.tidies) × TellsCount kept status told
+
+-- ROWS ARE COUNTED in the index that the handle holds
+abbrev pub CountsRows : Option MapView → List ℕ → Option (List ℕ) → ℕ → ℕ → ℕ → Type 0
+CountsRows None start end most status told = Tells CLOSED 0 status told
+CountsRows (Some s) start end most status told =
+    (count : Result ℕ Refusal) × CountsTo s.machine start end most count × TellsCount count status told
 
 -- a number of the index is reported
 abbrev pub Counts : Option MapView → (MapView → ℕ) → ℕ → ℕ → Type 0

@@ -18,6 +18,7 @@ use Rattle.mt_view.specs.State.{StateView}
 use Rattle.mt_view.specs.Views.{state_at}
 use Rattle.mt_index.specs.Stands.{MachineView, Stands, ReadsView}
 use Rattle.mt_index.specs.Feed.{feed_fault}
+use Rattle.mt_reads.specs.Counts.{count_fault, count_of}
 use Rattle.mt_reads.specs.Ranges.{IsRangeBack, back_fault}
 use Rattle.rowanspan_c.specs.declared.reading.Question.{Question}
 use Rattle.rowanspan_c.specs.declared.reading.Question.TheVariants.{Rows, RowsBack, Page, Deltas}
@@ -77,6 +78,13 @@ ReadsRowsBack s before limit asked (Ok bytes) =
     (pairs : List (List ℕ × RowValue)) × ArePlainRowsBack s before limit asked pairs
     × (bytes ≡ Some (pairs_spelling pairs)) × (back_fault s.columns before limit asked ≡ None)
 ReadsRowsBack s before limit asked (Err refusal) = IsCausedBy (back_fault s.columns before limit asked) refusal
+
+-- how many rows a range has, counted up to a number
+abbrev pub CountsTo : MachineView → List ℕ → Option (List ℕ) → ℕ → Result ℕ Refusal → Type 0
+CountsTo s start end most (Ok count) =
+    ((h : History) → Stands s h → count ≡ count_of (rows s.columns (moment h)) start end most)
+    × (count_fault start end ≡ None)
+CountsTo s start end most (Err refusal) = IsCausedBy (count_fault start end) refusal
 
 abbrev pub ReadsPage : MachineView → ℕ → ℕ → List ℕ → ℕ → Result (Option (List ℕ)) Refusal → Type 0
 ReadsPage s view floor start limit (Ok bytes) =

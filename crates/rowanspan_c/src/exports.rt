@@ -11,11 +11,12 @@ ghost use Rattle.mt_arena.specs.Node.{occupied};
 ghost use Rattle.mt_asked.specs.Borrowed.{sets_of};
 ghost use Rattle.mt_reads.specs.Back.{bound_of};
 ghost use Rattle.rowanspan_c.specs.Questions.{ReadsRow, ReadsRows, ReadsRowsBack, ReadsDeltas};
-ghost use Rattle.rowanspan_c.specs.Calls.{Opens, Changes, Reads, Meets, Counts, close_status};
+ghost use Rattle.rowanspan_c.specs.Calls.{Opens, Changes, Reads, Meets, Counts, CountsRows, close_status};
 
 use crate::changing::{answer, change, meet};
+use crate::handing::tell_count;
 use crate::handle::{Handle, opened};
-use crate::reading::{Question, get};
+use crate::reading::{Question, count, get};
 use crate::status::{CLOSED, DONE, HELD};
 use mt_asked::asked::Asked;
 use mt_asked::borrowed::Set;
@@ -202,6 +203,30 @@ pub extern "C" fn rowanspan_raw_range_back(
         into,
         told,
     )
+}
+
+/// Counts the rows whose keys are at or after a key, and before another one or, if `bounded` is false, before no bound.
+#[unsafe(no_mangle)]
+pub extern "C" fn rowanspan_raw_count(
+    handle: &mut Handle,
+    alloc: Global,
+    start: &[u8],
+    bounded: bool,
+    end: &[u8],
+    most: u32,
+    told: &mut u64,
+) -> u16
+    ensures count { CountsRows handle.old.held start.now (bound_of bounded end.now) most result told.new }
+    ensures kept { handle.new.held ≡ handle.old.held }
+{
+    let Some(index) = handle.take(alloc) else {
+        *told = 0;
+        return CLOSED;
+    };
+    let end = if bounded { Some(end) } else { None };
+    let status = tell_count(count(&index, start, end, most), told);
+    handle.fill(index);
+    status
 }
 
 // ---- commits and nodes

@@ -6,7 +6,7 @@ ghost use Rattle.mt_types.specs.Limits.{request_fault};
 ghost use Rattle.mt_types.specs.declared.event.Request.TheVariants.{Get};
 ghost use Rattle.mt_types.specs.declared.event.Outcome.TheVariants.{View};
 ghost use Rattle.mt_index.specs.Stands.{ReadsView};
-ghost use Rattle.rowanspan_c.specs.Questions.{IsAnswer, IsCausedBy, ReadsRow, ReadsRows, ReadsRowsBack, ReadsPage, ReadsDeltas, page_refusal};
+ghost use Rattle.rowanspan_c.specs.Questions.{CountsTo, IsAnswer, IsCausedBy, ReadsRow, ReadsRows, ReadsRowsBack, ReadsPage, ReadsDeltas, page_refusal};
 ghost use Rattle.rowanspan_c.specs.Told.{TellsRead};
 
 use crate::handing::{tell_absent, tell_refusal, tell_row};
@@ -76,6 +76,19 @@ pub(crate) fn get(index: &Map, key: &[u8], columns: &[u8], into: &mut [u8], told
         return tell_refusal(refusal, told);
     }
     tell_row_of(index, key, columns, into, told)
+}
+
+/// Returns how many rows have keys at or after `start` and before `end`, or before no bound, counted up to `most`.
+pub(crate) fn count(
+    index: &Map,
+    start: &[u8],
+    end: Option<&[u8]>,
+    most: u32,
+) -> Result<u64, Refusal>
+    ensures { CountsTo index.now.machine start.now (option_copied end.entry) most result }
+{
+    let count = index.count(start, end, most)?;
+    Ok(u64::from(count))
 }
 
 fn rows(

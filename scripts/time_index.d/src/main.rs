@@ -1,7 +1,7 @@
 //! Times one side, the index or the locked map, on keys of one kind. `scripts/time_index` runs it and makes the table.
 //!
-//! `time_index SIDE KIND KEYS VIEWS`: SIDE is index or map, KIND random or urls, VIEWS how many views stand. It prints a
-//! line for each thing that it measured: nanoseconds a call, a tab, its name; or bytes a key.
+//! `time_index SIDE KIND KEYS VIEWS`: SIDE is index or map, KIND random or urls, VIEWS how many views there are. It prints
+//! a line for each thing that it measured: nanoseconds a call, a tab, its name; or bytes a key.
 
 mod keys;
 mod phases;

@@ -15,6 +15,7 @@ const LEAST_CALLS: usize = 100_000;
 
 const RANGES: usize = 1_000;
 const ROWS_OF_RANGE: u16 = 100;
+const ROWS_OF_COUNT: usize = 100;
 
 // How long calls of one kind took.
 struct Phase {
@@ -52,7 +53,7 @@ impl Phase {
 fn resident() -> Outcome<f64> {
     let status = fs::read_to_string("/proc/self/status")?;
     let line = status.lines().find_map(|line| line.strip_prefix("VmRSS:"));
-    let kilobytes = line.ok_or("the system tells no VmRSS")?.trim();
+    let kilobytes = line.ok_or("the system has no VmRSS")?.trim();
     Ok(kilobytes.trim_end_matches(" kB").parse::<f64>()? * 1024.0)
 }
 
@@ -67,12 +68,20 @@ fn expect(holds: bool, what: &str) -> Outcome<()> {
 // A key and what is put into its row.
 type Put = (Vec<u8>, [u8; 8]);
 
+// A range of keys, and how many rows it has.
+struct Span {
+    start: Vec<u8>,
+    end: Vec<u8>,
+    rows: usize,
+}
+
 // What is asked, all made beforehand.
 struct Plan {
     new: Vec<Put>,
     over: Vec<Put>,
     absent: Vec<Vec<u8>>,
     starts: Vec<Vec<u8>>,
+    spans: Vec<Span>,
 }
 
 fn puts_of(keys: Vec<Vec<u8>>, chance: &mut Chance) -> Vec<Put> {
@@ -81,16 +90,33 @@ fn puts_of(keys: Vec<Vec<u8>>, chance: &mut Chance) -> Vec<Put> {
         .collect()
 }
 
+// Ranges of ROWS_OF_COUNT rows each; of one fewer than all if there are no more.
+fn spans_of(mut keys: Vec<Vec<u8>>, chance: &mut Chance) -> Vec<Span> {
+    keys.sort();
+    let rows = ROWS_OF_COUNT.min(keys.len().saturating_sub(1));
+    let firsts: Vec<usize> = (0..keys.len() - rows).collect();
+    let firsts = chance.shuffled(&firsts).into_iter().take(RANGES);
+    firsts
+        .map(|first| Span {
+            start: keys[first].clone(),
+            end: keys[first + rows].clone(),
+            rows,
+        })
+        .collect()
+}
+
 fn plan(kind: Kind, count: usize) -> Plan {
     let (keys, absent) = present_and_absent(kind, count);
     let mut chance = Chance::new(7);
     let shuffled = chance.shuffled(&keys);
     let starts = chance.shuffled(&keys).into_iter().take(RANGES).collect();
+    let spans = spans_of(keys.clone(), &mut Chance::new(11));
     Plan {
         new: puts_of(keys, &mut chance),
         over: puts_of(shuffled, &mut chance),
         absent,
         starts,
+        spans,
     }
 }
 
@@ -104,15 +130,37 @@ pub fn all_phases<S: Store>(kind: Kind, count: usize, views: usize) -> Outcome<F
     without_views::<S>(&plan, rounds)
 }
 
+// The reads: gets of keys that are there and of keys that aren't, ranges both ways, and counts.
+fn measure_reads<S: Store>(store: &S, plan: &Plan, reads: &mut [Phase; 5]) -> Outcome<()> {
+    let [get, absent, range, back, counts] = reads;
+    get.measure(&plan.over, |(key, _)| {
+        expect(black_box(store.get(key)?).is_some(), "a get")
+    })?;
+    absent.measure(&plan.absent, |key| {
+        expect(black_box(store.get(key)?).is_none(), "a get")
+    })?;
+    range.measure(&plan.starts, |key| {
+        let rows = black_box(store.range(key, ROWS_OF_RANGE)?);
+        expect(!rows.is_empty(), "a range")
+    })?;
+    back.measure(&plan.starts, |key| {
+        let _rows = black_box(store.range_back(key, ROWS_OF_RANGE)?);
+        Ok(())
+    })?;
+    counts.measure(&plan.spans, |span| {
+        let count = black_box(store.count(&span.start, &span.end)?);
+        expect(count == span.rows, "a count")
+    })
+}
+
 fn without_views<S: Store>(plan: &Plan, rounds: usize) -> Outcome<Figures> {
-    let [mut new, mut over, mut get, mut absent, mut range, mut back, mut remove] = [
-        "put new",
-        "put over",
+    let [mut new, mut over, mut remove] = ["put new", "put over", "remove"].map(Phase::new);
+    let mut reads = [
         "get",
         "get absent",
         "range of 100",
         "range back of 100",
-        "remove",
+        "count of 100",
     ]
     .map(Phase::new);
     let mut bytes = None;
@@ -122,26 +170,13 @@ fn without_views<S: Store>(plan: &Plan, rounds: usize) -> Outcome<Figures> {
         new.measure(&plan.new, |(key, value)| store.put(key, value))?;
         bytes.get_or_insert((resident()? - before) / plan.new.len() as f64);
         over.measure(&plan.over, |(key, value)| store.put(key, value))?;
-        get.measure(&plan.over, |(key, _)| {
-            expect(black_box(store.get(key)?).is_some(), "a get")
-        })?;
-        absent.measure(&plan.absent, |key| {
-            expect(black_box(store.get(key)?).is_none(), "a get")
-        })?;
-        range.measure(&plan.starts, |key| {
-            let rows = black_box(store.range(key, ROWS_OF_RANGE)?);
-            expect(!rows.is_empty(), "a range")
-        })?;
-        back.measure(&plan.starts, |key| {
-            let _rows = black_box(store.range_back(key, ROWS_OF_RANGE)?);
-            Ok(())
-        })?;
+        measure_reads(&store, plan, &mut reads)?;
         remove.measure(&plan.over, |(key, _)| {
             expect(store.remove(key)?, "a remove")
         })?;
     }
-    let phases = [new, over, get, absent, range, back, remove];
-    let mut figures: Figures = phases.iter().map(Phase::figure).collect();
+    let phases = [new, over].into_iter().chain(reads).chain([remove]);
+    let mut figures: Figures = phases.map(|phase| phase.figure()).collect();
     figures.push(("bytes a key", bytes.unwrap_or(0.0)));
     Ok(figures)
 }

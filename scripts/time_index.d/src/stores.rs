@@ -6,6 +6,7 @@
 use crate::Outcome;
 use rowanspan::{Index, Keys, Options, RowTest, View};
 use std::collections::BTreeMap;
+use std::ops::Bound;
 use std::sync::{Mutex, MutexGuard, PoisonError};
 
 /// A row, as the map has it: its columns.
@@ -13,13 +14,13 @@ pub type Columns = Vec<Vec<u8>>;
 
 /// What is measured.
 pub trait Store: Sized {
-    /// What it gives for a key.
+    /// The row of a key, as a get returns it.
     type Row;
 
     /// An empty one, with so many views of four at most.
     fn open(views: usize) -> Outcome<Self>;
 
-    /// Gives a key a row of one column.
+    /// Puts a row of one column.
     fn put(&self, key: &[u8], value: &[u8]) -> Outcome<()>;
 
     /// A copy of the row of a key.
@@ -31,7 +32,10 @@ pub trait Store: Sized {
     /// Copies of the last rows before a key, with their keys, that of the greatest key first.
     fn range_back(&self, before: &[u8], limit: u16) -> Outcome<Vec<(Vec<u8>, Self::Row)>>;
 
-    /// Ends the row of a key; whether there was one.
+    /// How many rows have keys from one on and before another one.
+    fn count(&self, start: &[u8], end: &[u8]) -> Outcome<usize>;
+
+    /// Removes the row of a key. Returns whether there was one.
     fn remove(&self, key: &[u8]) -> Outcome<bool>;
 
     /// How many rows each view has, and their sum.
@@ -89,6 +93,10 @@ impl Store for Indexed {
 
     fn range_back(&self, before: &[u8], limit: u16) -> Outcome<Vec<(Vec<u8>, rowanspan::Row)>> {
         Ok(locked(&self.index).last(Some(before), limit, &[])?)
+    }
+
+    fn count(&self, start: &[u8], end: &[u8]) -> Outcome<usize> {
+        Ok(locked(&self.index).count(start..end)?)
     }
 
     fn remove(&self, key: &[u8]) -> Outcome<bool> {
@@ -181,7 +189,7 @@ impl Store for Mapped {
         let map = locked(&self.map);
         let rows = map
             .rows
-            .range::<[u8], _>((std::ops::Bound::Included(start), std::ops::Bound::Unbounded));
+            .range::<[u8], _>((Bound::Included(start), Bound::Unbounded));
         Ok(rows
             .take(limit.into())
             .map(|(key, columns)| (key.clone(), columns.clone()))
@@ -190,15 +198,22 @@ impl Store for Mapped {
 
     fn range_back(&self, before: &[u8], limit: u16) -> Outcome<Vec<(Vec<u8>, Columns)>> {
         let map = locked(&self.map);
-        let rows = map.rows.range::<[u8], _>((
-            std::ops::Bound::Unbounded,
-            std::ops::Bound::Excluded(before),
-        ));
+        let rows = map
+            .rows
+            .range::<[u8], _>((Bound::Unbounded, Bound::Excluded(before)));
         Ok(rows
             .rev()
             .take(limit.into())
             .map(|(key, columns)| (key.clone(), columns.clone()))
             .collect())
+    }
+
+    fn count(&self, start: &[u8], end: &[u8]) -> Outcome<usize> {
+        let map = locked(&self.map);
+        let rows = map
+            .rows
+            .range::<[u8], _>((Bound::Included(start), Bound::Excluded(end)));
+        Ok(rows.count())
     }
 
     fn remove(&self, key: &[u8]) -> Outcome<bool> {

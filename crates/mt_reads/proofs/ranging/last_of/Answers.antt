@@ -17,4 +17,4 @@ returns-in-Ok c =
     let walk = c.in_ok-walk.walk in
     last_found c.args.machine.now walk c.next.new.self c.in_ok-walk.ensures.machine c.in_ok-walk.ensures.before c.in-Some._row.now c.key.result.now c.in-Ok.key
     (subst (λ row. (h : History) → Stands walk.machine h → GivesPrevious (rows walk.machine.columns (moment h)) walk.before (option_copied row) c.next.new.self.before) c.in-Some.is c.in_ok-_row.ensures.row)
-    c.key.ensures c.in-Ok.ensures.key
+    c.key.ensures.key c.in-Ok.ensures.key

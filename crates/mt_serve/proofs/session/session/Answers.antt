@@ -9,8 +9,8 @@ use Rattle.mt_serve.proofs.session.session.Goals as goal
 
 pub loop-reader-init : goal.loop-reader-init
 loop-reader-init g c = record {
-  serving = subst (λ (rest : Option (List ℕ)). Serving g.S.Shared.does g.S.Shared.shows g.S.Shared.pages g.S.Shared.looks c.args.shared.now c.args.pass.now (frames_rest g.R.Read.remaining c.args.reader.now) (g.W.Write.contents (sink_writer c.args.writer.now)) (record { frames = 0; queries = 0 }) rest (g.W.Write.contents (sink_writer c.args.writer.now)) c.args.shared.now c.args.pass.now)
-      (sym c.forget.ensures.rest) (serving_none g.S.Shared.does g.S.Shared.shows g.S.Shared.pages g.S.Shared.looks c.args.shared.now c.args.pass.now (frames_rest g.R.Read.remaining c.args.reader.now) (g.W.Write.contents (sink_writer c.args.writer.now)));
+  serving = subst (λ (rest : Option (List ℕ)). Serving g.S.Shared.does g.S.Shared.shows g.S.Shared.pages g.S.Shared.glances g.S.Shared.looks c.args.shared.now c.args.pass.now (frames_rest g.R.Read.remaining c.args.reader.now) (g.W.Write.contents (sink_writer c.args.writer.now)) (record { frames = 0; queries = 0 }) rest (g.W.Write.contents (sink_writer c.args.writer.now)) c.args.shared.now c.args.pass.now)
+      (sym c.forget.ensures.rest) (serving_none g.S.Shared.does g.S.Shared.shows g.S.Shared.pages g.S.Shared.glances g.S.Shared.looks c.args.shared.now c.args.pass.now (frames_rest g.R.Read.remaining c.args.reader.now) (g.W.Write.contents (sink_writer c.args.writer.now)));
   few = (let same = c.forget.ensures.left in omega (arith, c.requires, same));
   written = c.forget.ensures.gone;
 }
@@ -18,7 +18,7 @@ loop-reader-init g c = record {
 pub returns-in_err-answer_next-clause-broken : goal.returns-in_err-answer_next-clause-broken
 returns-in_err-answer_next-clause-broken g c =
     let p = err_from_is_err_and c.from_residual.result c.from_residual.ensures.1 in
-    rw (p.1, p.2) (broken_at g.S.Shared.does g.S.Shared.shows g.S.Shared.pages g.S.Shared.looks c.args.shared.now c.loop-reader.shared c.answer_next.new.shared c.args.pass.now c.loop-reader.pass c.answer_next.new.pass
+    rw (p.1, p.2) (broken_at g.S.Shared.does g.S.Shared.shows g.S.Shared.pages g.S.Shared.glances g.S.Shared.looks c.args.shared.now c.loop-reader.shared c.answer_next.new.shared c.args.pass.now c.loop-reader.pass c.answer_next.new.pass
     (frames_rest g.R.Read.remaining c.args.reader.now) (g.W.Write.contents (sink_writer c.args.writer.now)) (frames_rest g.R.Read.remaining c.loop-reader.reader) (g.W.Write.contents (sink_writer c.loop-reader.writer))
     (frames_unread g.R.Read.remaining c.answer_next.new.self) c.loop-reader.summary c.in_err-answer_next.field-0.0 c.loop-reader.invariant.serving c.in_err-answer_next.ensures.only c.in_err-answer_next.ensures.fault)
 
@@ -28,7 +28,7 @@ returns-in_err-send-clause-broken g c =
     let next = c.in_ok-answer_next.ensures.some c.if-branch.true in
     let reply : to_go c.answer_next.new.self ≡ reply_frame next.reply = next.written ∙ ap (λ (l : List ℕ). l ++ reply_frame next.reply) c.loop-reader.invariant.written in
     let part = c.in_err-send.ensures.part in
-    rw (p.1, p.2) (broken_in g.S.Shared.does g.S.Shared.shows g.S.Shared.pages g.S.Shared.looks c.args.shared.now c.loop-reader.shared c.answer_next.new.shared c.args.pass.now c.loop-reader.pass c.answer_next.new.pass
+    rw (p.1, p.2) (broken_in g.S.Shared.does g.S.Shared.shows g.S.Shared.pages g.S.Shared.glances g.S.Shared.looks c.args.shared.now c.loop-reader.shared c.answer_next.new.shared c.args.pass.now c.loop-reader.pass c.answer_next.new.pass
     (frames_rest g.R.Read.remaining c.args.reader.now) (g.W.Write.contents (sink_writer c.args.writer.now)) (frames_rest g.R.Read.remaining c.loop-reader.reader) (g.W.Write.contents (sink_writer c.loop-reader.writer))
     (frames_rest g.R.Read.remaining c.answer_next.new.self) (frames_unread g.R.Read.remaining c.send.new.self) (g.W.Write.contents (sink_writer c.send.new.writer)) c.loop-reader.summary c.in_err-send.field-0.0 next.frame
     c.loop-reader.invariant.serving next.fits next.taken
@@ -42,7 +42,7 @@ loop-reader-preserved g c =
     let reply : to_go c.answer_next.new.self ≡ reply_frame next.reply = next.written ∙ ap (λ (l : List ℕ). l ++ reply_frame next.reply) c.loop-reader.invariant.written in
     let count : c.answer_next.new.answerer.count ≡ length next.frame.messages = next.answered.1 in
     let more : c.loop-reader.summary.queries + c.answer_next.new.answerer.count ≡ c.loop-reader.summary.queries + length next.frame.messages = omega (arith, count) in record {
-      serving = serving_more g.S.Shared.does g.S.Shared.shows g.S.Shared.pages g.S.Shared.looks c.args.shared.now c.loop-reader.shared c.answer_next.new.shared c.args.pass.now c.loop-reader.pass c.answer_next.new.pass
+      serving = serving_more g.S.Shared.does g.S.Shared.shows g.S.Shared.pages g.S.Shared.glances g.S.Shared.looks c.args.shared.now c.loop-reader.shared c.answer_next.new.shared c.args.pass.now c.loop-reader.pass c.answer_next.new.pass
           (frames_rest g.R.Read.remaining c.args.reader.now) (g.W.Write.contents (sink_writer c.args.writer.now)) (frames_rest g.R.Read.remaining c.loop-reader.reader) (g.W.Write.contents (sink_writer c.loop-reader.writer))
           (frames_rest g.R.Read.remaining c.send.new.self) (g.W.Write.contents (sink_writer c.send.new.writer)) c.loop-reader.summary _ next.frame next.reply
           c.loop-reader.invariant.serving next.fits (subst (λ (rest : Option (List ℕ)). LosesFrame next.frame (frames_rest g.R.Read.remaining c.loop-reader.reader) rest) (sym c.in_ok-send.ensures.rest) next.taken)

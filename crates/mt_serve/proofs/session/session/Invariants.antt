@@ -7,7 +7,7 @@ use Rattle.mt_serve.proofs.session.session.Given as goal
 
 abbrev pub invariant-loop-reader : goal.invariant-loop-reader
 invariant-loop-reader g l = record {
-  serving : Serving g.S.Shared.does g.S.Shared.shows g.S.Shared.pages g.S.Shared.looks l.fn.shared l.fn.pass (frames_rest g.R.Read.remaining l.fn.reader) (g.W.Write.contents (sink_writer l.fn.writer)) l.summary
+  serving : Serving g.S.Shared.does g.S.Shared.shows g.S.Shared.pages g.S.Shared.glances g.S.Shared.looks l.fn.shared l.fn.pass (frames_rest g.R.Read.remaining l.fn.reader) (g.W.Write.contents (sink_writer l.fn.writer)) l.summary
       (frames_rest g.R.Read.remaining l.reader) (g.W.Write.contents (sink_writer l.writer)) l.shared l.pass;
   few : l.summary.frames + frames_left l.reader ≤ MOST_FRAMES;
   written : to_go l.reader ≡ [];

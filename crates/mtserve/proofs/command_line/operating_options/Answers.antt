@@ -11,6 +11,7 @@ use Rattle.mtserve.proofs.command_line.operating_options.Goals as goal
 pub returns : goal.returns
 returns c =
     let one = with_option c.args.command c.in_ok-arg.field-0 c.text_option.result (app_of c.args.command) (text_rule (codes "log")) c.text_option.ensures.local c.text_option.ensures.rule refl c.in_ok-arg.ensures in
-    IfOk-weaker c.arg-2.result _ _
-    (λ (new : Command). with_option c.in_ok-arg.field-0 new c.number_option.result _ (number_rule (codes "buffers") 0 1099511627776) c.number_option.ensures.local c.number_option.ensures.rule one)
-    c.arg-2.ensures
+    let two = with_option c.in_ok-arg.field-0 c.in_ok-arg-2.field-0 c.number_option.result _ (number_rule (codes "buffers") 0 1099511627776) c.number_option.ensures.local c.number_option.ensures.rule one c.in_ok-arg-2.ensures in
+    IfOk-weaker c.arg-3.result _ _
+    (λ (new : Command). with_option c.in_ok-arg-2.field-0 new c.number_option-2.result _ (number_rule (codes "memory") 0 1099511627776) c.number_option-2.ensures.local c.number_option-2.ensures.rule two)
+    c.arg-3.ensures

@@ -16,7 +16,7 @@ loop-many-preserved c =
     back_goes c.args.index.now.machine (option_copied c.args.before) c.args.asked.now c.args.out.now.items walk c.next.new.self c.loop-many.out.items c.pair.new.out.items c.key.result.now c.loop-many.many c.in-Some.row.now
     c.loop-many.invariant
     (subst (λ row. (h : History) → Stands walk.machine h → GivesPrevious (rows walk.machine.columns (moment h)) walk.before (option_copied row) c.next.new.self.before) c.in-Some.is c.in_ok-row.ensures.row)
-    c.in_ok-row.ensures.machine c.key.ensures c.in_ok-pair.ensures
+    c.in_ok-row.ensures.machine c.key.ensures.key c.in_ok-pair.ensures
 
 pub returns-in_default : goal.returns-in_default
 returns-in_default c =

@@ -10,8 +10,8 @@ returns-in_default-clause-row c =
 
 pub returns-then-is_from-clause-row : goal.returns-then-is_from-clause-row
 returns-then-is_from-clause-row c =
-    previous_some (bound_map (λ key. key.now) c.args.self.now.start) c.args.self.now.walk.machine c.args.self.now.walk.before c.next.new.self.before (option_copied c.in_ok-row.field-0) c.in-Some.row.now c.key.result.now (ap option_copied c.in-Some.is) c.key.ensures (sym c.is_from.ensures ∙ c.if-is_from.true) c.in_ok-row.ensures.row
+    previous_some (bound_map (λ key. key.now) c.args.self.now.start) c.args.self.now.walk.machine c.args.self.now.walk.before c.next.new.self.before (option_copied c.in_ok-row.field-0) c.in-Some.row.now c.key.result.now (ap option_copied c.in-Some.is) c.key.ensures.key (sym c.is_from.ensures ∙ c.if-is_from.true) c.in_ok-row.ensures.row
 
 pub returns-else-is_from-clause-row : goal.returns-else-is_from-clause-row
 returns-else-is_from-clause-row c =
-    previous_past (bound_map (λ key. key.now) c.args.self.now.start) c.args.self.now.walk.machine c.args.self.now.walk.before c.next.new.self.before (option_copied c.in_ok-row.field-0) c.in-Some.row.now c.key.result.now (ap option_copied c.in-Some.is) c.key.ensures (sym c.is_from.ensures ∙ c.if-is_from.false) c.in_ok-row.ensures.row
+    previous_past (bound_map (λ key. key.now) c.args.self.now.start) c.args.self.now.walk.machine c.args.self.now.walk.before c.next.new.self.before (option_copied c.in_ok-row.field-0) c.in-Some.row.now c.key.result.now (ap option_copied c.in-Some.is) c.key.ensures.key (sym c.is_from.ensures ∙ c.if-is_from.false) c.in_ok-row.ensures.row

@@ -9,30 +9,30 @@ use Rattle.mt_reads.proofs.reading.Reading.pop.Goals.{In-None}
 pub move_end-requires : goal.move_end-requires
 move_end-requires c =
     let old = c.args.self.now in
-    begins_within old.machine.now old.unread (bound_of old.is_bounded old.key.items) old.chunk.keys.items old.chunk.rows.items c.requires.reading c.in-Some.begin c.in-Some.row c.pop.new.self.items c.in-Some.ensures.items
+    begins_within old.machine.now old.unread old.is_bounded old.key.items old.chunk.keys.items old.chunk.rows.items c.requires.reading c.in-Some.begin c.in-Some.row c.pop.new.self.items c.in-Some.ensures.items
 
 pub returns-in_ok-move_end-in-Some-clause-reading : goal.returns-in_ok-move_end-in-Some-clause-reading
 returns-in_ok-move_end-in-Some-clause-reading c =
     let old = c.args.self.now in
-    reading_left old.machine.now old.unread (bound_of old.is_bounded old.key.items) old.chunk.keys.items old.chunk.rows.items c.requires.reading c.in-Some.begin c.in-Some.row c.pop.new.self.items c.in-Some.ensures.items
+    reading_left old.machine.now old.unread old.is_bounded old.key.items old.chunk.keys.items old.chunk.rows.items c.requires.reading c.in-Some.begin c.in-Some.row c.pop.new.self.items c.in-Some.ensures.items
     c.move_end.new.bytes.items c.move_end.new.buffer.items c.in_ok-move_end-in-Some.ensures.left c.in_ok-move_end-in-Some.ensures.moved
 
 pub returns-in_ok-move_end-in-Some-clause-row : goal.returns-in_ok-move_end-in-Some-clause-row
 returns-in_ok-move_end-in-Some-clause-row c =
     let old = c.args.self.now in
-    gives_taken old.machine.now old.unread (bound_of old.is_bounded old.key.items) old.chunk.keys.items old.chunk.rows.items c.requires.reading c.in-Some.begin c.in-Some.row c.pop.new.self.items c.in-Some.ensures.items
+    gives_taken old.machine.now old.unread old.is_bounded old.key.items old.chunk.keys.items old.chunk.rows.items c.requires.reading c.in-Some.begin c.in-Some.row c.pop.new.self.items c.in-Some.ensures.items
     c.move_end.new.bytes.items c.move_end.new.buffer.items c.in_ok-move_end-in-Some.ensures.left c.in_ok-move_end-in-Some.ensures.moved
 
 pub returns-in_ok-move_end-in-Some-clause-fewer : goal.returns-in_ok-move_end-in-Some-clause-fewer
 returns-in_ok-move_end-in-Some-clause-fewer c =
     let old = c.args.self.now in
-    fewer_left old.machine.now old.unread (bound_of old.is_bounded old.key.items) old.chunk.keys.items old.chunk.rows.items c.requires.reading c.in-Some.begin c.in-Some.row c.pop.new.self.items c.in-Some.ensures.items
+    fewer_left old.machine.now old.unread old.is_bounded old.key.items old.chunk.keys.items old.chunk.rows.items c.requires.reading c.in-Some.begin c.in-Some.row c.pop.new.self.items c.in-Some.ensures.items
     c.move_end.new.bytes.items c.move_end.new.buffer.items c.in_ok-move_end-in-Some.ensures.left c.in_ok-move_end-in-Some.ensures.moved c.is_idle-stands.ensures.stands
 
 pub returns-in_ok-move_end-in-Some-clause-fits : goal.returns-in_ok-move_end-in-Some-clause-fits
 returns-in_ok-move_end-in-Some-clause-fits c =
     let old = c.args.self.now in
-    fits_left old.machine.now old.unread (bound_of old.is_bounded old.key.items) old.chunk.keys.items old.chunk.rows.items c.requires.reading c.in-Some.begin c.in-Some.row c.pop.new.self.items c.in-Some.ensures.items
+    fits_left old.machine.now old.unread old.is_bounded old.key.items old.chunk.keys.items old.chunk.rows.items c.requires.reading c.in-Some.begin c.in-Some.row c.pop.new.self.items c.in-Some.ensures.items
     c.move_end.new.bytes.items c.move_end.new.buffer.items c.in_ok-move_end-in-Some.ensures.left c.in_ok-move_end-in-Some.ensures.moved
 
 -- no row is kept
