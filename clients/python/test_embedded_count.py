@@ -49,8 +49,8 @@ class CountCases:
             self.index.put(key, key[:8])
 
     def want(self, wanted: int, *words: Any, **named: Any) -> None:
-        """Wants a range to have so many rows: without a number, and up to 0, 1, one fewer, exactly as many, one more,
-        and others."""
+        """Asserts that a range has `wanted` rows: counted without a limit, and up to 0, 1, one fewer, exactly as many,
+        one more, and others."""
         self.assertEqual(self.index.count(*words, **named), wanted)
         self.assertEqual(self.index.count(*words, **named, most=None), wanted)
         for most in (*MOSTS, max(0, wanted - 1), wanted, wanted + 1):

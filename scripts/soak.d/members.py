@@ -80,7 +80,7 @@ def check_rows(rows: Sequence[Tuple[bytes, Any]], start: bytes) -> None:
         want(row.columns[0].startswith(key + b":"), f"the row of {key!r} is {row.columns!r}")
 
 
-# ---- who changes rows
+# ---- the writers
 
 class Writer:
     """Changes keys of its own, and knows their rows."""
@@ -144,7 +144,7 @@ class Writer:
             want(found == self.rows.get(key), f"the row of {key!r} is {found}, not {self.rows.get(key)}")
 
 
-# ---- who reads
+# ---- the readers
 
 def read_all(soak: Soak, number: int) -> None:
     """Gets and ranges over all writers' keys: no version of a key falls in a session."""
@@ -189,7 +189,7 @@ def wait_for_commits(soak: Soak, number: int) -> None:
             soak.count("waits")
 
 
-# ---- who does nothing, or harm
+# ---- clients that do nothing, or harm
 
 def stay_idle(soak: Soak, number: int) -> None:
     """Many connections that say hello, and then nothing."""

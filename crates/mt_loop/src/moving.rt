@@ -24,7 +24,7 @@ pub enum Share {
     Long,
 }
 
-/// Returns which frames a worker answers that has this number, of so many.
+/// Returns which frames the worker with this number answers, of `count` workers.
 pub fn share_of(number: usize, count: usize) -> Share {
     if count < 2 {
         Share::All

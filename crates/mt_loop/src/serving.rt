@@ -68,6 +68,17 @@ fn serve_desk<R: Wait + Clock + Eprint>(
     }
 }
 
+// Says where it listens, and accepts until there is no more to accept.
+fn accept<R: Wait + Clock + Eprint>(
+    gauge: &Gauge<'_, R>,
+    acceptor: &mut Acceptor,
+    addresses: &[Address<'_>],
+    stop: &Stop,
+) -> io::Result<()> {
+    acceptor.say(gauge, addresses)?;
+    acceptor.run(gauge, stop)
+}
+
 // A desk and a worker for each pass.
 fn make_workers<R: Net>(
     rt: &R,
@@ -95,6 +106,7 @@ fn run<R: Threads + Wait + Clock + Sync + Eprint>(
     alloc: Global,
     gauge: &Gauge<'_, R>,
     acceptor: &mut Acceptor,
+    addresses: &[Address<'_>],
     workers: Vec<Worker>,
     stop: &Stop,
 ) -> io::Result<Vec<Pass>> {
@@ -113,7 +125,7 @@ fn run<R: Threads + Wait + Clock + Sync + Eprint>(
             }
         }
         if begun.is_ok() {
-            begun = acceptor.run(gauge, stop);
+            begun = accept(gauge, acceptor, addresses, stop);
         }
         if begun.is_err() {
             stop.stop(gauge.desks);
@@ -162,10 +174,11 @@ fn run_to_end<R: Threads + Wait + Clock + Sync + Eprint>(
     alloc: Global,
     gauge: &Gauge<'_, R>,
     acceptor: &mut Acceptor,
+    addresses: &[Address<'_>],
     workers: Vec<Worker>,
     stop: &Stop,
 ) -> io::Result<Vec<Pass>> {
-    let passes = run(alloc, gauge, acceptor, workers, stop);
+    let passes = run(alloc, gauge, acceptor, addresses, workers, stop);
     if let Some(durability) = gauge.durability {
         durability.end(gauge.rt);
     }
@@ -178,6 +191,7 @@ fn run_watched<R, D>(
     alloc: Global,
     gauge: &Gauge<'_, R>,
     acceptor: &mut Acceptor,
+    addresses: &[Address<'_>],
     workers: Vec<Worker>,
     log: Option<Log<D>>,
 ) -> io::Result<Ended>
@@ -189,7 +203,9 @@ where
     let stop = Stop::new(acceptor.poll())?;
     let stop = &stop;
     thread::scope(thread::scope_env(), rt, |scope| -> io::Result<Ended> {
-        let server = scope.spawn(move || run_to_end(alloc, gauge, acceptor, workers, stop))?;
+        let server = scope.spawn(move || run_to_end(
+            alloc, gauge, acceptor, addresses, workers, stop,
+        ))?;
         let mut watch = Watch::new(gauge.start);
         let is_logged = match log {
             Some(log) => keep_log(gauge, log, &mut watch),
@@ -262,10 +278,7 @@ where
         start: Instant::now(rt)?,
         durability,
     };
-    let ended = match acceptor.say(&gauge, addresses) {
-        Ok(()) => run_watched(alloc, &gauge, &mut acceptor, workers, log),
-        Err(error) => Err(error),
-    };
+    let ended = run_watched(alloc, &gauge, &mut acceptor, addresses, workers, log);
     remove_sockets(rt, addresses);
     reporter.finish(rt);
     ended

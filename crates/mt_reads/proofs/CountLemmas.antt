@@ -204,7 +204,7 @@ module _ (map : Rows) (from : List ℕ) (to : Option (List ℕ)) where
         fin.get-entries map e.0 ∙ ap (find key_cmp e.0) (sym are)
         ∙ there e.0 e.1 es sorted (subst (Has e.0 e.1) (sym whole) (has_first e (p.passed ++ fore) aft))
 
-    -- the first of those to come is the row that the walk gives next
+    -- the first of those to come is the row that the walk returns next
     pub goes : (es ≡ entries map) → (row : Row) → GivesNext map at (Some row) new → IsBefore to new.key → IsParted es new (many + 1)
     goes are row (given, has, comes, least) before = by_left p.left refl
       where

@@ -8,7 +8,7 @@ use Rattle.std.specs.Option.{option_map, option_or}
 use Rattle.std.proofs.lemmas.Bool.{le-ltb, ltb-false, or_parts}
 use Rattle.std.proofs.lemmas.List.{length-take, length-map}
 use Rattle.mt_types.specs.Limits.{columns_fault, key_fault, limit_fault, refused_if, request_fault}
-use Rattle.mt_types.specs.Limited.{RowIsLimited, PairIsLimited, PairsAreLimited}
+use Rattle.mt_types.specs.Limited.{RowIsLimited, PairIsLimited, PairsAreLimited, FoundAreLimited}
 use Rattle.mt_types.specs.Rows.{Rows, shown}
 use Rattle.mt_types.specs.declared.event.Request.TheVariants.{Get}
 use Rattle.mt_types.specs.declared.event.Answer.TheVariants.{Found}
@@ -21,7 +21,6 @@ use Rattle.mt_promise.proofs.RowLimits.{neither_of, not_refused, key_fits, limit
 use Rattle.mt_index.specs.Stands.{MachineView, Stands}
 use Rattle.mt_walk.specs.Gathered.{AreKeys, pairs_of}
 use Rattle.mt_reads.specs.Counts.{gets_fault, keys_fault, rows_of}
-use Rattle.mt_reads.specs.Quiet.{FoundAreLimited}
 use Rattle.mt_reads.specs.Ranges.{IsRangeBack, back_fault}
 
 abbrev Shown : Type 0

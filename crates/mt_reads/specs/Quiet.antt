@@ -1,11 +1,8 @@
 -- Reads of one moment that are neither gets nor ranges in the order of the keys.
-use Rattle.std.specs.Prelude.{ℕ, ◌≡◌, ◌≤◌, List, length, Option, IfSome}
-use Rattle.std.specs.List.{AllByRecursion}
-use Rattle.mt_types.specs.Limited.{RowIsLimited, PairsAreLimited}
+use Rattle.std.specs.Prelude.{ℕ, ◌≡◌, Option}
+use Rattle.mt_types.specs.Limited.{FoundAreLimited, PairsAreLimited}
 use Rattle.mt_types.specs.Rows.{Rows}
-use Rattle.mt_types.specs.declared.limits.TheConstants.{MAX_RANGE}
 use Rattle.mt_types.specs.declared.refusal.Refusal.{Refusal}
-use Rattle.mt_types.specs.declared.row.Row.{Row}
 use Rattle.mt_reads.specs.Counts.{count_fault, count_of, gets_fault, rows_of}
 use Rattle.mt_reads.specs.Ranges.{IsRangeBack, back_fault}
 use Rattle.mt_reads.specs.declared.quiet.QuietRead.{QuietRead}
@@ -25,10 +22,6 @@ abbrev pub quiet_fault : ℕ → QuietRead → Option Refusal
 quiet_fault columns (Gets keys asked) = gets_fault columns keys asked
 quiet_fault columns (RangeBack before limit asked) = back_fault columns before limit asked
 quiet_fault columns (Count from to most) = count_fault from to
-
--- no more rows than a range may ask for, each within the limits
-abbrev pub FoundAreLimited : List (Option Row) → Type 0
-FoundAreLimited found = (length found ≤ MAX_RANGE) × AllByRecursion (λ row. IfSome row RowIsLimited) found
 
 abbrev pub QuietAnswerIsLimited : QuietAnswer → Type 0
 QuietAnswerIsLimited (RowsAnswer found) = FoundAreLimited found

@@ -4,13 +4,13 @@ ghost use Rattle.std.specs.Prelude.{◌≡◌, ◌≤◌, nat_lt, All, IfErr, If
 ghost use Rattle.std.specs.FinMap.{get};
 ghost use Rattle.std.specs.List.{list_any};
 ghost use Rattle.std.specs.Option.{option_map};
+ghost use Rattle.mt_types.specs.Limited.{FoundAreLimited};
 ghost use Rattle.mt_types.specs.Rows.{shown};
 ghost use Rattle.mt_types.specs.declared.limits.TheConstants.{MAX_KEY_BYTES};
 ghost use Rattle.mt_promise.specs.History.{History, moment, rows};
 ghost use Rattle.mt_index.specs.Alone.{IsQuiet};
 ghost use Rattle.mt_index.specs.Stands.{Stands};
 ghost use Rattle.mt_reads.specs.Counts.{gets_fault, rows_of};
-ghost use Rattle.mt_reads.specs.Quiet.{FoundAreLimited};
 
 use bytes::Bytes;
 use mt_asked::asked::numbers_of;

@@ -20,8 +20,8 @@ use Rattle.mt_shared.specs.Reads.{IsNow}
 abbrev pub IsQuietNow : MachineView → QuietRead → QuietAnswer → Type 0
 IsQuietNow m read answer = (h : History) → Stands m h → IsQuietAnswer (rows m.columns (moment h)) read answer
 
--- What such a read gives: the number of commits and the answer; or the refusal that is due, or out of memory. It gives
--- nothing exactly if a put, remove or tidy is open.
+-- What such a read returns: the number of commits and the answer; or the refusal that is due, or out of memory. It returns
+-- `None` exactly if a put, remove or tidy is open.
 pub record QuietReadsNow (s : InnerView) (read : QuietRead) (result : Option (Result (ℕ × QuietAnswer) Refusal)) : Type 0 where
   pub may : IsSome result ↔ IsQuiet s.machine
   pub answer : IfSome result (λ found. IfOk found (λ now. IsNow s.machine now.0 × IsQuietNow s.machine read now.1))
@@ -33,7 +33,7 @@ pub record QuietReadsSomewhere (read : QuietRead) (result : Option (Result (ℕ 
   pub keeps : IsInner kept
   pub reads : QuietReadsNow kept read result
 
--- what such a read gives of what is shared, S
+-- what such a read may return of what is shared, S
 abbrev pub QuietLaw : Type 0 → Type 1
 QuietLaw S = S → QuietRead → Option (Result (ℕ × QuietAnswer) Refusal) → Type 0
 
@@ -42,7 +42,7 @@ QuietLaw S = S → QuietRead → Option (Result (ℕ × QuietAnswer) Refusal) �
 abbrev pub Answered : Type 0
 Answered = Option (Result (At QuietAnswer) Refusal)
 
--- what a pass gets of it, and what it has seen then: an answer from before what it had seen is of another index
+-- what a pass receives, and what it has seen then: an answer from before what it had seen is of another index
 abbrev pub IsToldQuiet : PassView → Result (ℕ × QuietAnswer) Refusal → Result (At QuietAnswer) Refusal → PassView → Type 0
 IsToldQuiet p (Ok now) result q =
     ((now.0 < p.seen) × (result ≡ Err WrongPass) × (q ≡ p))
@@ -50,7 +50,7 @@ IsToldQuiet p (Ok now) result q =
     × (q ≡ record p { seen = now.0 }))
 IsToldQuiet p (Err refusal) result q = (result ≡ Err refusal) × (q ≡ p)
 
--- A READ OF A PASS: the pass gets what it gives; or it gave nothing. Nothing has changed but what the pass has seen.
+-- A READ BY A PASS: the pass receives what such a read returned, if anything. Only what the pass has seen has changed.
 abbrev pub IsQuietRead : {S : Type 0} → QuietLaw S → S → PassView → QuietRead → Answered → PassView → Type 0
 IsQuietRead glances s p read (Some ended) q =
     (found : Result (ℕ × QuietAnswer) Refusal) × glances s read (Some found) × IsToldQuiet p found ended q

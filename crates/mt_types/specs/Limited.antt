@@ -1,5 +1,5 @@
 -- What keeps the limits of an index: few columns, of few bytes, under keys of few bytes, and not too many at once.
-use Rattle.std.specs.Prelude.{ℕ, ◌≤◌, List, length}
+use Rattle.std.specs.Prelude.{ℕ, ◌≤◌, List, length, Option, IfSome}
 use Rattle.std.specs.List.{AllByRecursion}
 use Rattle.mt_types.specs.declared.row.Row.{Row}
 use Rattle.mt_types.specs.declared.view.Page.{Page}
@@ -21,6 +21,10 @@ PairIsLimited pair = (length pair.0 ≤ MAX_KEY_BYTES) × RowIsLimited pair.1
 -- no more pairs than a range may ask for
 abbrev pub PairsAreLimited : List (List ℕ × Row) → Type 0
 PairsAreLimited pairs = (length pairs ≤ MAX_RANGE) × AllByRecursion PairIsLimited pairs
+
+-- no more rows than a range may ask for
+abbrev pub FoundAreLimited : List (Option Row) → Type 0
+FoundAreLimited rows = (length rows ≤ MAX_RANGE) × AllByRecursion (λ found. IfSome found RowIsLimited) rows
 
 abbrev pub PageIsLimited : Page → Type 0
 PageIsLimited page = (length page.sums ≤ MAX_COLUMNS) × PairsAreLimited page.rows

@@ -1,14 +1,13 @@
 -- Answers that keep the limits of an index, and of a server: it counts at most 64 numbers, under names of at most 64 bytes,
 -- and lists at most 64 views.
-use Rattle.std.specs.Prelude.{ℕ, ◌≤◌, List, length, Option, Some, None, IfSome}
+use Rattle.std.specs.Prelude.{ℕ, ◌≤◌, List, length, Option, Some, None}
 use Rattle.std.specs.List.{AllByRecursion}
-use Rattle.mt_types.specs.declared.limits.TheConstants.{MAX_KEY_BYTES, MAX_COLUMN_BYTES, MAX_RANGE, MAX_VIEWS}
+use Rattle.mt_types.specs.declared.limits.TheConstants.{MAX_KEY_BYTES, MAX_COLUMN_BYTES, MAX_VIEWS}
 use Rattle.mt_types.specs.declared.view.ViewSpec.{ViewSpec}
 use Rattle.mt_types.specs.declared.view.ViewSpec.TheVariants.{Range as RangeOf, Prefix as PrefixOf}
 use Rattle.mt_types.specs.declared.view.RowTest.{RowTest}
 use Rattle.mt_types.specs.declared.view.RowTest.TheVariants.{Equals}
-use Rattle.mt_types.specs.declared.row.Row.{Row}
-use Rattle.mt_types.specs.Limited.{RowIsLimited, PairsAreLimited, PageIsLimited}
+use Rattle.mt_types.specs.Limited.{RowIsLimited, PairsAreLimited, FoundAreLimited, PageIsLimited}
 use Rattle.mt_wire.specs.declared.response.Response.{Response}
 use Rattle.mt_wire.specs.declared.response.Response.TheVariants.{Done, View, FoundAll, Server}
 use Rattle.mt_wire.specs.declared.server.ListedView.{ListedView}
@@ -21,10 +20,6 @@ abbrev pub EndIsLimited : End → Type 0
 EndIsLimited (Found row) = RowIsLimited row
 EndIsLimited (Rows pairs) = PairsAreLimited pairs
 EndIsLimited _ = Unit {0}
-
--- no more rows than a range may ask for
-abbrev pub FoundAreLimited : List (Option Row) → Type 0
-FoundAreLimited rows = (length rows ≤ MAX_RANGE) × AllByRecursion (λ found. IfSome found RowIsLimited) rows
 
 abbrev pub TestIsLimited : RowTest → Type 0
 TestIsLimited (Equals column bytes) = length bytes ≤ MAX_COLUMN_BYTES
