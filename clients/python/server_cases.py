@@ -24,7 +24,7 @@ OPEN: Mapping[bytes, Role] = {}
 SECONDS = 20.0
 COLUMNS = 2
 
-# gives the port of a running server, until the end of its block
+# yields the port of a running server, until the end of its block
 Start = Callable[[Mapping[bytes, Role]], ContextManager[int]]
 Case = Callable[[Start], None]
 
@@ -86,7 +86,7 @@ def hello_without_tokens(start: Start) -> None:
 
 
 def hello_with_tokens(start: Start) -> None:
-    """Each token gives its role, and no other bytes give any."""
+    """Each token grants its role, and no other bytes grant any."""
     with start(TOKENS) as port:
         for token, role in TOKENS.items():
             with client(port, token=token) as index:
@@ -142,7 +142,7 @@ def what_a_writer_may(start: Start) -> None:
 
 
 def hello_again(start: Start) -> None:
-    """A second hello gives another role; one that is refused leaves the role as it was, or ends the connection."""
+    """A second hello grants another role; one that is refused leaves the role as it was, or ends the connection."""
     with start(TOKENS) as port, client(port, token=READER) as index:
         want_same("the role", index.call(Hello(WRITER)).value.role, Role.WRITE)
         want_same("a put", index.put(b"a", b"v"), 1)

@@ -26,7 +26,7 @@ MOST = 10
 BAD_FRAME = b"\0\0\0\x02\x01\x00"
 READER, OWNER = b"reader-0123456789", b"owner-0123456789a"
 
-# runs a server with these words; what it gives has a port, `next_line`, `rest_of_lines`, `ended` and `process`
+# runs a server with these words; what it returns has a port, `next_line`, `rest_of_lines`, `ended` and `process`
 Start = Callable[..., ContextManager[Any]]
 
 

@@ -10,7 +10,7 @@ static uint32_t counted(const rowanspan *index, const char *start, const char *e
     return count;
 }
 
-/* Wants a range to have so many rows: without a bound, and up to 0, 1, one fewer, exactly as many and one more. */
+/* Wants a range to have `wanted` rows: without a bound, and up to 0, 1, one fewer, exactly as many and one more. */
 static void want_count(const rowanspan *index, const char *start, const char *end, uint32_t wanted) {
     uint32_t most;
     WANT_SAME(counted(index, start, end, UINT32_MAX), wanted);

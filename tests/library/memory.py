@@ -20,7 +20,7 @@ PRELOADED = ctypes.PyDLL(None)
 
 
 class WantingLibrary:
-    """A library in whose calls by these names the allocation after so many is refused, and each after it."""
+    """A library in whose calls by these names a number of allocations is made, and each after them is refused."""
 
     def __init__(self, library: Any) -> None:
         self.allowed: Dict[str, int] = {}
@@ -70,7 +70,7 @@ def puts() -> None:
 
 
 def builds() -> None:
-    """A build where memory ends in it, or in the views that lag behind it."""
+    """A build in which memory ends, or in the views that lag."""
     with Index() as index:
         library, built, refusals = wanting(index), 0, 0
         for number in range(100):
@@ -129,7 +129,7 @@ def counts() -> None:
 
 
 def wanted(allowed: int, call: Callable[[], Any]) -> Any:
-    """What a call of the extension module returns where memory ends after so many allocations."""
+    """What a call of the extension module returns if memory ends after a number of allocations."""
     PRELOADED.memory_ends_after(allowed)
     try:
         return call()

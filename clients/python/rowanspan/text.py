@@ -31,7 +31,7 @@ class BadLine(ValueError):
 
 @dataclass(frozen=True)
 class Notation:
-    """How bytes stand in a word: `read` raises `BadLine`. No bytes are `-` in each."""
+    """How bytes are spelled in a word: `read` raises `BadLine`. No bytes are `-` in each."""
 
     read_some: Callable[[str], bytes]
     write_some: Callable[[bytes], str]

@@ -294,7 +294,7 @@ fn long_column_is_answered(rt: HostRuntime) -> Result<(), Fail> {
     Ok(())
 }
 
-// An empty store refuses a get of a key of 1,025 bytes for its length, and gives two builds the views 1 and 2.
+// An empty store refuses a get of a key of 1,025 bytes for its length, and answers two builds with the views 1 and 2.
 #[test]
 fn empty_store_answers(rt: HostRuntime) -> Result<(), Fail> {
     let input = joined(

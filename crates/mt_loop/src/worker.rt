@@ -23,7 +23,7 @@ use std::{io, mem};
 // How many bytes a read asks for.
 const PIECE: usize = 16_384;
 
-// How many events one wait gives at most.
+// How many events one wait returns at most.
 const EVENTS: usize = 256;
 
 // How many milliseconds a wait lasts at most, while there are connections, and while the last answers go.

@@ -1,4 +1,4 @@
--- Walks within bounds: the order of keys, where such a walk begins, and what it gives next.
+-- Walks within bounds: the order of keys, where such a walk begins, and what it returns next.
 use Rattle.std.proofs.Common.{ℕ, ◌≡◌, ◌⊎◌, ◌↔◌, inl, inr, List, [], ◌∷◌, ◌++◌, Bool, true, false, refl, sym, ap, subst, ◌∙◌, arith}
 use Rattle.std.specs.Prelude.{Option, Some, None, Result, Ok, Err, IfOk, IsOk, is_ok, IsTrue, IsSome, IfSome, IsSomeAnd, MatchOption}
 use Rattle.std.specs.FinMap.{get}
@@ -90,7 +90,7 @@ begins_absent map start none key row has = (there, λ is. inr (lt_less (key_cmp 
     there (inl same) = absurd (none (subst (λ (f : Option Row). IsSome f) (sym (ap (get map) same ∙ has)) refl))
     there (inr less) = ap is_lt less
 
--- if it has one, the walk gives that first, and is then after it
+-- if it has one, the walk returns that first, and is then after it
 pub begins_behind : (map : Rows) (start : List ℕ) (found : Option Row) (new : At) → IsSome (get map start) → GivesNext map (record { key = start; given = false }) found new → BeginsFrom map (Excluded start) new
 begins_behind map start found new there gives = go (get map start) refl there found gives
   where
@@ -154,7 +154,7 @@ pub short_stays : {T : Type 0} (fault : Option Refusal) (one : T) (refusal : Ref
 short_stays None one refusal short within = short
 short_stays {T} (Some due) one refusal short clash = absurd (let e : ◌≡◌ {A = Result T Refusal} (Ok one) (Err due) = clash in cc)
 
--- ---- what it gives next
+-- ---- what it returns next
 pub gives_within : (end : Bound (List ℕ)) (map : Rows) (at : At) (row : Row) (new : At) → GivesNext map at (Some row) new → is_up_to end new.key ≡ true → GivesWithin end map at (Some row) new
 gives_within end map at row new next is = (next, is)
 

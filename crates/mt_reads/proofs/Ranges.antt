@@ -1,4 +1,4 @@
--- The rows that a walk gives, up to a limit, are the range of the map: what a loop over the walk keeps, and its end.
+-- The rows that a walk returns, up to a limit, are the range of the map: what a loop over the walk keeps, and its end.
 use Rattle.std.proofs.Common.{ℕ, ◌≡◌, ◌<◌, ◌≤◌, ◌⊎◌, inl, inr, Bool, true, false, ◌&&◌, List, [], ◌∷◌, ◌++◌, length, refl, sym, ap, subst, ◌∙◌, arith}
 use Rattle.std.specs.Prelude.{Option, Some, None, All, Any, IsTrue, IsSome}
 use Rattle.std.specs.Cmp.{IsTotalOrder, first_so, second_so}

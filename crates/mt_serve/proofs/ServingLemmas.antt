@@ -88,7 +88,7 @@ driven_answers does shows pages glances looks s t p r q request result must (inl
       (follows_by does looks request m n t v w q (has_changed result) kept purges),
 )
 
--- ---- an event of a view leaves no view behind
+-- ---- an event of a view leaves each view at the newest commit
 page_changes_none : (result : Result Page Refusal) → changes (page_response result) ≡ false
 page_changes_none (Ok page) = refl
 page_changes_none (Err refusal) = refl

@@ -30,7 +30,7 @@ use Rattle.mt_wire.specs.declared.response.End.TheVariants.{Committed, Built, Co
 use Rattle.mt_wire.specs.declared.frame.Frame.{Frame}
 use Rattle.mt_wire.specs.Answered.{response_of}
 
--- ---- what the wire tells of what a query came to
+-- ---- what the wire says of a query's result
 
 abbrev pub call_response : Result Reply Refusal → Response
 call_response (Ok reply) = response_of reply
@@ -44,7 +44,7 @@ abbrev pub drop_response : Result ⊤ Refusal → Response
 drop_response (Ok done) = Dropped
 drop_response (Err refusal) = Refused refusal
 
--- a query of the server stands alone in its frame: one that is asked of an index is refused
+-- a query of the server is alone in its frame: one that is asked of an index is refused
 abbrev pub not_alone : Response
 not_alone = Served (OfServer TooMuchAtOnce)
 
@@ -99,7 +99,7 @@ end_changes (Committed number) = true
 end_changes (Built view) = true
 end_changes _ = false
 
--- a row was changed, or a view built: then views may be behind
+-- a row was changed, or a view built: then views may lag
 abbrev pub changes : Response → Bool
 changes (Done start stop end) = end_changes end
 changes _ = false

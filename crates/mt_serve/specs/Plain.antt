@@ -58,7 +58,7 @@ use Rattle.mt_serve.specs.Store.{Store, now, newest, Leads, fault, EndsBy, MayLa
 
 -- ---- one query
 
--- a build gives the next number of a view
+-- a build returns the next number of a view
 abbrev pub GivesNext : Store → Answer → Type 0
 GivesNext s (Built view) = view.0 ≡ (now s).built + 1
 GivesNext s _ = Unit {0}
@@ -134,7 +134,7 @@ IsReadPlainly s query response = MatchBool (counts_too_far query) (response ≡ 
     ((found : Result QuietAnswer Refusal) × IsFound s (quiet_of query) found
     × (response ≡ read_response (length (now s).commits) found))
 
--- A page is what the view's filter and sums give afresh on the rows after the changes that it is at; a view that is
+-- A page is what the view's filter and sums are afresh on the rows after the changes that it is at; a view that is
 -- dropped is there no more; each is refused if there is no such view. A query of the server is refused.
 abbrev pub PlainlyAsks : Store → Query → Response → Store → Type 0
 PlainlyAsks s (Call request) response t =
@@ -151,7 +151,7 @@ PlainlyAsks s (Server query) response t = (t ≡ s) × (response ≡ not_alone)
 
 -- ---- views are kept up
 
--- no view is more than this many changes behind
+-- no view lags by more than this many changes
 abbrev pub NoneBehind : ℕ → Store → Type 0
 NoneBehind many s = All (λ (v : StandingView). newest s ≤ v.at + many) (now s).views
 
@@ -167,8 +167,8 @@ TakenOn (v ∷ views) [] = ⊥
 abbrev pub RanOut : List Outcome → Type 0
 RanOut turns = (front : List Outcome) × (turns ≡ front ++ Refused NoMemory ∷ [])
 
--- VIEWS ARE KEPT UP: what happens are turns, each of which advances the view that is furthest behind. No change is
--- made. If no view was more than one change behind, none is behind then, unless a turn ran out of memory.
+-- VIEWS ARE KEPT UP: what happens are turns, each of which advances the view that lags most. No change is
+-- made. If no view lagged by more than one change, none lags then, unless a turn ran out of memory.
 pub record KeptUp (s t : Store) : Type 0 where
   pub turns : List Outcome
   pub happens : Leads s (map (λ (outcome : Outcome). furthest) turns) turns t

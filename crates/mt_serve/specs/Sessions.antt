@@ -1,4 +1,4 @@
--- WHAT A SESSION DOES: over what its reader gives and its writer takes, and over any events on what is shared.
+-- WHAT A SESSION DOES: over what its reader returns and its writer takes, and over any events on what is shared.
 use Rattle.std.specs.Prelude.{ℕ, ◌≡◌, ◌≢◌, ◌⊎◌, List, [], ◌++◌, length, sum_by, Option, IfSome}
 use Rattle.std.specs.List.{flat_map, AllByRecursion}
 use Rattle.std.specs.Io.KnownBytes.{Appends}

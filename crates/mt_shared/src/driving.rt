@@ -96,7 +96,7 @@ pub trait Shared {
         ensures goes { HasGone does self.old pass.old call result self.new pass.new }
         ensures limited { OutcomeIsLimited result };
 
-    /// What a read at once of a pass gives for a request, of what is shared.
+    /// What a read at once of a pass may return for a request, of what is shared.
     ghost shows: { Self → PassNo → Request → Option (Result (ℕ × Answer) Refusal) → Type 0 };
 
     /// Answers a get or a range of a pass at once, if it may: returns the number of commits and the answer. Makes no event.
@@ -110,7 +110,7 @@ pub trait Shared {
         ensures answer { IfSome result (λ read. IfOk read (λ now. IsReadAnswer now.1)) }
         ensures limited { IfSome result (λ read. IfOk read (λ now. AnswerIsLimited now.1)) };
 
-    /// What a read of one moment gives, of what is shared.
+    /// What a read of one moment may return, of what is shared.
     ghost glances: { Self → QuietRead → Option (Result (ℕ × QuietAnswer) Refusal) → Type 0 };
 
     /// Reads of one moment, if no put, remove or tidy is open, as `Inner::read_quiet` does. Makes no event.
@@ -122,7 +122,7 @@ pub trait Shared {
         ensures glances { glances self.now read.now result }
         ensures limited { IfSome result (λ found. IfOk found (λ now. QuietAnswerIsLimited now.1)) };
 
-    /// What a page at once of a pass gives, of what is shared: by the view, the floor, the first key and the limit.
+    /// What a page at once of a pass may be, of what is shared: by the view, the floor, the first key and the limit.
     ghost pages: { Self → PassNo → ViewNo → ℕ → List ℕ → ℕ → Option (Result Page Refusal) → Type 0 };
 
     /// Reads a page of a view at once, if it may, as `Inner::page` does. Makes no event.

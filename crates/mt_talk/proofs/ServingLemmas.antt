@@ -133,7 +133,7 @@ leaves_alone k l queries (Some (Wait of number milliseconds)) answered keeps = l
 leaves_alone k l queries (Some (Stop is_at_once)) answered keeps = leaves_role k.role k l queries (Some (Stop is_at_once)) answered keeps
 leaves_alone k l queries None answered keeps = leaves_role k.role k l queries None answered keeps
 
--- a frame comes to what is inside only if this holds of its queries
+-- a frame reaches what is inside only if this holds of its queries
 left_frame : {A S P : Type 0} (answers : A → S → P → Frame Query → Frame Response → A → S → P → Type 0) (T : Type 0) (a b : Server A) (s t : S) (p q : P) (frame : Frame Query) (reply : Frame Response) (answered : Option (List Response))
     → Leaves a.keeper frame.messages answered
     → (leaves (hindered a.keeper.read_only frame.messages) a.keeper.is_memory_full frame.messages ≡ None → T)

@@ -55,7 +55,7 @@ ReadersRead {A} {S} {P} answers =
     → ((may_all Read frame.messages ≡ true) × answers a.inner s p frame reply b.inner t q)
     ⊎ ((b.inner ≡ a.inner) × (t ≡ s) × (q ≡ p))
 
--- WHILE ROWS CAN'T BE CHANGED, a frame comes to what is inside only if none of its queries changes a row.
+-- WHILE ROWS CAN'T BE CHANGED, a frame reaches what is inside only if none of its queries changes a row.
 abbrev pub HinderedKeepRows : {A S P : Type 0} → (A → S → P → Frame Query → Frame Response → A → S → P → Type 0) → Type 0
 HinderedKeepRows {A} {S} {P} answers =
     (a b : Server A) (s t : S) (p q : P) (frame : Frame Query) (reply : Frame Response) (refusal : ServerRefusal)
@@ -63,7 +63,7 @@ HinderedKeepRows {A} {S} {P} answers =
     → ((changes_rows frame.messages ≡ false) × answers a.inner s p frame reply b.inner t q)
     ⊎ ((b.inner ≡ a.inner) × (t ≡ s) × (q ≡ p))
 
--- WHILE THE MEMORY IS FULL, a frame comes to what is inside only if none of its queries is a put or a build.
+-- WHILE THE MEMORY IS FULL, a frame reaches what is inside only if none of its queries is a put or a build.
 abbrev pub FullGrowNothing : {A S P : Type 0} → (A → S → P → Frame Query → Frame Response → A → S → P → Type 0) → Type 0
 FullGrowNothing {A} {S} {P} answers =
     (a b : Server A) (s t : S) (p q : P) (frame : Frame Query) (reply : Frame Response)

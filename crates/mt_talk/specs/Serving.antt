@@ -1,4 +1,5 @@
--- WHAT A SERVER ANSWERS WITHOUT ITS INDEX, around what answers the queries of its index: who may ask what, and its own queries.
+-- WHAT A SERVER ANSWERS WITHOUT ITS INDEX, around what answers the queries of its index: what each role may ask, and its
+-- own queries.
 use Rattle.std.specs.Prelude.{◌≡◌, ℕ, Bool, true, false, MatchBool, MatchOption, List, [], ◌∷◌, map, Option, Some, None, nat_le, nat_lt, not, if◌then◌else◌, unwrap_or}
 use Rattle.std.specs.List.{list_any}
 use Rattle.sha2.specs.Sha256.{sha256}
@@ -24,7 +25,7 @@ use Rattle.mt_talk.specs.declared.server.Keeper.{Keeper}
 use Rattle.mt_talk.specs.Growing.{within_memory}
 use Rattle.mt_talk.specs.Tokens.{Admits}
 
--- ---- who may ask what
+-- ---- what each role may ask
 
 -- gets, ranges, reads of one moment, pages of views, and what the server counts, lists and waits for
 abbrev pub reads : Query → Bool
@@ -138,7 +139,7 @@ pub record Becomes (k : Keeper) (role : Option Role) (stop : Option Bool) (l : K
 abbrev pub TurnsAway : Keeper → List Query → Option (List Response) → Keeper → Type 0
 TurnsAway k queries answered l = (answered ≡ Some (refusals NotAllowed queries)) × Becomes k k.role k.stop l
 
--- a hello: its secret gives a role, or it is refused
+-- a hello: its secret grants a role, or it is refused
 abbrev pub Greets : Keeper → List Query → ℕ → List ℕ → Option (List Response) → Keeper → Type 0
 Greets k queries newest secret answered l =
     (found : Option Role) × Admits k.tokens.items (sha256 secret) found

@@ -18,18 +18,18 @@ pub fn closed_servers_are_blind<S, P, A: Answers<S, P>>()
     ensures { ClosedIsBlind A.answers }
 {}
 
-/// If a client may read, a frame comes to what is inside only if it has gets, ranges, reads of one moment and pages of
+/// If a client may read, a frame reaches what is inside only if it has gets, ranges, reads of one moment and pages of
 /// views alone.
 pub fn readers_read<S, P, A: Answers<S, P>>()
     ensures { ReadersRead A.answers }
 {}
 
-/// While rows can't be changed, a frame comes to what is inside only if none of its queries changes a row.
+/// While rows can't be changed, a frame reaches what is inside only if none of its queries changes a row.
 pub fn hindered_servers_keep_rows<S, P, A: Answers<S, P>>()
     ensures { HinderedKeepRows A.answers }
 {}
 
-/// While the memory is full, a frame comes to what is inside only if none of its queries is a put or a build of a view.
+/// While the memory is full, a frame reaches what is inside only if none of its queries is a put or a build of a view.
 pub fn full_servers_grow_nothing<S, P, A: Answers<S, P>>()
     ensures { FullGrowNothing A.answers }
 {}

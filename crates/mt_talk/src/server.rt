@@ -265,7 +265,7 @@ impl Keeper {
         Ok(Some(vec![in self.alloc; response]?))
     }
 
-    // Answers a hello: its secret gives a role, or it is refused.
+    // Answers a hello: its secret grants a role, or it is refused.
     fn greet(
         &mut self,
         queries: &[Query],

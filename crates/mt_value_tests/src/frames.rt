@@ -141,7 +141,7 @@ fn answer(alloc: Global, responses: &[Response], frame: &[u8]) -> Result<bool, F
     )
 }
 
-// Whether a decoder that is fed byte by byte gives a frame of version 1 at its last byte, and none before.
+// Whether a decoder that is fed byte by byte returns a frame of version 1 at its last byte, and none before.
 fn ask_by_bytes(alloc: Global, queries: &[Query], frame: &[u8]) -> Result<bool, Fail> {
     let mut decoder = Decoder::new(alloc);
     for byte in frame {

@@ -206,7 +206,7 @@ number_exact w limit wide = record {
   again = number_again w limit wide;
 }
 
--- ---- bytes behind their length
+-- ---- bytes after their length
 
 key_takes : (bytes : List ℕ) (x : List ℕ × List ℕ) → IsBytes bytes → key_at bytes ≡ Some x → Takes bytes (key_spelling x.0) x.1 × KeyFits x.0
 unfolding key_at

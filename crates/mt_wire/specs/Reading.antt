@@ -21,7 +21,7 @@ abbrev pub ◌>>=◌ : {A B : Type 0} → Option A → (A → Option B) → Opti
 (Some x) >>= f = f x
 None >>= f = None
 
--- What a call returned, seen by view, is what reading gives, unless memory ran out.
+-- What a call returned, seen by view, is what was read, unless memory ran out.
 abbrev pub Fails : {Y : Type 0} → ReadError → Option Y → Type 0
 Fails errors.NoMemory read = Unit {0}
 Fails errors.Misspelled read = read ≡ None
@@ -90,7 +90,7 @@ counted16_at item bytes = do
   n ← number_at w16 bytes
   times_at item n.0 n.1
 
--- a byte that tells the kind, and what comes after it
+-- a byte that says the kind, and what comes after it
 unfoldable pub kind_at : {A : Type 0} → (ℕ → Reader A) → Reader A
 kind_at rest_at bytes = do
   kind ← byte_at bytes

@@ -11,7 +11,7 @@ version_byte One = 1
 version_byte Two = 2
 version_byte Three = 3
 
--- the version that a byte tells
+-- the version that a byte says
 abbrev pub version_of : ℕ → Option WireVersion
 version_of byte = if byte == 1 then Some One else if byte == 2 then Some Two else if byte == 3 then Some Three else None
 

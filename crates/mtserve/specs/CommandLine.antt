@@ -28,7 +28,7 @@ with_socket_rules app =
 abbrev pub text_rule : List ℕ → Rule
 text_rule name = record (new_rule name) { long = Some name; value_names = 1 }
 
--- the options of who reaches the server, and may ask what
+-- the options that say which clients reach the server, and what they may ask
 abbrev pub with_access_rules : App → App
 with_access_rules app =
     with_rule

@@ -21,7 +21,7 @@ The status is 0; 2 for a bad command line; 3 if listening, a thread, a wait or t
 refused at the start, if the rows of the folder can't be read or the last commits not be written, or if the counts at the
 end don't add up.";
 
-/// The number of sessions that stands for no end. `--sessions` takes less.
+/// The number of sessions that means no end. `--sessions` takes less.
 pub const WITHOUT_END: u64 = 65_536;
 
 /// What is to be served, and how.
@@ -88,7 +88,7 @@ fn text_option<'a>(alloc: Global, name: &'a str, value: &'a str, help: &'a str) 
         .help(help)
 }
 
-// The options of who reaches the server, and may ask what.
+// The options that say which clients reach the server, and what they may ask.
 fn access_options<'a>(command: Command<'a>, alloc: Global) -> Result<Command<'a>, AllocError>
     ensures { IfOk result (λ r. app_of r ≡ with_access_rules (app_of command.entry)) }
 {

@@ -38,7 +38,7 @@ abbrev pub page_refusal : MachineView → ℕ → ℕ → List ℕ → ℕ → O
 page_refusal s view floor start limit =
     option_or (page_fault start limit) (state_refusal (state_at view s.views.views) floor)
 
--- ---- what is right, at each history at which the machine stands
+-- ---- what is right, at each history at which the machine is
 -- the row of a key in the plain map of the rows, as it is shown
 abbrev pub IsPlainRow : MachineView → List ℕ → List ℕ → Option RowValue → Type 0
 IsPlainRow s key asked row = (h : History) → Stands s h

@@ -17,7 +17,7 @@ pub trait Store: Sized {
     /// The row of a key, as a get returns it.
     type Row;
 
-    /// An empty one, with so many views of four at most.
+    /// An empty one, which keeps up this number of views, at most four.
     fn open(views: usize) -> Outcome<Self>;
 
     /// Puts a row of one column.
