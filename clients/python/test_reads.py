@@ -212,7 +212,7 @@ class ReadTest(unittest.TestCase):
 
     def test_a_pipeline(self) -> None:
         index = self.index
-        with index.pipeline() as pipeline:
+        with self.assertRaises(BadLimit), index.pipeline() as pipeline:
             put, rows = pipeline.put(b"a", b"v"), pipeline.get_many([b"b", b"a"], [0])
             last, count = pipeline.last(b"b", 5, [1]), pipeline.count(b"a", b"b", 9)
             many, far = pipeline.count(most=MAX_COUNT + 1), pipeline.last()

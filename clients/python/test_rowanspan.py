@@ -237,11 +237,23 @@ class PipelineTest(unittest.TestCase):
         self.assertIsInstance(dropped, NoSuchView)
 
     def test_a_refused_build(self) -> None:
-        with self.index.pipeline() as pipeline:
+        with self.assertRaises(rowanspan.BadRange), self.index.pipeline() as pipeline:
             built, put = pipeline.build(Range(b"b", b"a")), pipeline.put(b"a", b"v")
         self.assertEqual(put.value, 1)
         with self.assertRaises(rowanspan.BadRange):
             built.value
+
+    def test_the_first_refusal(self) -> None:
+        """The end of the block raises the first refusal, when all queries have their answers."""
+        self.index.put(b"a", b"v")
+        with self.assertRaises(OtherVersion) as met, self.index.pipeline() as pipeline:
+            asked = [pipeline.put(b"b", b"v"), pipeline.put_if(b"a", b"w", 0), pipeline.first(limit=0),
+                     pipeline.put(b"c", b"v")]
+        self.assertEqual(met.exception.detail, 1)
+        self.assertEqual([asked[0].value, asked[3].value, len(pipeline)], [2, 3, 0])
+        for pending, kind in ((asked[1], OtherVersion), (asked[2], rowanspan.BadLimit)):
+            with self.assertRaises(kind):
+                pending.value
 
     def test_wrong_arguments(self) -> None:
         pipeline: Any = self.index.pipeline()

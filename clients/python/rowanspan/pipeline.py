@@ -62,8 +62,9 @@ class Pipeline:
         print(color.value)
 
     Each method adds a query, and returns its `Pending`. At the end of the `with` block the queries are sent, unless an
-    exception left it. The server does them one after another. A query that is refused doesn't stop the others. Other
-    clients' queries may come in between.
+    exception left it. The server does them one after another. A query that is refused doesn't stop the others: when
+    each `Pending` has its answer, the end of the block raises the first refusal. `send` raises none, but returns them.
+    Other clients' queries may come in between.
     """
 
     def __init__(self, index: Asker) -> None:
@@ -84,7 +85,9 @@ class Pipeline:
 
     def __exit__(self, kind: Optional[Type[BaseException]], *_: object) -> None:
         if kind is None:
-            self.send()
+            for value in self.send():
+                if isinstance(value, Refused):
+                    raise value
 
     # -- queries
 
