@@ -56,14 +56,14 @@
  *     `room` bytes, and sets *length to the length of the answer in bytes. If the answer doesn't fit, the call writes
  *     nothing to the buffer and returns NO_ROOM, and *length is the length that is needed: call again with as much
  *     room. A call never writes more than the answer. struct rowanspan_reader, at the end of this file, reads answers.
- *     A buffer must not overlap any other argument. A pointer to bytes, columns or sets may be null if their number is
- *     0, and `into` may be null: there is then no room.
+ *     A buffer must not overlap any other argument. A pointer to bytes, columns, sets or keys may be null if their
+ *     number is 0, and `into` may be null: there is then no room.
  *
  * LIMITS
  *     A key has up to 1,024 bytes (ROWANSPAN_MAX_KEY_BYTES). Keys are ordered by their bytes, and a key comes before
  *     those that it is a prefix of. An index has 1 to 16 columns (ROWANSPAN_MAX_COLUMNS) of up to 64 bytes
- *     (ROWANSPAN_MAX_COLUMN_BYTES). A call returns up to 1000 rows or deltas. An index has up to 64 views, and up to
- *     1,048,576 nodes of up to 15 keys.
+ *     (ROWANSPAN_MAX_COLUMN_BYTES). A call returns up to 1000 rows or deltas, and takes up to 1000 keys. An index
+ *     has up to 64 views, and up to 1,048,576 nodes of up to 15 keys.
  *
  * MEMORY
  *     The library copies the keys, columns and tests that it is passed: they stay the caller's. A call that stores or
@@ -142,6 +142,13 @@ const char *rowanspan_version(void);
 
 /* An index. */
 typedef struct rowanspan rowanspan;
+
+/* One of the keys that a call is passed, or bytes in an answer. Make a key with rowanspan_bytes: `at` must not be
+ * null. */
+struct rowanspan_bytes {
+    const uint8_t *at;
+    size_t length;
+};
 
 /* New bytes for a column. Make it with rowanspan_set: `at` must not be null. */
 struct rowanspan_set {
@@ -242,6 +249,19 @@ rowanspan_status rowanspan_get(const rowanspan *index, const void *key, size_t k
  * BAD_COLUMN, and never with NO_MEMORY. Unless it returns OK the buffer is as it was. */
 rowanspan_status rowanspan_get_column(const rowanspan *index, const void *key, size_t key_length, uint8_t column,
                                       void *into, size_t room, uint64_t *length);
+
+/* rowanspan_get_many: writes the rows of `count` keys (up to 1000) to the buffer, in the order of the keys. A key may
+ * be there more than once, and may have no row. The answer is read by rowanspan_read_count, and then by
+ * rowanspan_read_maybe_row for each key. The columns and *length are as of rowanspan_get.
+ *
+ * Cost: that of a get of each key, and memory for the answer, which is freed before the call returns.
+ *
+ * Returns OK, also if there are no keys or no rows. Returns NO_ROOM if the answer doesn't fit. Fails with KEY_TOO_LONG,
+ * for any of the keys, BAD_COLUMN, BAD_LIMIT if there are more than 1000 keys, or NO_MEMORY. Unless it returns OK the
+ * buffer is as it was. */
+rowanspan_status rowanspan_get_many(const rowanspan *index, const struct rowanspan_bytes *keys, size_t count,
+                                    const uint8_t *columns, size_t column_count, void *into, size_t room,
+                                    uint64_t *length);
 
 /* rowanspan_range: writes the first rows from a key on to the buffer, in the order of their keys, at most `limit` (1 to
  * 1000). The answer is read by rowanspan_read_count, and then by rowanspan_read_pair for each row. The columns and
@@ -465,6 +485,15 @@ static inline const uint8_t *rowanspan_bytes_at(const void *at) {
     return at ? (const uint8_t *)at : none;
 }
 
+/* rowanspan_bytes: a key of `length` bytes at `at`, which may be null if `length` is 0. It doesn't copy them: the
+ * caller keeps them unchanged until the call that is passed the key has returned. */
+static inline struct rowanspan_bytes rowanspan_bytes(const void *at, size_t length) {
+    struct rowanspan_bytes bytes;
+    bytes.at = rowanspan_bytes_at(at);
+    bytes.length = length;
+    return bytes;
+}
+
 /* rowanspan_set: sets a column to `length` bytes at `at`. It doesn't copy them: the caller keeps them unchanged until
  * the put has returned. */
 static inline struct rowanspan_set rowanspan_set(uint8_t column, const void *at, size_t length) {
@@ -517,12 +546,6 @@ struct rowanspan_reader {
     const uint8_t *at;
     size_t left;
     bool is_short;
-};
-
-/* Bytes in an answer. */
-struct rowanspan_bytes {
-    const uint8_t *at;
-    size_t length;
 };
 
 /* A row in an answer: rowanspan_read_bytes of `columns` returns one column after the other. */
@@ -678,6 +701,8 @@ static inline struct rowanspan_page rowanspan_read_page(struct rowanspan_reader 
     return page;
 }
 
+/* rowanspan_read_maybe_row: a row that may be absent, as rowanspan_get_many and deltas have it. It returns whether
+ * there is a row. If there is none, *row has version 0 and no columns. */
 static inline bool rowanspan_read_maybe_row(struct rowanspan_reader *reader, struct rowanspan_row *row) {
     bool is_there = rowanspan_read_number(reader) != 0;
     row->version = 0;

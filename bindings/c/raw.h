@@ -27,6 +27,9 @@ uint16_t rowanspan_raw_remove(raw_handle handle, const uint8_t *key, size_t key_
 uint16_t rowanspan_raw_tidy(raw_handle handle, const uint8_t *key, size_t key_length, uint64_t *told);
 uint16_t rowanspan_raw_get(raw_handle handle, const uint8_t *key, size_t key_length, const uint8_t *columns,
                            size_t column_count, uint8_t *into, size_t room, uint64_t *told);
+uint16_t rowanspan_raw_get_many(raw_handle handle, const struct rowanspan_bytes *keys, size_t count,
+                                const uint8_t *columns, size_t column_count, uint8_t *into, size_t room,
+                                uint64_t *told);
 uint16_t rowanspan_raw_range(raw_handle handle, const uint8_t *start, size_t start_length, uint16_t limit,
                              const uint8_t *columns, size_t column_count, uint8_t *into, size_t room, uint64_t *told);
 uint16_t rowanspan_raw_range_back(raw_handle handle, bool bounded, const uint8_t *before, size_t before_length,

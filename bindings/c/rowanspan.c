@@ -24,6 +24,11 @@ static const struct rowanspan_set *sets_at(const struct rowanspan_set *sets) {
     return sets ? sets : &none;
 }
 
+static const struct rowanspan_bytes *keys_at(const struct rowanspan_bytes *keys) {
+    static const struct rowanspan_bytes none = {NULL, 0};
+    return keys ? keys : &none;
+}
+
 /* ---- the index */
 
 rowanspan_status rowanspan_open(rowanspan **index, uint64_t columns, uint64_t log_capacity, uint64_t log_retention) {
@@ -117,6 +122,16 @@ rowanspan_status rowanspan_get_column(const rowanspan *index, const void *key, s
     reader = rowanspan_reader(answer, *number);
     row = rowanspan_read_row(&reader);
     return write_bytes(rowanspan_read_bytes(&row.columns), into, room, number);
+}
+
+rowanspan_status rowanspan_get_many(const rowanspan *index, const struct rowanspan_bytes *keys, size_t count,
+                                    const uint8_t *columns, size_t column_count, void *into, size_t room,
+                                    uint64_t *length) {
+    uint64_t unread;
+    uint8_t none[1] = {0};
+    return (rowanspan_status)rowanspan_raw_get_many(raw_of(index), keys_at(keys), count, rowanspan_bytes_at(columns),
+                                                    column_count, into ? into : none, into ? room : 0,
+                                                    length ? length : &unread);
 }
 
 rowanspan_status rowanspan_range(const rowanspan *index, const void *start, size_t start_length, uint16_t limit,

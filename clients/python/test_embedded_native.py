@@ -81,6 +81,9 @@ CALLS: List[Tuple[str, Sequence[Any]]] = [
     *[("last", (stop, limit, columns)) for stop in (None, b"", b"b", Key(b"b"), bytearray(b"c"), bytes(1025), 5)
       for limit in (0, 1, 1000, 1001, 65535, 65536, -1, 2 ** 70, True, Number(2), "1", None)
       for columns in (None, [1], (2,), "0")],
+    *[("get_many", (keys, columns)) for keys in ((), [b"a"], [Key(b"b"), b"a", bytearray(b"c")], [b"a", bytes(1025)],
+                                                 [b"a"] * 1000, [b"a"] * 1001, ["a"], b"a", None)
+      for columns in (None, (), [1, 0], (2,), (256,), 0)],
     *[("count", (start, stop)) for start in (b"", b"b", Key(b"b"), bytearray(b"c"), bytes(1025), "a", None)
       for stop in (None, b"", b"b", Key(b"c"), bytearray(b"c"), bytes(1025), 5)],
     *[("_page", (number, floor, start, limit)) for number in (1, 2, 0, -1, 2 ** 64, True, "1")

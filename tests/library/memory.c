@@ -27,7 +27,7 @@ static bool is_same(const struct shown *a, const struct shown *b) {
         && memcmp(a->rows, b->rows, sizeof a->rows) == 0 && memcmp(a->page, b->page, sizeof a->page) == 0;
 }
 
-enum { KINDS = 13 };
+enum { KINDS = 14 };
 
 /* A count of rows in two layers. */
 static rowanspan_status count_rows(const rowanspan *index, uint64_t *number) {
@@ -36,6 +36,12 @@ static rowanspan_status count_rows(const rowanspan *index, uint64_t *number) {
     *number = count;
     WANT(status != ROWANSPAN_OK || count == 10);
     return status;
+}
+
+/* The rows of three keys, of which one has none. */
+static rowanspan_status get_rows(const rowanspan *index, uint8_t *room, size_t size, uint64_t *number) {
+    struct rowanspan_bytes keys[] = {rowanspan_bytes("k03", 3), rowanspan_bytes("", 0), rowanspan_bytes("k05", 3)};
+    return rowanspan_get_many(index, keys, 3, NULL, 0, room, size, number);
 }
 
 /* A call of each kind that allocates. The keys continue in new layers, and nodes are full. */
@@ -55,6 +61,7 @@ static rowanspan_status call_of(rowanspan *index, int kind, uint64_t view, uint8
     case 9: return rowanspan_get_column(index, "k03", 3, 0, room, size, number);
     case 10: return rowanspan_range_back(index, "k09", 3, 5, NULL, 0, room, size, number);
     case 11: return count_rows(index, number);
+    case 12: return get_rows(index, room, size, number);
     default: return rowanspan_apply(index, view, number);
     }
 }

@@ -128,6 +128,21 @@ def counts() -> None:
         assert 2 < refusals < 1999, refusals
 
 
+def gets_of_many() -> None:
+    """Rows of many keys, while memory ends in the call: it returns them all, or is refused."""
+    with Index() as index:
+        library, refusals = wanting(index), 0
+        rows = [Row(index.put(b"%06d" % number, b"v"), (b"v",)) for number in range(1000)]
+        for allowed in range(2000):
+            library.allowed = {"get_many": allowed}
+            try:
+                assert index.get_many([b"%06d" % number for number in range(-1, 999)]) == [None, *rows[:-1]]
+                break
+            except NoMemory:
+                refusals += 1
+        assert 2 < refusals < 1999, refusals
+
+
 def wanted(allowed: int, call: Callable[[], Any]) -> Any:
     """What a call of the extension module returns if memory ends after a number of allocations."""
     PRELOADED.memory_ends_after(allowed)
@@ -177,7 +192,7 @@ def calls_of_the_module() -> None:
         assert dict(index.range()) == plain and view.page(index.commits()).count == len(plain)
 
 
-CASES = (puts, builds, reads_back, counts, calls_of_the_module)
+CASES = (puts, builds, reads_back, counts, gets_of_many, calls_of_the_module)
 
 
 def main() -> int:

@@ -96,6 +96,10 @@ impl<'a> Reader<'a> {
         (self.number() != 0).then(|| self.row())
     }
 
+    pub(crate) fn maybe_rows(&mut self) -> Vec<Option<Row>> {
+        self.list(Reader::maybe_row)
+    }
+
     fn pair(&mut self) -> (Vec<u8>, Row) {
         (self.bytes(), self.row())
     }

@@ -37,8 +37,17 @@ pub(crate) fn answer<T>(
     ask: impl Fn(&mut [u8]) -> (u32, u64),
     read: impl FnOnce(Reader<'_>) -> T,
 ) -> Result<Option<T>, Error> {
-    let mut room = [0; ROOM_ON_STACK];
-    let (status, number) = ask(&mut room);
+    answer_in(&mut [0; ROOM_ON_STACK], ask, read)
+}
+
+/// What is read of an answer for which there is this room at first, or none if a key has no row. If it is too small, it
+/// asks again, with room on the heap.
+pub(crate) fn answer_in<T>(
+    room: &mut [u8],
+    ask: impl Fn(&mut [u8]) -> (u32, u64),
+    read: impl FnOnce(Reader<'_>) -> T,
+) -> Result<Option<T>, Error> {
+    let (status, number) = ask(room);
     if status != NO_ROOM {
         return Ok(length(status, number)?.map(|count| read(Reader::new(&room[..count]))));
     }

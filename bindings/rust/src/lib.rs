@@ -32,6 +32,7 @@ mod calls;
 mod counts;
 mod error;
 mod index;
+mod many;
 mod options;
 mod range;
 #[allow(unsafe_code)]

@@ -30,6 +30,24 @@ impl<'a> ColumnSet<'a> {
     }
 }
 
+/// A key, as the library takes many of them.
+#[repr(C)]
+pub(crate) struct KeyBytes<'a> {
+    at: *const u8,
+    length: usize,
+    bytes: PhantomData<&'a [u8]>,
+}
+
+impl<'a> KeyBytes<'a> {
+    pub(crate) fn new(bytes: &'a [u8]) -> KeyBytes<'a> {
+        KeyBytes {
+            at: bytes.as_ptr(),
+            length: bytes.len(),
+            bytes: PhantomData,
+        }
+    }
+}
+
 /// A test of rows, as the library takes it.
 #[repr(C)]
 pub(crate) struct ViewTest<'a> {
@@ -100,6 +118,8 @@ extern "C" {
                      into: *mut u8, room: usize, length: Number) -> c_uint;
     fn rowanspan_get_column(index: Handle, key: *const u8, key_length: usize, column: u8, into: *mut u8, room: usize,
                             length: Number) -> c_uint;
+    fn rowanspan_get_many(index: Handle, keys: *const KeyBytes<'_>, count: usize, columns: *const u8,
+                          column_count: usize, into: *mut u8, room: usize, length: Number) -> c_uint;
     fn rowanspan_range(index: Handle, start: *const u8, start_length: usize, limit: u16, columns: *const u8,
                        column_count: usize, into: *mut u8, room: usize, length: Number) -> c_uint;
     fn rowanspan_range_back(index: Handle, before: *const u8, before_length: usize, limit: u16, columns: *const u8,
@@ -205,6 +225,11 @@ impl Library {
 
     pub(crate) fn get_column(&self, key: &[u8], column: u8, into: &mut [u8]) -> (u32, u64) {
         answered!(self, rowanspan_get_column, key.as_ptr(), key.len(), column, into.as_mut_ptr(), into.len())
+    }
+
+    pub(crate) fn get_many(&self, keys: &[KeyBytes<'_>], columns: &[u8], into: &mut [u8]) -> (u32, u64) {
+        answered!(self, rowanspan_get_many, keys.as_ptr(), keys.len(), columns.as_ptr(), columns.len(),
+                  into.as_mut_ptr(), into.len())
     }
 
     pub(crate) fn range(&self, start: &[u8], limit: u16, columns: &[u8], into: &mut [u8]) -> (u32, u64) {

@@ -47,6 +47,9 @@ class Reader:
     def maybe_row(self) -> Optional[Row]:
         return self.row() if self.number() else None
 
+    def maybe_rows(self) -> List[Optional[Row]]:
+        return self.items(self.maybe_row)
+
     def pair(self) -> Tuple[bytes, Row]:
         key = self.string()
         return key, self.row()
@@ -80,6 +83,10 @@ class Handle(ctypes.Structure):
     _fields_ = [("at", ctypes.c_void_p), ("is_open", ctypes.c_bool)]
 
 
+class KeyBytes(ctypes.Structure):
+    _fields_ = [("at", ctypes.c_char_p), ("length", ctypes.c_size_t)]
+
+
 class ColumnSet(ctypes.Structure):
     _fields_ = [("column", ctypes.c_uint8), ("at", ctypes.c_char_p), ("length", ctypes.c_size_t)]
 
@@ -104,6 +111,7 @@ PARAMETERS: Dict[str, List[Any]] = {
     "remove": BYTES,
     "tidy": BYTES,
     "get": [*BYTES, *BYTES, *ROOM],
+    "get_many": [ctypes.POINTER(KeyBytes), ctypes.c_size_t, *BYTES, *ROOM],
     "range": [*BYTES, U16, *BYTES, *ROOM],
     "range_back": [ctypes.c_bool, *BYTES, U16, *BYTES, *ROOM],
     "count": [*BYTES, ctypes.c_bool, *BYTES, U32],
@@ -160,6 +168,12 @@ def spelled(value: Any, what: str) -> Tuple[bytes, int]:
     """Bytes and their length, as the library takes them."""
     checked = checked_bytes(value, what)
     return checked, len(checked)
+
+
+def many_keys(keys: Sequence[bytes]) -> Tuple[Any, int]:
+    """Keys, as the library takes them, and how many they are."""
+    listed = [KeyBytes(key, len(key)) for key in keys]
+    return (KeyBytes * max(1, len(listed)))(*listed), len(listed)
 
 
 def column_numbers(columns: Optional[Sequence[int]]) -> Tuple[bytes, int]:

@@ -1,5 +1,6 @@
 pub mod Kept
 pub mod Tests
+pub mod Keys
 pub mod Spelling
 pub mod Questions
 pub mod Told

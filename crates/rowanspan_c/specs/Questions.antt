@@ -18,11 +18,12 @@ use Rattle.mt_view.specs.State.{StateView}
 use Rattle.mt_view.specs.Views.{state_at}
 use Rattle.mt_index.specs.Stands.{MachineView, Stands, ReadsView}
 use Rattle.mt_index.specs.Feed.{feed_fault}
-use Rattle.mt_reads.specs.Counts.{count_fault, count_of}
+use Rattle.mt_reads.specs.Counts.{count_fault, count_of, gets_fault, rows_of}
 use Rattle.mt_reads.specs.Ranges.{IsRangeBack, back_fault}
 use Rattle.rowanspan_c.specs.declared.reading.Question.{Question}
-use Rattle.rowanspan_c.specs.declared.reading.Question.TheVariants.{Rows, RowsBack, Page, Deltas}
-use Rattle.rowanspan_c.specs.Spelling.{row_spelling, pairs_spelling, totals_spelling, page_spelling, deltas_spelling}
+use Rattle.rowanspan_c.specs.declared.reading.Question.TheVariants.{Rows, RowsBack, Many, Page, Deltas}
+use Rattle.rowanspan_c.specs.Keys.{keys_of}
+use Rattle.rowanspan_c.specs.Spelling.{row_spelling, found_spelling, pairs_spelling, totals_spelling, page_spelling, deltas_spelling}
 
 -- THE CAUSE OF A REFUSAL: the fault if there is one, and out of memory only if there is none
 abbrev pub IsCausedBy : Option Refusal → Refusal → Type 0
@@ -86,6 +87,13 @@ CountsTo s start end most (Ok count) =
     × (count_fault start end ≡ None)
 CountsTo s start end most (Err refusal) = IsCausedBy (count_fault start end) refusal
 
+-- the rows of many keys, in their order, each of which may be absent
+abbrev pub ReadsMany : MachineView → List (List ℕ) → List ℕ → Result (Option (List ℕ)) Refusal → Type 0
+ReadsMany s keys asked (Ok bytes) =
+    ((h : History) → Stands s h → bytes ≡ Some (found_spelling (rows_of (rows s.columns (moment h)) asked keys)))
+    × (gets_fault s.columns keys asked ≡ None)
+ReadsMany s keys asked (Err refusal) = IsCausedBy (gets_fault s.columns keys asked) refusal
+
 abbrev pub ReadsPage : MachineView → ℕ → ℕ → List ℕ → ℕ → Result (Option (List ℕ)) Refusal → Type 0
 ReadsPage s view floor start limit (Ok bytes) =
     (page : PageValue) × ReadsView s view floor start limit (View page) × (bytes ≡ Some (page_spelling page))
@@ -107,5 +115,6 @@ ReadsDeltas s from limit (Err refusal) = IsCausedBy (feed_fault s.log from limit
 abbrev pub IsAnswer : MachineView → Question → Result (Option (List ℕ)) Refusal → Type 0
 IsAnswer s (Rows start limit columns) read = ReadsRows s start.now limit columns.now read
 IsAnswer s (RowsBack before limit columns) read = ReadsRowsBack s (option_copied before) limit columns.now read
+IsAnswer s (Many keys columns) read = ReadsMany s (keys_of keys.now) columns.now read
 IsAnswer s (Page view floor start limit) read = ReadsPage s view.0 floor start.now limit read
 IsAnswer s (Deltas from limit) read = ReadsDeltas s from limit read

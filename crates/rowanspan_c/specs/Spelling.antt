@@ -45,6 +45,10 @@ abbrev pub maybe_spelling : Option Row → List ℕ
 maybe_spelling None = number_spelling 0
 maybe_spelling (Some row) = number_spelling 1 ++ row_spelling row
 
+-- rows each of which may be absent
+abbrev pub found_spelling : List (Option Row) → List ℕ
+found_spelling found = list_spelling maybe_spelling found
+
 -- a delta: the number of its commit, its key, the row before and the row after
 abbrev pub delta_spelling : Delta → List ℕ
 delta_spelling delta =

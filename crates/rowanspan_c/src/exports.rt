@@ -10,10 +10,12 @@ ghost use Rattle.mt_commit.specs.Log.{newest};
 ghost use Rattle.mt_arena.specs.Node.{occupied};
 ghost use Rattle.mt_asked.specs.Borrowed.{sets_of};
 ghost use Rattle.mt_reads.specs.Back.{bound_of};
-ghost use Rattle.rowanspan_c.specs.Questions.{ReadsRow, ReadsRows, ReadsRowsBack, ReadsDeltas};
+ghost use Rattle.rowanspan_c.specs.Questions.{ReadsRow, ReadsRows, ReadsRowsBack, ReadsMany, ReadsDeltas};
+ghost use Rattle.rowanspan_c.specs.Keys.{keys_of};
 ghost use Rattle.rowanspan_c.specs.Calls.{Opens, Changes, Reads, Meets, Counts, CountsRows, close_status};
 
 use crate::changing::{answer, change, meet};
+use crate::gathering::BorrowedKey;
 use crate::handing::tell_count;
 use crate::handle::{Handle, opened};
 use crate::reading::{Question, count, get};
@@ -145,6 +147,23 @@ pub extern "C" fn rowanspan_raw_get(
     let status = get(&index, key, columns, into, told);
     handle.fill(index);
     status
+}
+
+/// Gets the rows of many keys, each of which may have none.
+#[unsafe(no_mangle)]
+pub extern "C" fn rowanspan_raw_get_many<'a>(
+    handle: &mut Handle,
+    alloc: Global,
+    keys: &[BorrowedKey<'a>],
+    columns: &[u8],
+    into: &mut [u8],
+    told: &mut u64,
+) -> u16
+    ensures rows { Reads handle.old.held (λ index. ReadsMany index.machine (keys_of keys.now) columns.now) into.old into.new
+        result told.new }
+    ensures kept { handle.new.held ≡ handle.old.held }
+{
+    answer(handle, alloc, &Question::Many { keys, columns }, into, told)
 }
 
 /// Gets the first rows whose keys are at or after a key.

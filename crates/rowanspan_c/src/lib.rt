@@ -5,6 +5,7 @@
 
 mod changing;
 mod exports;
+mod gathering;
 mod handing;
 mod handle;
 mod placing;

@@ -17,8 +17,8 @@ use mt_types::refusal::NoMemory;
 use mt_types::row::Row;
 use std::alloc::{AllocError, Global};
 
-// The most room that is made for the bytes of a range before there are any.
-const MOST_ROOM: usize = 1 << 16;
+/// The most room that is made for the bytes of rows before there are any.
+pub(crate) const MOST_ROOM: usize = 1 << 16;
 
 // Writes a key, and its row with the columns that are asked for.
 fn pair(out: &mut Vec<u8>, key: &[u8], row: &Row, asked: &[u8]) -> Result<(), AllocError>

@@ -6,9 +6,11 @@ ghost use Rattle.mt_types.specs.Limits.{request_fault};
 ghost use Rattle.mt_types.specs.declared.event.Request.TheVariants.{Get};
 ghost use Rattle.mt_types.specs.declared.event.Outcome.TheVariants.{View};
 ghost use Rattle.mt_index.specs.Stands.{ReadsView};
-ghost use Rattle.rowanspan_c.specs.Questions.{CountsTo, IsAnswer, IsCausedBy, ReadsRow, ReadsRows, ReadsRowsBack, ReadsPage, ReadsDeltas, page_refusal};
+ghost use Rattle.rowanspan_c.specs.Questions.{CountsTo, IsAnswer, IsCausedBy, ReadsRow, ReadsRows, ReadsRowsBack, ReadsMany, ReadsPage, ReadsDeltas, page_refusal};
+ghost use Rattle.rowanspan_c.specs.Keys.{keys_of};
 ghost use Rattle.rowanspan_c.specs.Told.{TellsRead};
 
+use crate::gathering::{BorrowedKey, found_bytes, gets_fault};
 use crate::handing::{tell_absent, tell_refusal, tell_row};
 use crate::ranging::{range_back_bytes, range_bytes};
 use crate::spelling::{bytes_of, list_bytes_of};
@@ -35,6 +37,11 @@ pub(crate) enum Question<'a> {
     RowsBack {
         before: Option<&'a [u8]>,
         limit: u16,
+        columns: &'a [u8],
+    },
+    /// The rows of these keys, with the columns that are asked for, or with all if none is asked for.
+    Many {
+        keys: &'a [BorrowedKey<'a>],
         columns: &'a [u8],
     },
     /// A page of a view that is at `floor` commits or more.
@@ -126,6 +133,22 @@ fn rows_back(
     Ok(Some(bytes))
 }
 
+fn many(
+    alloc: Global,
+    index: &Map,
+    keys: &[BorrowedKey<'_>],
+    columns: &[u8],
+    room: usize,
+) -> Result<Option<Items<u8>>, Refusal>
+    ensures { ReadsMany index.now.machine (keys_of keys.now) columns.now result }
+{
+    if let Some(refusal) = gets_fault(index.columns(), keys, columns) {
+        return Err(refusal);
+    }
+    let bytes = found_bytes(alloc, index, keys, columns, room)?;
+    Ok(Some(bytes))
+}
+
 fn page_from(
     index: &Map,
     view: ViewNo,
@@ -186,6 +209,7 @@ pub(crate) fn read(
             limit,
             columns,
         } => rows_back(alloc, index, *before, *limit, columns, room),
+        Question::Many { keys, columns } => many(alloc, index, keys, columns, room),
         Question::Page {
             view,
             floor,
