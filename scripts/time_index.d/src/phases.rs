@@ -16,6 +16,7 @@ const LEAST_CALLS: usize = 100_000;
 const RANGES: usize = 1_000;
 const ROWS_OF_RANGE: u16 = 100;
 const ROWS_OF_COUNT: usize = 100;
+const KEYS_AT_ONCE: usize = 64;
 
 // How long calls of one kind took.
 struct Phase {
@@ -80,6 +81,8 @@ struct Plan {
     new: Vec<Put>,
     over: Vec<Put>,
     absent: Vec<Vec<u8>>,
+    // Some of the keys, in lists of KEYS_AT_ONCE.
+    lists: Vec<Vec<Vec<u8>>>,
     starts: Vec<Vec<u8>>,
     spans: Vec<Span>,
 }
@@ -105,16 +108,25 @@ fn spans_of(mut keys: Vec<Vec<u8>>, chance: &mut Chance) -> Vec<Span> {
         .collect()
 }
 
+// Lists of keys by chance, at most RANGES.
+fn lists_of(keys: &[Vec<u8>], chance: &mut Chance) -> Vec<Vec<Vec<u8>>> {
+    let shuffled = chance.shuffled(keys);
+    let lists = shuffled.chunks_exact(KEYS_AT_ONCE.min(keys.len()).max(1));
+    lists.take(RANGES).map(<[_]>::to_vec).collect()
+}
+
 fn plan(kind: Kind, count: usize) -> Plan {
     let (keys, absent) = present_and_absent(kind, count);
     let mut chance = Chance::new(7);
     let shuffled = chance.shuffled(&keys);
+    let lists = lists_of(&keys, &mut Chance::new(13));
     let starts = chance.shuffled(&keys).into_iter().take(RANGES).collect();
     let spans = spans_of(keys.clone(), &mut Chance::new(11));
     Plan {
         new: puts_of(keys, &mut chance),
         over: puts_of(shuffled, &mut chance),
         absent,
+        lists,
         starts,
         spans,
     }
@@ -130,14 +142,22 @@ pub fn all_phases<S: Store>(kind: Kind, count: usize, views: usize) -> Outcome<F
     without_views::<S>(&plan, rounds)
 }
 
-// The reads: gets of keys that are there and of keys that aren't, ranges both ways, and counts.
-fn measure_reads<S: Store>(store: &S, plan: &Plan, reads: &mut [Phase; 5]) -> Outcome<()> {
-    let [get, absent, range, back, counts] = reads;
+// The reads: gets of keys that are there and of keys that aren't, of many keys, ranges both ways, and counts.
+fn measure_reads<S: Store>(store: &S, plan: &Plan, reads: &mut [Phase; 7]) -> Outcome<()> {
+    let [get, absent, each, many, range, back, counts] = reads;
     get.measure(&plan.over, |(key, _)| {
         expect(black_box(store.get(key)?).is_some(), "a get")
     })?;
     absent.measure(&plan.absent, |key| {
         expect(black_box(store.get(key)?).is_none(), "a get")
+    })?;
+    each.measure(&plan.lists, |keys| {
+        let rows = black_box(store.get_each(keys)?);
+        expect(rows.iter().all(Option::is_some), "gets")
+    })?;
+    many.measure(&plan.lists, |keys| {
+        let rows = black_box(store.get_many(keys)?);
+        expect(rows.iter().all(Option::is_some), "gets at once")
     })?;
     range.measure(&plan.starts, |key| {
         let rows = black_box(store.range(key, ROWS_OF_RANGE)?);
@@ -158,6 +178,8 @@ fn without_views<S: Store>(plan: &Plan, rounds: usize) -> Outcome<Figures> {
     let mut reads = [
         "get",
         "get absent",
+        "64 gets",
+        "get_many of 64",
         "range of 100",
         "range back of 100",
         "count of 100",

@@ -26,6 +26,12 @@ pub trait Store: Sized {
     /// A copy of the row of a key.
     fn get(&self, key: &[u8]) -> Outcome<Option<Self::Row>>;
 
+    /// Copies of the rows of many keys, by one call if there is such a call, in one holding of the lock.
+    fn get_many(&self, keys: &[Vec<u8>]) -> Outcome<Vec<Option<Self::Row>>>;
+
+    /// The same by a get of each key, in one holding of the lock.
+    fn get_each(&self, keys: &[Vec<u8>]) -> Outcome<Vec<Option<Self::Row>>>;
+
     /// Copies of the first rows from a key on, with their keys.
     fn range(&self, start: &[u8], limit: u16) -> Outcome<Vec<(Vec<u8>, Self::Row)>>;
 
@@ -85,6 +91,16 @@ impl Store for Indexed {
 
     fn get(&self, key: &[u8]) -> Outcome<Option<rowanspan::Row>> {
         Ok(locked(&self.index).get(key)?)
+    }
+
+    fn get_many(&self, keys: &[Vec<u8>]) -> Outcome<Vec<Option<rowanspan::Row>>> {
+        Ok(locked(&self.index).get_many(keys)?)
+    }
+
+    fn get_each(&self, keys: &[Vec<u8>]) -> Outcome<Vec<Option<rowanspan::Row>>> {
+        let index = locked(&self.index);
+        let rows = keys.iter().map(|key| index.get(key));
+        Ok(rows.collect::<Result<_, _>>()?)
     }
 
     fn range(&self, start: &[u8], limit: u16) -> Outcome<Vec<(Vec<u8>, rowanspan::Row)>> {
@@ -183,6 +199,15 @@ impl Store for Mapped {
 
     fn get(&self, key: &[u8]) -> Outcome<Option<Columns>> {
         Ok(locked(&self.map).rows.get(key).cloned())
+    }
+
+    fn get_many(&self, keys: &[Vec<u8>]) -> Outcome<Vec<Option<Columns>>> {
+        self.get_each(keys)
+    }
+
+    fn get_each(&self, keys: &[Vec<u8>]) -> Outcome<Vec<Option<Columns>>> {
+        let map = locked(&self.map);
+        Ok(keys.iter().map(|key| map.rows.get(key).cloned()).collect())
     }
 
     fn range(&self, start: &[u8], limit: u16) -> Outcome<Vec<(Vec<u8>, Columns)>> {
