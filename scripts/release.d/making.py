@@ -49,7 +49,7 @@ class Packed:
 def sources() -> Dict[str, Path]:
     """The files that are packed as they are, by their paths in the tarball."""
     crate, examples = TOP / "bindings" / "rust", TOP / "examples" / "embedding"
-    rust = [crate / "Cargo.toml", crate / "build.rs", *crate.glob("src/*.rs"), *crate.glob("tests/*.rs")]
+    rust = [crate / "Cargo.toml", crate / "build.rs", *crate.glob("src/*.rs"), *crate.glob("tests/**/*.rs")]
     return {
         **{name: TOP / name for name in LICENCES},
         notices.NAME: THIRD_PARTY,
