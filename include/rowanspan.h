@@ -296,7 +296,7 @@ rowanspan_status rowanspan_range_back(const rowanspan *index, const void *before
  *
  * Cost: a walk, one step for each row that is counted and one more, and memory for the key at which it is, which is
  * freed before the call returns. It copies no row. Threads that share the index by a mutex wait until it returns, which
- * `most` bounds. A view has its count ready (rowanspan_totals).
+ * `most` bounds. The number of all rows is ready (rowanspan_len), and so is the count of a view (rowanspan_totals).
  *
  * Returns OK, also if there are no rows or `most` is 0. Fails with KEY_TOO_LONG, for either key, or NO_MEMORY. */
 rowanspan_status rowanspan_count(const rowanspan *index, const void *start, size_t start_length, const void *end,
@@ -465,11 +465,13 @@ rowanspan_status rowanspan_advance(rowanspan *index, uint64_t *epoch);
 uint64_t rowanspan_collect(rowanspan *index);
 
 /* rowanspan_commits: returns how many commits were made, which is the number of the last one.
+ * rowanspan_len: returns how many rows there are.
  * rowanspan_nodes: returns how many nodes are in use, of at most 1,048,576 nodes.
  * rowanspan_columns: returns how many columns a row has.
  *
  * They cost next to nothing, and don't fail. */
 uint64_t rowanspan_commits(const rowanspan *index);
+uint64_t rowanspan_len(const rowanspan *index);
 uint64_t rowanspan_nodes(const rowanspan *index);
 uint64_t rowanspan_columns(const rowanspan *index);
 

@@ -55,6 +55,7 @@ uint16_t rowanspan_raw_feed(raw_handle handle, uint64_t from, uint16_t limit, ui
 uint16_t rowanspan_raw_advance(raw_handle handle, uint64_t *told);
 uint16_t rowanspan_raw_collect(raw_handle handle, uint64_t *told);
 uint16_t rowanspan_raw_commits(raw_handle handle, uint64_t *told);
+uint16_t rowanspan_raw_len(raw_handle handle, uint64_t *told);
 uint16_t rowanspan_raw_nodes(raw_handle handle, uint64_t *told);
 uint16_t rowanspan_raw_columns(raw_handle handle, uint64_t *told);
 

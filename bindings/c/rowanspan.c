@@ -248,7 +248,7 @@ rowanspan_status rowanspan_advance(rowanspan *index, uint64_t *epoch) {
     return (rowanspan_status)rowanspan_raw_advance(raw_of(index), epoch ? epoch : &unread);
 }
 
-/* (The status of the next four is always OK: an index that is open is closed by rowanspan_close alone.) */
+/* (The status of the next five is always OK: an index that is open is closed by rowanspan_close alone.) */
 
 uint64_t rowanspan_collect(rowanspan *index) {
     uint64_t freed = 0;
@@ -260,6 +260,12 @@ uint64_t rowanspan_commits(const rowanspan *index) {
     uint64_t commits = 0;
     rowanspan_raw_commits(raw_of(index), &commits);
     return commits;
+}
+
+uint64_t rowanspan_len(const rowanspan *index) {
+    uint64_t rows = 0;
+    rowanspan_raw_len(raw_of(index), &rows);
+    return rows;
 }
 
 uint64_t rowanspan_nodes(const rowanspan *index) {

@@ -131,6 +131,15 @@ static PyObject *calls_count(Calls *self, PyObject *arguments) {
     return status == DONE && count < COUNTED_ROWS ? PyLong_FromUnsignedLongLong(count) : undone();
 }
 
+static PyObject *calls_len(Calls *self, PyObject *unused) {
+    uint64_t rows;
+    (void)unused;
+    if (!is_free(&self->lock) || self->library.len(self->handle, &rows) != DONE) {
+        return undone();
+    }
+    return PyLong_FromUnsignedLongLong(rows);
+}
+
 static PyObject *calls_view(Calls *self, PyObject *arguments) {
     struct query query = {.is_of_view = true};
     if (!takes(arguments, 4)) {
@@ -238,6 +247,7 @@ PyMethodDef calls_methods[] = {
     {"range", (PyCFunction)calls_range, METH_VARARGS, "range(start, limit, columns): pairs of a key and its row"},
     {"range_back", (PyCFunction)calls_range_back, METH_VARARGS, "range_back(stop, limit, columns): pairs"},
     {"count", (PyCFunction)calls_count, METH_VARARGS, "count(start, stop, most): how many rows"},
+    {"len", (PyCFunction)calls_len, METH_NOARGS, "len(): how many rows there are"},
     {"view", (PyCFunction)calls_view, METH_VARARGS, "view(number, floor, start, limit): the page"},
     {"totals", (PyCFunction)calls_totals, METH_VARARGS, "totals(number, floor): at, count and sums"},
     {"put", (PyCFunction)calls_put, METH_VARARGS, "put(index, key, sets): the number of the commit"},

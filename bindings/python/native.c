@@ -26,7 +26,7 @@ static bool functions_in(PyObject *addresses, struct functions *library) {
            address_in(addresses, "put_if", &library->put_if) && address_in(addresses, "remove", &library->remove) &&
            address_in(addresses, "range", &library->range) &&
            address_in(addresses, "range_back", &library->range_back) &&
-           address_in(addresses, "count", &library->count) &&
+           address_in(addresses, "count", &library->count) && address_in(addresses, "len", &library->len) &&
            address_in(addresses, "view", &library->view) && address_in(addresses, "totals", &library->totals) &&
            address_in(addresses, "apply", &library->apply);
 }

@@ -1,7 +1,7 @@
 /* native.h: what the files of the extension module rowanspan._native share.
  *
  * The module makes the most frequent calls of an embedded index: get, put, put_if, remove, range, range_back, count,
- * and those of a view. Its type Calls, of which an index has one, calls the library that ctypes has loaded: it is
+ * len, and those of a view. Its type Calls, of which an index has one, calls the library that ctypes has loaded: it is
  * passed the addresses of the library's functions, and of the index's handle. So there is one copy of the library in a
  * process, and an index takes calls of both kinds.
  *
@@ -54,6 +54,7 @@ struct functions {
     __typeof__(rowanspan_raw_range) *range;
     __typeof__(rowanspan_raw_range_back) *range_back;
     __typeof__(rowanspan_raw_count) *count;
+    __typeof__(rowanspan_raw_len) *len;
     __typeof__(rowanspan_raw_view) *view;
     __typeof__(rowanspan_raw_totals) *totals;
     __typeof__(rowanspan_raw_apply) *apply;

@@ -3,6 +3,7 @@ stand-in, and test_embedded.py over the library."""
 from __future__ import annotations
 
 import inspect
+import operator
 from typing import Any, Callable, Iterable, List, Optional, Sequence, Tuple
 
 from rowanspan import (MAX_KEY_BYTES, AtLeast, BadColumn, BadLimit, BadRange, Behind, ColumnTooLong, KeyTooLong,
@@ -55,9 +56,28 @@ class MapCases:
         self.assertEqual(index.get(b"a", None, [1]), Row(1, (b"w",)))
         wrong: Any = index
         for call in (lambda: wrong["a"], lambda: "a" in wrong, lambda: iter(wrong), lambda: wrong[b"a":b"b"],
-                     lambda: len(wrong)):
+                     lambda: reversed(wrong), lambda: list(wrong)):
             with self.assertRaises(TypeError):
                 call()
+
+    def test_len(self) -> None:
+        """A put over a row adds none, and what is refused or finds no row leaves the number as it is."""
+        index = self.index
+        self.assertEqual((len(index), index.remove(b"a"), len(index)), (0, None, 0))
+        self.fill([b"a", b"", b"a" * 20, b"a", b"a" * 20])
+        self.assertEqual(len(index), 3)
+        with self.assertRaises(OtherVersion):
+            index.put_if(b"b", b"", 9)
+        with self.assertRaises(BadColumn):
+            index.put(b"b", {2: b""})
+        self.assertEqual((len(index), index.put_if(b"b", b"", 0), len(index)), (3, 6, 4))
+        calls: List[Tuple[Callable[[], object], int]] = [
+            (lambda: index.remove(b"a"), 3), (lambda: index.remove(b"a"), 3), (lambda: index.pop(b""), 2),
+            (lambda: index.setdefault(b"", b"v"), 3), (lambda: index.setdefault(b"", b"w"), 3),
+            (lambda: index.tidy(b"a"), 3), (lambda: index.build(Prefix(b"")), 3)]
+        for call, count in calls:
+            call()
+            self.assertEqual((len(index), len(list(index.keys()))), (count, count))
 
     def test_get_many(self) -> None:
         index = self.index
@@ -144,6 +164,8 @@ class MapCases:
         rows = [Row(1100 - number, (key, b"")) for number, key in enumerate(keys)]
         self.assertEqual((list(index.items()), list(index.keys()), list(index.values())),
                          (list(zip(keys, rows)), keys, rows))
+        for pairs in (index.items(), index.keys(), index.values(), index.range(), index.build(Prefix(b""))):
+            self.assertEqual(operator.length_hint(pairs, 7), 7)
         index.remove(keys[7])
         self.assertEqual(dict(index.items()), dict(zip(keys[:7] + keys[8:], rows[:7] + rows[8:])))
 

@@ -187,14 +187,22 @@ def pings(start: Start) -> None:
 
 def info(start: Start) -> None:
     with start(OPEN) as port, client(port) as index, client(port) as other:
+        want_same("no rows", (len(index), index.info()["rows"], bool(index)), (0, 0, True))
         other.put(b"a", b"v")
         before = index.info()
         want({"commits", "connections", "connections_all", "queries", "uptime_ms"} <= set(before), f"it has {before}")
-        want_same("commits and connections", (before["commits"], before["connections"]), (1, 2))
+        want_same("numbers", tuple(before[name] for name in ("commits", "rows", "connections")), (1, 1, 2))
         other.put(b"b", b"v")
         after = index.info()
         want(after["queries"] > before["queries"] and after["uptime_ms"] >= before["uptime_ms"], f"{before}, {after}")
-        want_same("commits", after["commits"], 2)
+        want_same("commits and rows", (after["commits"], after["rows"]), (2, 2))
+        # a put over a row adds none, and what is refused or finds no row changes nothing
+        for queries, count in (([Put(b"a", b"w"), PutIf(b"c", b"v", 9)], 2),
+                               ([Put(b"%02d" % (number % 40), b"v") for number in range(64)], 42),
+                               ([Remove(b"a"), Remove(b"a")], 41),
+                               ([Remove(b"%02d" % number) for number in range(40)], 1), ([Remove(b"b")], 0)):
+            other.call_all(queries)
+            want_same(f"the rows after {queries[-1]}", (len(index), index.info()["rows"], len(other)), (count,) * 3)
 
 
 # ---- reads of one moment

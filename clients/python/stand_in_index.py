@@ -64,6 +64,11 @@ class PlainIndex:
         """How many queries were asked."""
         return len(self.asked)
 
+    def commits_and_rows(self) -> Tuple[int, int]:
+        """How many commits and how many rows there are, at one moment."""
+        with self._lock:
+            return self.commits, len(self._rows)
+
     def answer(self, query: Query[Any]) -> bytes:
         with self._changed:
             self.asked.append(query)

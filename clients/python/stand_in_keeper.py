@@ -128,7 +128,8 @@ class Keeper:
             return spelled_refusal(refusal)
 
     def _counts(self) -> Dict[str, int]:
-        return {"commits": self._index.commits, "nodes": 1, "feed_from": self._index.commits,
+        commits, rows = self._index.commits_and_rows()
+        return {"commits": commits, "rows": rows, "nodes": 1, "feed_from": commits,
                 "connections": self.open_connections, "connections_all": len(self.sessions), "turned_away": 0,
                 "frames": self.frames, "queries": self._index.events, "faults": self.faults,
                 "views": len(self._index.listing().views), "input_bytes": self.input_bytes,

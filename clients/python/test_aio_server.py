@@ -33,11 +33,13 @@ class AioServerTest(unittest.TestCase):
             self.assertEqual((await index.ping(), await index.put(b"a", b"v"), await index.ping()), (0, 1, 1))
             view = await index.build(Range(b"a", None, AnyRow()))
             self.assertEqual(await index.views(), [StandingView(view.number, 1, 1, Range(b"a"))])
-            self.assertEqual((await index.info())["commits"], 1)
+            counted = await index.info()
+            self.assertEqual((counted["commits"], counted["rows"], await index.len()), (1, 1, 1))
+            self.assertEqual((await index.remove(b"a"), await index.len(), bool(index)), (2, 0, True))
             greeting = await index.hello()
             self.assertEqual((greeting.role, greeting.commits, greeting.columns), (Role.ALL, 0, 1))
             self.assertIs(await index.hello(), greeting)
-            self.assertEqual(await index.stop(), 1)
+            self.assertEqual(await index.stop(), 2)
             with self.assertRaises(ConnectionLost):
                 for _ in range(100):
                     await index.get(b"a")

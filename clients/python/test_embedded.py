@@ -41,14 +41,14 @@ HERE = Path(__file__).resolve().parent
 
 def rows() -> None:
     with Index() as index:
-        assert index.get(b"apple") is None
-        assert index.put(b"apple", b"red") == 1
+        assert index.get(b"apple") is None and not index
+        assert index.put(b"apple", b"red") == 1 and index
         assert index.get(b"apple") == Row(1, (b"red",))
         assert index.put(b"fig", {0: b""}) == 2
         assert index.first() == [(b"apple", Row(1, (b"red",))), (b"fig", Row(2, (b"",)))]
         assert index.first(b"b", 1) == [(b"fig", Row(2, (b"",)))]
         assert index.remove(b"apple") == 3 and index.remove(b"apple") is None
-        assert index.commits() == 3 and index.columns() == 1 and index.nodes() == 2
+        assert index.commits() == 3 and index.columns() == 1 and index.nodes() == 2 and len(index) == 1
         assert index.tidy(b"apple") is Tidied.NOTHING
         assert index.put(b"\0\0", b"\0") == 4 and index.get(b"\0\0") == Row(4, (b"\0",))
         assert index.put(b"", b"") == 5 and index.first(limit=1) == [(b"", Row(5, (b"",)))]
@@ -75,7 +75,8 @@ def functions_of_the_header() -> None:
     """The functions of the library that the package doesn't use: what can't fail returns its value, the pointer to a
     number may be null, and a get of a column writes its bytes alone."""
     library, size, u64 = ctypes.CDLL(str(built_library())), ctypes.c_size_t, ctypes.c_uint64
-    for name in ("commits", "nodes", "columns", "collect"):
+    names = ("commits", "len", "nodes", "columns", "collect")
+    for name in names:
         getattr(library, f"rowanspan_{name}").restype = u64
     index, length, room = ctypes.c_void_p(), u64(9), ctypes.create_string_buffer(64)
     sets, count = column_sets({1: b"red"})
@@ -85,8 +86,7 @@ def functions_of_the_header() -> None:
         got = library.rowanspan_get_column(index, b"apple", size(5), ctypes.c_uint8(column), room, size(64),
                                            ctypes.byref(length))
         assert (got, room.raw[:length.value]) == (status, wanted)
-    numbers = [getattr(library, f"rowanspan_{name}")(index) for name in ("commits", "nodes", "columns", "collect")]
-    assert numbers == [1, 2, 2, 0]
+    assert [getattr(library, f"rowanspan_{name}")(index) for name in names] == [1, 1, 2, 2, 0]
     library.rowanspan_close(index)
 
 
@@ -202,6 +202,8 @@ def closed() -> None:
     raises(Closed, lambda: index.put(b"a", b""))
     raises(Closed, lambda: index.get(b"a"))
     raises(Closed, index.commits)
+    raises(Closed, lambda: len(index))
+    raises(Closed, lambda: bool(index))
     raises(Closed, lambda: next(index.range()))
     raises(Closed, lambda: index.build(Prefix(b"")))
     raises(Closed, lambda: index.view(1).count)
@@ -231,10 +233,11 @@ def wrong_types() -> None:
 def names_of_the_client() -> None:
     """Each method of a map has the same parameters for the client and here, with the same defaults and a text. Rows,
     views and what is raised are the same classes."""
-    methods = [name for name in vars(RowMap) if not name.startswith("__") or name.endswith(("item__", "contains__"))]
+    methods = [name for name in vars(RowMap)
+               if not name.startswith("__") or name.endswith(("item__", "contains__", "len__"))]
     assert {"get", "get_many", "put", "put_if", "update", "remove", "first", "last", "range", "count", "tidy", "build",
             "view", "pop", "setdefault", "items", "keys", "values", "__getitem__", "__setitem__", "__delitem__",
-            "__contains__"} <= set(methods)
+            "__contains__", "__len__"} <= set(methods)
     for name in [name for name in methods if callable(getattr(RowMap, name))]:
         client, own = getattr(rowanspan.Client, name), getattr(Index, name)
         assert inspect.signature(own) == inspect.signature(client) == inspect.signature(getattr(RowMap, name)), name
@@ -330,6 +333,7 @@ def random_calls() -> None:
         calls = (plain.put_if, *[plain.put] * 3, *[plain.remove] * 2, *[plain.get] * 2, plain.first, plain.page)
         for _ in range(20000):
             plain.chance.choice(calls)(plain.key())
+            assert len(index) == len(plain.rows)
         assert index.commits() == plain.commits > 10000
 
 

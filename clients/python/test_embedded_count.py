@@ -1,5 +1,5 @@
-"""Tests of the count of a range of an embedded index, over the built library: by an index that uses the extension
-module, if it is there, and by ctypes alone. test_embedded.py runs them."""
+"""Tests of the number of rows of an embedded index, and of the count of a range, over the built library: by an index
+that uses the extension module, if it is there, and by ctypes alone. test_embedded.py runs them."""
 from __future__ import annotations
 
 import random
@@ -148,11 +148,20 @@ class CountCases:
             with self.assertRaisesRegex(Closed, "^the index is closed$"):
                 call()
 
-    def test_there_is_no_len(self) -> None:
-        """A length has to cost little: a count doesn't."""
-        index: Any = self.index
-        with self.assertRaises(TypeError):
-            len(index)
+    def test_all_rows(self) -> None:
+        """An index without rows is false. One that is closed is neither true nor false."""
+        index = self.index
+        self.assertEqual((len(index), bool(index)), (0, False))
+        keys = [b"%04d" % number for number in range(1200)]
+        self.fill(keys + keys[::2])
+        self.assertEqual((len(index), bool(index)), (1200, True))
+        for rest, key in reversed([*enumerate(keys)]):
+            index.remove(key)
+            self.assertEqual((len(index), bool(index)), (rest, rest > 0))
+        index.close()
+        for call in (len, bool):
+            with self.assertRaisesRegex(Closed, "^the index is closed$"):
+                call(index)
 
     def test_by_chance(self) -> None:
         """Counts against a sorted list, over keys of 1 to 40 bytes that begin alike, and removes."""
@@ -173,6 +182,7 @@ class CountCases:
             else:
                 index.put(key, b"")
                 keys[at:at + is_there] = [key]
+            self.assertEqual(len(index), len(keys))
             if number % 10 == 0:
                 start, stop = key_by_chance(), key_by_chance()
                 wanted = max(0, bisect_left(keys, stop) - bisect_left(keys, start))
@@ -214,6 +224,7 @@ class CountTest(CountCases, unittest.TestCase):
                 self.assertEqual(self.index.count(*words, most=most), wanted)
                 self.assertEqual(names, [] if is_native and is_by_module else ["count"])
             names.clear()
+        self.assertEqual((len(self.index), bool(self.index), names), (257, True, [] if is_native else ["len"] * 2))
 
     def test_out_of_memory(self) -> None:
         self.fill([b"a", b"b"])
@@ -235,7 +246,7 @@ class CountTest(CountCases, unittest.TestCase):
                         self.index.put(own + b"%04d" % number, b"")
                         self.index.put(own + b"%04d+" % number, b"")
                     self.assertEqual(self.index.count(prefix=own), 2 * (number + 1))
-                    self.assertEqual(self.index.count() % 2, 0)
+                    self.assertEqual((self.index.count() % 2, len(self.index) % 2), (0, 0))
             except BaseException as fault:
                 raised.append(fault)
 
@@ -244,7 +255,7 @@ class CountTest(CountCases, unittest.TestCase):
             thread.start()
         for thread in threads:
             thread.join(SECONDS)
-        self.assertEqual((raised, self.index.count()), ([], 2400))
+        self.assertEqual((raised, self.index.count(), len(self.index)), ([], 2400, 2400))
 
 
 class CountByCtypesTest(CountCases, unittest.TestCase):

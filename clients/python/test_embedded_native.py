@@ -39,7 +39,7 @@ def calls(index, view, times):
         if number % 10 == 0:
             index.remove(key), index.remove(key), index.first(key, 20), list(index.range(prefix=b"0000"))
             index.last(key, 20), index.last(), list(index.range(prefix=b"0000", reverse=True))
-            index.count(key, most=20), index.count(prefix=b"0000"), index.count()
+            index.count(key, most=20), index.count(prefix=b"0000"), index.count(), len(index), bool(index)
 with Index(columns=2) as index:
     view = index.build(Prefix(b""))
     calls(index, view, 20000)
@@ -91,7 +91,7 @@ CALLS: List[Tuple[str, Sequence[Any]]] = [
       for limit in (1, 1000, 0, "1")],
     *[("_totals", (number, floor)) for number in (1, 2, 0, -1, 2 ** 64, True, Number(1), "1", None)
       for floor in (0, 5, 2 ** 64 - 1, 2 ** 64, Number(3), -1, "0")],
-    *[("remove", (key,)) for key in (b"a", b"a", Key(b"b"), bytearray(b"c"), bytes(1025), "a", None)],
+    *[("remove", (key,)) for key in (b"a", b"a", Key(b"b"), bytearray(b"c"), bytes(1025), "a", None)], ("__len__", ()),
 ]
 
 
@@ -206,7 +206,7 @@ class NativeTest(unittest.TestCase):
         self.assertTrue(held.wait(SECONDS))
         for call in (lambda: self.index._native.get(b"a", None), lambda: self.index._native.range(b"", 1, None),
                      lambda: self.index._native.range_back(None, 1, None),
-                     lambda: self.index._native.count(b"", None, 1),
+                     lambda: self.index._native.count(b"", None, 1), self.index._native.len,
                      lambda: self.index._native.put(self.index, b"a", b"w"), lambda: self.index._native.totals(1, 0)):
             self.assertIs(call(), NotImplemented)
         before = signal.signal(signal.SIGALRM, handler)
@@ -238,7 +238,7 @@ class NativeTest(unittest.TestCase):
         index: Any = self.index
         made, calls = type(index._native), index._native
         for call in (calls.get, lambda: calls.get(b"a"), lambda: calls.range(b"", 1), lambda: calls.view(1),
-                     lambda: calls.range_back(b"", 1), lambda: calls.count(b"", None),
+                     lambda: calls.range_back(b"", 1), lambda: calls.count(b"", None), lambda: calls.len(1),
                      lambda: calls.put(b"a", b"v"), lambda: calls.totals(), lambda: calls.remove(b"a"),
                      lambda: calls.put_if(b"a", b"v", 0), made, lambda: made(handle=1)):
             with self.assertRaises(TypeError):

@@ -57,6 +57,27 @@ class ClientMapTest(MapCases, unittest.TestCase):
         self.assertEqual([(query.limit, tuple(query.columns)) for query in ranges],
                          [(1000, (0,))] * 2 + [(1000, ())] * 2)
 
+    def test_what_a_length_asks(self) -> None:
+        """One query of the server. Whether a client is true asks nothing, and a list of its rows asks no length."""
+        index, keeper = self.index, self.server.keeper
+        for count in (0, 2):
+            before = keeper.frames
+            self.assertEqual((bool(index), keeper.frames), (True, before))
+            self.assertEqual((len(index), keeper.frames), (count, before + 1))
+            self.fill([b"a", b"b"])
+        before = keeper.frames
+        for rows in (index.items(), index.keys(), index.values()):
+            self.assertEqual(len(list(rows)), 2)
+        self.assertEqual(keeper.frames, before + 3)
+        for wrong in (iter, reversed, list, sorted):
+            with self.assertRaises(TypeError):
+                wrong(index)  # type: ignore[operator]
+        self.assertEqual(keeper.frames, before + 3)
+        index.close()
+        self.assertTrue(index)
+        with self.assertRaises(Closed):
+            len(index)
+
     def test_a_range_asks_as_it_is_read(self) -> None:
         self.fill([b"a%04d" % number for number in range(100)])
         pairs = self.index.range(prefix=b"a")

@@ -90,6 +90,19 @@ class PoolTest(unittest.TestCase):
             pool.call_all([Get(b"a"), Put(b"a", b"w")])
         self.assertEqual(pool.get(b"a").columns, (b"v",))  # type: ignore[union-attr]
 
+    def test_len(self) -> None:
+        """It is asked again, as a read is. A pool is always true, and opens no connection for that."""
+        pool = self.pool()
+        self.assertEqual((bool(pool), pool._idle), (True, []))
+        self.assertEqual(len(pool), 0)
+        pool.put(b"a", b"v")
+        self.break_idle(pool)
+        self.assertEqual(len(pool), 1)
+        pool.close()
+        self.assertTrue(pool)
+        with self.assertRaises(Closed):
+            len(pool)
+
     def break_idle(self, pool: Pool) -> None:
         """Breaks the connection that the next call uses, without that it can be seen before."""
         if not pool._idle:

@@ -56,8 +56,8 @@ class CommandTest(unittest.TestCase):
         for words in (("info", "-p", str(server.port)), ("-p", str(server.port), "info")):
             status, output, errors = run(*words)
             lines = dict(line.split(" ") for line in output.splitlines())
-            self.assertEqual((status, errors, lines["commits"], lines["connections"], lines["durable"]),
-                             (0, "", "1", "1", "0"))
+            self.assertEqual((status, errors, lines["commits"], lines["rows"], lines["connections"], lines["durable"]),
+                             (0, "", "1", "1", "1", "0"))
 
     def test_views(self) -> None:
         server = self.stand_in()

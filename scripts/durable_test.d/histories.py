@@ -106,12 +106,13 @@ class History:
         self.want_versions(index)
 
     def want_rows(self, index: Client) -> None:
-        """All commits are there: the rows with their versions, and the number of commits."""
+        """All commits are there: the rows with their versions, and the numbers of commits and rows."""
         want_same("the rows", index.call(GetRange()),
                   Reply(sorted(self.rows.items()), self.commits, self.commits))
         info = index.info()
         want_same("how many commits each says", (index.ping(), index.hello.commits, info["commits"]),
                   (self.commits,) * 3)
+        want_same("how many rows it says", info["rows"], len(self.rows))
         for key in KEYS[:4]:
             want_same(f"the row of {key!r}", index.call(Get(key)).value, self.rows.get(key))
 

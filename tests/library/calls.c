@@ -196,6 +196,34 @@ static void null_buffers(void) {
     ends("null_buffers");
 }
 
+/* How many rows there are. A put over a row adds none, and a change that is refused or finds no row leaves their number
+ * as it is. */
+static void lengths(void) {
+    rowanspan *index = opened(1, 16, 0);
+    begins();
+    WANT_SAME(rowanspan_len(index), 0);
+    WANT_SAME(rowanspan_remove(index, "a", 1, NULL), ROWANSPAN_ABSENT);
+    WANT_SAME(rowanspan_len(index), 0);
+    WANT_SAME(put_text(index, "a", "1", NULL), ROWANSPAN_OK);
+    WANT_SAME(put_text(index, "aaaaaaaab", "2", NULL), ROWANSPAN_OK);
+    WANT_SAME(rowanspan_put(index, NULL, 0, NULL, 0, NULL), ROWANSPAN_OK);
+    WANT_SAME(rowanspan_len(index), 3);
+    WANT_SAME(put_text(index, "a", "4", NULL), ROWANSPAN_OK);
+    WANT_SAME(rowanspan_len(index), 3);
+    WANT_SAME(rowanspan_put_if(index, "b", 1, NULL, 0, 9, NULL), ROWANSPAN_OTHER_VERSION);
+    WANT_SAME(rowanspan_len(index), 3);
+    WANT_SAME(rowanspan_put_if(index, "b", 1, NULL, 0, 0, NULL), ROWANSPAN_OK);
+    WANT_SAME(rowanspan_len(index), 4);
+    WANT_SAME(rowanspan_remove(index, "aaaaaaaab", 9, NULL), ROWANSPAN_OK);
+    WANT_SAME(rowanspan_len(index), 3);
+    WANT_SAME(rowanspan_remove(index, "aaaaaaaab", 9, NULL), ROWANSPAN_ABSENT);
+    WANT_SAME(rowanspan_len(index), 3);
+    WANT_SAME(rowanspan_tidy(index, "a", 1, NULL), ROWANSPAN_OK);
+    WANT_SAME(rowanspan_len(index), 3);
+    rowanspan_close(index);
+    ends("lengths");
+}
+
 /* The bytes of one column of a row, and each status. */
 static void one_column(void) {
     enum { TOO_MANY = ROWANSPAN_MAX_KEY_BYTES + 1 };
@@ -316,6 +344,7 @@ int main(void) {
     keys();
     rooms();
     null_buffers();
+    lengths();
     one_column();
     rooms_of_a_column();
     null_numbers();

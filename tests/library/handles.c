@@ -28,6 +28,7 @@ static void want_empty(const rowanspan *index, uint64_t columns) {
     WANT_SAME(rowanspan_columns(index), columns);
     WANT_SAME(rowanspan_nodes(index), 2);
     WANT_SAME(rowanspan_commits(index), 0);
+    WANT_SAME(rowanspan_len(index), 0);
     WANT_SAME(rowanspan_get(index, "k", 1, NULL, 0, room, sizeof room, &number), ROWANSPAN_ABSENT);
     WANT_SAME(number, 0);
     WANT_SAME(rowanspan_range(index, NULL, 0, 9, NULL, 0, room, sizeof room, &number), ROWANSPAN_OK);
@@ -50,6 +51,7 @@ static void two_indexes(void) {
     want_empty(one, 16);
     rowanspan_close(one);
     WANT_SAME(rowanspan_commits(other), 1);
+    WANT_SAME(rowanspan_len(other), 1);
     rowanspan_close(other);
     ends("two_indexes");
 }

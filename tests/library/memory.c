@@ -92,8 +92,8 @@ static rowanspan_status call_without_memory(int kind, long allocations) {
     status = call_of(index, kind, view, room, sizeof room, &number);
     memory_ends_after(-1);
     if (status == ROWANSPAN_NO_MEMORY) {
-        WANT_SAME(number, 0);
-        WANT_SAME(room[0], 0xee);
+        WANT(number == 0 && room[0] == 0xee);
+        WANT_SAME(rowanspan_len(index), 15);
         after = shown_now(index, view);
         WANT(is_same(&before, &after));
         WANT_SAME(call_of(index, kind, view, room, sizeof room, &number), ROWANSPAN_OK);

@@ -63,6 +63,7 @@ def puts() -> None:
             except NoMemory:
                 refusals += 1
                 assert index.commits() == made and index.get(key) == plain.get(key)
+            assert len(index) == len(plain)
         library.allowed = {}
         index.keep_views()
         assert lags > 10 and refusals > 10, (lags, refusals)

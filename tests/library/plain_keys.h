@@ -93,6 +93,7 @@ static inline void by_chance(const char *reads_of, void (*read_once)(const rowan
         } else {
             change_once(index, round / 10000 % 3 == 2 ? what < 80 : what < 40);
         }
+        WANT_SAME(rowanspan_len(index), row_count);
         most = row_count > most ? row_count : most;
     }
     printf("%d %s, over up to %zu rows\n", reads, reads_of, most);

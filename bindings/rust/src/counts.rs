@@ -1,4 +1,4 @@
-//! How many rows an index has in a range of keys.
+//! How many rows an index has, and how many of them in a range of keys.
 
 use crate::calls::DONE;
 use crate::error::Error;
@@ -6,12 +6,43 @@ use crate::index::Index;
 use crate::range::{KeyRange, Unread};
 
 impl Index {
-    /// How many rows have keys in a range. Ranges are as of [`range`](Index::range): `index.count(..)` is the number of
-    /// all rows, and a range that ends before it begins has none.
+    /// How many rows there are. It costs next to nothing: the rows aren't counted.
+    ///
+    /// ```
+    /// # use rowanspan::{Error, Index, Options};
+    /// # let mut index = Index::open(Options::default())?;
+    /// index.put("apple", &[(0, b"red")])?;
+    /// index.put("apple", &[(0, b"green")])?;
+    /// assert_eq!(index.len(), 1);
+    /// # Ok::<(), Error>(())
+    /// ```
+    #[must_use]
+    pub fn len(&self) -> usize {
+        // (no index has 2^32 rows)
+        self.library.len() as usize
+    }
+
+    /// Whether there are no rows.
+    ///
+    /// ```
+    /// # use rowanspan::{Error, Index, Options};
+    /// # let mut index = Index::open(Options::default())?;
+    /// assert!(index.is_empty());
+    /// index.put("apple", &[])?;
+    /// assert!(!index.is_empty());
+    /// # Ok::<(), Error>(())
+    /// ```
+    #[must_use]
+    pub fn is_empty(&self) -> bool {
+        self.len() == 0
+    }
+
+    /// How many rows have keys in a range. Ranges are as of [`range`](Index::range), and a range that ends before it
+    /// begins has none.
     ///
     /// It walks over the rows that it counts, and copies none, as the method [`count`](Iterator::count) of a range or of
-    /// a [`prefix`](Index::prefix) does, which returns no error. The count of a view is ready
-    /// ([`totals`](Index::totals)).
+    /// a [`prefix`](Index::prefix) does, which returns no error. The number of all rows is ready ([`len`](Index::len)),
+    /// and so is the count of a view ([`totals`](Index::totals)).
     ///
     /// ```
     /// # let mut index = rowanspan::Index::open(rowanspan::Options::default())?;

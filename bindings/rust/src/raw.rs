@@ -142,6 +142,7 @@ extern "C" {
     fn rowanspan_advance(index: Handle, epoch: Number) -> c_uint;
     fn rowanspan_collect(index: Handle) -> u64;
     fn rowanspan_commits(index: Handle) -> u64;
+    fn rowanspan_len(index: Handle) -> u64;
     fn rowanspan_nodes(index: Handle) -> u64;
     fn rowanspan_columns(index: Handle) -> u64;
 }
@@ -298,6 +299,10 @@ impl Library {
 
     pub(crate) fn commits(&self) -> u64 {
         call!(self, rowanspan_commits)
+    }
+
+    pub(crate) fn len(&self) -> u64 {
+        call!(self, rowanspan_len)
     }
 
     pub(crate) fn nodes(&self) -> u64 {

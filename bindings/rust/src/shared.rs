@@ -31,7 +31,7 @@ use std::sync::{Arc, Mutex, MutexGuard, PoisonError};
 /// for thread in threads {
 ///     thread.join().expect("no call panics")?;
 /// }
-/// assert_eq!((index.commits(), index.range(..).count()), (8, 8));
+/// assert_eq!((index.len(), index.range(..).count()), (8, 8));
 /// # Ok::<(), Error>(())
 /// ```
 #[derive(Clone, Debug)]
@@ -60,11 +60,11 @@ macro_rules! as_of_index {
     )*};
 }
 
-macro_rules! number_of_index {
-    ($(fn $name:ident;)*) => {$(
+macro_rules! value_of_index {
+    ($(fn $name:ident() -> $answer:ty;)*) => {$(
         #[doc = concat!("[`Index::", stringify!($name), "`], in one holding of the mutex.")]
         #[must_use]
-        pub fn $name(&self) -> u64 {
+        pub fn $name(&self) -> $answer {
             self.lock().$name()
         }
     )*};
@@ -97,10 +97,12 @@ impl SharedIndex {
         fn advance() -> u64;
     }
 
-    number_of_index! {
-        fn commits;
-        fn nodes;
-        fn columns;
+    value_of_index! {
+        fn len() -> usize;
+        fn is_empty() -> bool;
+        fn commits() -> u64;
+        fn nodes() -> u64;
+        fn columns() -> u64;
     }
 }
 

@@ -1,4 +1,4 @@
-//! Counts of ranges: by example, and against a `BTreeMap`.
+//! How many rows there are, and counts of ranges: by example, and against a `BTreeMap`.
 
 mod chance;
 mod keys;
@@ -16,6 +16,31 @@ fn index_of(keys: &[Vec<u8>]) -> Result<Index, Error> {
         index.put(key, &[(0, b"v")])?;
     }
     Ok(index)
+}
+
+// A put over a row adds none, and a change that is refused or finds no row leaves the number as it is.
+#[test]
+fn of_all_rows() -> Result<(), Error> {
+    let mut index = Index::open(Options::default())?;
+    assert_eq!((index.len(), index.is_empty()), (0, true));
+    assert_eq!(index.remove("a")?, None);
+    assert_eq!((index.len(), index.is_empty()), (0, true));
+    index.put("a", &[(0, b"red")])?;
+    index.put("", &[])?;
+    assert_eq!((index.len(), index.is_empty()), (2, false));
+    index.put("a", &[(0, b"green")])?;
+    assert!(index.put_if("b", &[], 9).is_err() && index.put("b", &[(1, b"")]).is_err());
+    assert_eq!(index.len(), 2);
+    index.put_if("b", &[], 0)?;
+    assert_eq!(index.len(), 3);
+    index.remove("a")?;
+    assert_eq!((index.remove("a")?, index.len()), (None, 2));
+    let shared = SharedIndex::from(index);
+    assert_eq!((shared.len(), shared.is_empty()), (2, false));
+    shared.remove("")?;
+    shared.remove("b")?;
+    assert_eq!((shared.len(), shared.is_empty()), (0, true));
+    Ok(())
 }
 
 #[test]
@@ -163,6 +188,7 @@ fn against_a_map() -> Result<(), Error> {
         } else {
             plain.insert(key.clone(), index.put(&key, &[])?);
         }
+        assert_eq!(index.len(), plain.len());
         if round % 20 == 0 {
             let (lo, hi) = (chance.key(), chance.key());
             let (lo, hi) = (lo.clone().min(hi.clone()), lo.max(hi));
@@ -190,7 +216,7 @@ fn of_a_shared_index() -> Result<(), Error> {
                     held.put([number, count, 0], &[])?;
                     held.put([number, count, 1], &[])?;
                     drop(held);
-                    assert_eq!(index.count(..)? % 2, 0);
+                    assert_eq!((index.count(..)? % 2, index.len() % 2), (0, 0));
                     let own = index.count([number]..[number + 1])?;
                     assert_eq!(own, 2 * (usize::from(count) + 1));
                     assert_eq!(index.count_up_to([number]..[number + 1], 3)?, own.min(3));
@@ -202,6 +228,6 @@ fn of_a_shared_index() -> Result<(), Error> {
     for thread in threads {
         thread.join().expect("the thread ends")?;
     }
-    assert_eq!(index.count(..)?, 1600);
+    assert_eq!((index.count(..)?, index.len()), (1600, 1600));
     Ok(())
 }

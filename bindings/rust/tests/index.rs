@@ -31,6 +31,7 @@ fn rows() -> Result<(), Error> {
     assert_eq!(index.remove(b"apple")?, Some(3));
     assert_eq!(index.remove(b"apple")?, None);
     assert_eq!((index.commits(), index.nodes(), index.columns()), (3, 2, 1));
+    assert_eq!(index.len(), 1);
     assert_eq!(index.tidy(b"apple")?, Tidied::Nothing);
     assert_eq!((index.advance()?, index.collect()), (1, 0));
     Ok(())

@@ -45,8 +45,12 @@ class ServerCalls(abc.ABC):
         return (await self.call(Ping(time.monotonic_ns() & MAX_NUMBER))).value.commits
 
     async def info(self) -> Dict[str, int]:
-        """What the server counts: numbers by their names, such as `commits` and `connections`."""
+        """What the server counts: numbers by their names, such as `commits`, `rows` and `connections`."""
         return (await self.call(GetInfo())).value
+
+    async def len(self) -> int:
+        """How many rows there are. Asks for `info`."""
+        return (await self.info())["rows"]
 
     async def views(self) -> List[StandingView]:
         """All views of the server, each with its number, the number of commits at which it is, how many rows it has

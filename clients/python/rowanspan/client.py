@@ -132,8 +132,16 @@ class Asker(RowMap):
         return self.call(Ping(time.monotonic_ns() & MAX_NUMBER)).value.commits
 
     def info(self) -> Dict[str, int]:
-        """What the server counts: numbers by their names, such as `commits` and `connections`."""
+        """What the server counts: numbers by their names, such as `commits`, `rows` and `connections`."""
         return self.call(GetInfo()).value
+
+    def __len__(self) -> int:
+        """How many rows there are. Asks for `info`, so the server has to know version 3 of the wire."""
+        return self.info()["rows"]
+
+    def __bool__(self) -> bool:
+        """Always true, also if there are no rows. Asks nothing."""
+        return True
 
     def views(self) -> List[StandingView]:
         """All views of the server, each with its number, the number of commits at which it is, how many rows it has

@@ -275,6 +275,13 @@ class Index(RowMap):
         return self._number("count", *spelled(begin, "a key"), end is not None,
                             *spelled(b"" if end is None else end, "a key"), most_rows)
 
+    def __len__(self) -> int:
+        """How many rows there are, without a walk over them. An index without rows is false."""
+        number: int = self._native.len()
+        if number is not NotImplemented:
+            return number
+        return self._number("len")
+
     def _build(self, spec: ViewSpec) -> ViewNo:
         checked = checked_spec(spec)
         test = view_test(checked.test)

@@ -126,6 +126,7 @@ PARAMETERS: Dict[str, List[Any]] = {
     "advance": [],
     "collect": [],
     "commits": [],
+    "len": [],
     "nodes": [],
     "columns": [],
 }

@@ -24,11 +24,12 @@ class NoDefault(enum.Enum):
 class RowMap(abc.ABC):
     """The calls of an index that are the same for the client of a server and for an index in this process.
 
-    There is no `len`: an index doesn't count its rows, a view does. A key that isn't bytes is a TypeError.
+    A key that isn't bytes is a TypeError.
     """
 
-    # without it a loop over an index would ask for the keys 0, 1, ..
+    # without them a loop over an index would ask for the keys 0, 1, .., or .., 1, 0
     __iter__ = None
+    __reversed__ = None
 
     def __reduce_ex__(self, protocol: Any) -> Any:
         # a copy would have the same connection, or close the same index of the library while it is in use
@@ -191,8 +192,12 @@ class RowMap(abc.ABC):
         """How many rows the `range` of these arguments has, all of one moment, counted up to `most`.
 
         It walks over the rows that it counts, and copies none. Changes of others wait until it returns: `most` bounds
-        that. A server counts up to 1,000,000, also without `most`; for more a client raises `BadLimit`. A view has its
-        count ready."""
+        that. A server counts up to 1,000,000, also without `most`; for more a client raises `BadLimit`. The number of
+        all rows is ready (`len(index)`), and so is the count of a view."""
+
+    @abc.abstractmethod
+    def __len__(self) -> int:
+        """How many rows there are, without a walk over them."""
 
     def items(self) -> RowPairs:
         """All keys with their rows, in the order of the keys: a `range`, by calls of 1000 rows. Each row was true at

@@ -18,7 +18,7 @@ from .places import PACKAGE, checkout
 SUFFIX = ".abi3.so"
 NAME = f"_native{SUFFIX}"
 # the functions of the library that it calls
-FUNCTIONS = ("get", "put", "put_if", "remove", "range", "range_back", "count", "view", "totals", "apply")
+FUNCTIONS = ("get", "put", "put_if", "remove", "range", "range_back", "count", "len", "view", "totals", "apply")
 
 
 class NoCalls:
@@ -34,6 +34,9 @@ class NoCalls:
         return NotImplemented
 
     def count(self, start: Any, stop: Any, most: Any) -> Any:
+        return NotImplemented
+
+    def len(self) -> Any:
         return NotImplemented
 
     def view(self, number: Any, floor: Any, start: Any, limit: Any) -> Any:

@@ -67,9 +67,9 @@ pub delta_is : (log : LogView) (number : ℕ) (delta : Delta) → IsLog log → 
 delta_is log number delta is after e =
     let k = Numbered-at (number - log.held_after - 1) log.held_after log.deltas delta is.numbered e in omega (arith, k)
 
-pub appended_log : (log : LogView) (delta : Delta) (deltas : List Delta) → IsLog log → 0 < log.reserved → delta.number ≡ newest log + 1 → deltas ≡ log.deltas ++ delta ∷ []
-    → IsLog (record log { deltas = deltas; reserved = log.reserved - 1 })
-appended_log log delta deltas is reserved next e =
+pub appended_log : (log : LogView) (delta : Delta) (deltas : List Delta) (rows : ℕ) → IsLog log → 0 < log.reserved → delta.number ≡ newest log + 1 → deltas ≡ log.deltas ++ delta ∷ []
+    → IsLog (record log { deltas = deltas; reserved = log.reserved - 1; rows = rows })
+appended_log log delta deltas rows is reserved next e =
     let long : length deltas ≡ length log.deltas + 1 = ap length e ∙ length-append log.deltas (delta ∷ []) in
     let kept = is.kept in
     let fits = is.fits in

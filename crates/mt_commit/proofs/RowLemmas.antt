@@ -1,6 +1,6 @@
 -- What the deltas of a log say of rows.
 use Rattle.std.proofs.Common.{◌≡◌, ℕ, zero, suc, ◌+◌, ◌-◌, ◌≤◌, cond, List, [], ◌∷◌, ◌++◌, length, drop, take, reverse, min, Option, Some, None, ap, sym, refl, ◌∙◌, subst, arith}
-use Rattle.std.specs.Prelude.{slice_get}
+use Rattle.std.specs.Prelude.{slice_get, is_some}
 use Rattle.std.specs.declared.cmp.Ordering.TheVariants.{Less, Equal, Greater}
 use Rattle.std.specs.Ordering.{is_eq, eq_by_cmp}
 use Rattle.std.specs.Cmp.{IsTotalOrder}
@@ -13,7 +13,7 @@ use Rattle.mt_types.specs.Keys.{key_cmp}
 use Rattle.mt_types.specs.Rows.{Rows}
 use Rattle.mt_types.specs.declared.row.Row.{Row}
 use Rattle.mt_types.specs.declared.row.Delta.{Delta}
-use Rattle.mt_commit.specs.Log.{newest, slowest, trimmed}
+use Rattle.mt_commit.specs.Log.{newest, slowest, trimmed, counted, effect_of}
 use Rattle.mt_commit.specs.Deltas.{with_row, redo, undo, rows_before, rows_at, FitsNewestFirst}
 use Rattle.mt_commit.specs.Laws.{DoneIsUndone, UndoneIsDone, UndoneLeavesBefore, NewestIsPresent, AppendingFits, AppendingKeepsRows, TrimmingFits, TrimmingKeepsRows, EachDeltaMakesRows, Makes}
 use Rattle.mt_commit.proofs.LogLemmas.{trim_rises}
@@ -28,6 +28,13 @@ key_apart = map.slice_cmp-IsAntisymmetric map.nat_cmp-IsAntisymmetric
 pub get-with_row : (key : List ℕ) (row : Option Row) (rows : Rows) (q : List ℕ) → map.get (with_row key row rows) q ≡ cond (eq_by_cmp key_cmp q key) row (map.get rows q)
 get-with_row key None rows q = map.get-remove key_order rows key q
 get-with_row key (Some row) rows q = map.get-insert key_order rows key row q
+
+-- how many rows there are, with this row under a key, or none
+pub len-with_row : (key : List ℕ) (before then : Option Row) (rows : Rows) → map.get rows key ≡ before → map.len (with_row key then rows) ≡ counted (effect_of before then) (map.len rows)
+len-with_row key None None rows stood = map.len-remove key_order rows key ∙ ap (λ (o : Option Row). cond (is_some o) (map.len rows - 1) (map.len rows)) stood
+len-with_row key (Some old) None rows stood = map.len-remove key_order rows key ∙ ap (λ (o : Option Row). cond (is_some o) (map.len rows - 1) (map.len rows)) stood
+len-with_row key None (Some row) rows stood = map.len-insert key_order rows key row ∙ ap (λ (o : Option Row). cond (is_some o) (map.len rows) (map.len rows + 1)) stood
+len-with_row key (Some old) (Some row) rows stood = map.len-insert key_order rows key row ∙ ap (λ (o : Option Row). cond (is_some o) (map.len rows) (map.len rows + 1)) stood
 
 -- the row that was there, put back
 restored : (key : List ℕ) (was other : Option Row) (rows : Rows) → map.get rows key ≡ was → with_row key was (with_row key other rows) ≡ rows

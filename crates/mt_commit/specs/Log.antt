@@ -1,11 +1,14 @@
 -- The log of commits as its contracts see it, and what its calls make of it.
-use Rattle.std.specs.Prelude.{ℕ, ◌+◌, ◌-◌, ◌^◌, ◌≡◌, ◌<◌, ◌≤◌, nat_lt, nat_le, min, List, [], ◌∷◌, ◌++◌, length, drop, slice_get, Option, All}
+use Rattle.std.specs.Prelude.{ℕ, ◌+◌, ◌-◌, ◌^◌, ◌≡◌, ◌<◌, ◌≤◌, nat_lt, nat_le, min, List, [], ◌∷◌, ◌++◌, length, drop, slice_get, Option, Some, None, All}
 use Rattle.std.specs.Option.{option_or}
 use Rattle.mt_types.specs.Numbers.{least, greatest_number}
 use Rattle.mt_types.specs.Limits.{refused_if}
 use Rattle.mt_types.specs.declared.row.Delta.{Delta}
+use Rattle.mt_types.specs.declared.row.Row.{Row}
 use Rattle.mt_types.specs.declared.refusal.Refusal.{Refusal}
 use Rattle.mt_types.specs.declared.refusal.Refusal.TheVariants.{FeedFull, Spent}
+use Rattle.mt_commit.specs.declared.effect.Effect.{Effect}
+use Rattle.mt_commit.specs.declared.effect.Effect.TheVariants.{Adds, Keeps, Removes}
 
 pub record LogView : Type 0 where
   pub held_after : ℕ  -- the deltas of the commits up to this number were trimmed
@@ -14,6 +17,7 @@ pub record LogView : Type 0 where
   pub holders : List ℕ  -- from which numbers of commits it is held, each as often as it is, in ascending order
   pub capacity : ℕ  -- how many deltas it may hold for the slowest that reads it
   pub retention : ℕ  -- how many of the last deltas it keeps for nobody
+  pub rows : ℕ  -- how many rows there are after the newest commit
 
 -- the number of the newest commit
 abbrev pub newest : LogView → ℕ
@@ -33,9 +37,26 @@ reserve_fault log =
     option_or (refused_if (nat_le greatest_number (newest log + log.reserved)) Spent)
     (refused_if (nat_lt log.capacity (newest log - slowest log + log.reserved + 1)) (FeedFull (slowest log)))
 
+-- what a commit does to the number of rows, by the row that its key had, and the one that it then has
+abbrev pub effect_of : Option Row → Option Row → Effect
+effect_of None None = Keeps
+effect_of None (Some row) = Adds
+effect_of (Some row) None = Removes
+effect_of (Some row) (Some other) = Keeps
+
+-- how many rows there are after a commit, from those before it
+abbrev pub counted : Effect → ℕ → ℕ
+counted Adds rows = rows + 1
+counted Keeps rows = rows
+counted Removes rows = rows - 1
+
 -- the log after the delta of the next commit, in room that was reserved
 abbrev pub with_delta : LogView → Delta → LogView
-with_delta log delta = record log { deltas = log.deltas ++ delta ∷ []; reserved = log.reserved - 1 }
+with_delta log delta = record log {
+  deltas = log.deltas ++ delta ∷ [];
+  reserved = log.reserved - 1;
+  rows = counted (effect_of delta.before delta.after) log.rows;
+}
 
 -- what is left is what came after the slowest, and the last ones, which are kept in any case
 abbrev pub trimmed : LogView → LogView

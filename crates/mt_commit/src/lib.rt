@@ -3,6 +3,7 @@
 //! A call costs O(1) unless it says otherwise.
 #![tactic(auto)]
 
+pub mod effect;
 mod holders;
 pub mod laws;
 pub mod log;

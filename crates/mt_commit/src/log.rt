@@ -4,6 +4,7 @@ ghost use Rattle.std.specs.Prelude.{◌≡◌, ◌↔◌, ◌+◌, ◌-◌, ◌<
 ghost use Rattle.std.specs.VecDeque.{deque_capacity};
 ghost use Rattle.mt_types.specs.declared.row.Delta.{Delta as DeltaView};
 
+use crate::effect::Effect;
 use crate::holders::Holders;
 use mt_types::refusal::{NoMemory, Refusal};
 use mt_types::row::Delta;
@@ -25,6 +26,7 @@ pub struct Log {
     reserved: u64,
     capacity: u64,
     retention: u64,
+    rows: u64,
 }
 
 impl Model for Log {
@@ -51,7 +53,7 @@ fn drop_front(deltas: &mut VecDeque<Delta>, count: u64)
 }
 
 impl Log {
-    ghost use Rattle.mt_commit.specs.Log.{LogView, IsLog, newest, slowest, delta_of, reserve_fault, with_delta, trimmed, IsUnread};
+    ghost use Rattle.mt_commit.specs.Log.{LogView, IsLog, newest, slowest, delta_of, reserve_fault, with_delta, trimmed, effect_of, IsUnread};
     ghost use Rattle.mt_commit.specs.Holders.{with_holder, without_holder};
 
     /// Returns the log before any commit. It is to hold at most `capacity` deltas for its slowest reader, and to keep the
@@ -64,6 +66,7 @@ impl Log {
           holders = [];
           capacity = capacity;
           retention = retention;
+          rows = 0;
         } }
         ensures sound { IsLog result }
     {
@@ -75,6 +78,7 @@ impl Log {
             reserved: 0,
             capacity,
             retention,
+            rows: 0,
         }
     }
 
@@ -92,6 +96,13 @@ impl Log {
         ensures sound { IsLog self.now }
     {
         self.held_after
+    }
+
+    /// Returns how many rows there are after the newest commit.
+    pub fn rows(&self) -> u64
+        ensures { result ≡ self.now.rows }
+    {
+        self.rows
     }
 
     /// Returns the least number from which the log is held, or the number of the newest commit if no reader holds it.
@@ -150,6 +161,7 @@ impl Log {
         ensures after { self.new ≡ with_delta self.old delta }
         ensures sound { IsLog self.new }
     {
+        self.rows = Effect::of(&delta).count(self.rows);
         self.deltas.push_back_reserved(delta);
         self.reserved -= 1;
     }
@@ -161,12 +173,13 @@ impl Log {
         self.holder_count == 0 && self.retention == 0
     }
 
-    /// Counts the next commit, in room that was reserved, if no delta would stay in the log. That is what an append of
-    /// its delta and a trim come to. O(n) in the deltas that the log has.
-    pub fn pass(&mut self)
+    /// Counts the next commit and its effect, in room that was reserved, if no delta would stay in the log. The log is then
+    /// as after an append of the delta and a trim. O(n) in the deltas that the log has.
+    pub fn pass(&mut self, effect: Effect)
         requires reserved { 0 < self.old.reserved }
         requires unread { IsUnread self.old }
-        ensures after { (delta : DeltaView) → self.new ≡ trimmed (with_delta self.old delta) }
+        ensures after { (delta : DeltaView) → effect_of delta.before delta.after ≡ effect
+            → self.new ≡ trimmed (with_delta self.old delta) }
         ensures next { newest self.new ≡ newest self.old + 1 }
         ensures sound { IsLog self.new }
     {
@@ -174,6 +187,7 @@ impl Log {
         drop_front(&mut self.deltas, number - self.held_after);
         self.held_after = number + 1;
         self.reserved -= 1;
+        self.rows = effect.count(self.rows);
     }
 
     /// Returns the delta of a commit that the log has.

@@ -83,6 +83,7 @@ called s pass request work h st none is new =
       content = st.content;
       keys = st.keys;
       logged = st.logged;
+      counted = st.counted;
       trimmed = st.trimmed ∙ ap (λ (n : ℕ). min n (length (moment h).commits - s.log.retention)) still_bound;
       held = now_holds;
       views = now_placed;

@@ -1,6 +1,6 @@
 -- An event that commits nothing, begins and ends no call and changes no view leaves what is true of the machine.
 use Rattle.std.proofs.Common.{ℕ, ◌≡◌, ◌≤◌, ◌-◌, inl, List, ◌∷◌, ◌++◌, length, Some, sym, ap, subst, ◌∙◌, arith, drop, map}
-use Rattle.std.specs.FinMap.{get}
+use Rattle.std.specs.FinMap.{get, len}
 use Rattle.std.specs.Prelude.{min, count_by}
 use Rattle.mt_types.specs.Rows.{Rows, after}
 use Rattle.mt_types.specs.Numbers.{least}
@@ -94,6 +94,7 @@ module _ (s : MachineView) (h : History) (x : Happening) (st : Stands s h) (now 
     keys = keys_later s h x st commits;
     logged = st.logged ∙ ap (λ (cs : List Change). drop s.log.held_after (deltas_of s.columns cs)) (sym commits);
     trimmed = st.trimmed ∙ same_bound;
+    counted = st.counted ∙ ap (λ (cs : List Change). len (after s.columns cs)) (sym commits);
     held = λ number. st.held number ∙ ap (times_held number) same_holding;
     views = record {
       built = st.views.built ∙ sym built;

@@ -9,7 +9,8 @@ use Rattle.std.proofs.lemmas.List.{drop-drop}
 use Rattle.std.proofs.lemmas.List.Sums.{sum_by-cons, sum_by-append}
 use Rattle.mt_types.specs.Numbers.{least}
 use Rattle.mt_types.specs.declared.row.Delta.{Delta}
-use Rattle.mt_promise.specs.History.{History, Happening, Moment, OpenCall, StandingView, moment}
+use Rattle.std.specs.FinMap.{len}
+use Rattle.mt_promise.specs.History.{History, Happening, Moment, OpenCall, StandingView, moment, rows}
 use Rattle.mt_promise.specs.Legal.{held_from, reads_log}
 use Rattle.mt_promise.proofs.HistoryLemmas.{Sometime-here}
 use Rattle.mt_commit.specs.Log.{LogView, IsLog, newest, slowest, trimmed}
@@ -66,6 +67,7 @@ module _ (R : Relation) (from : (k : ℕ × Call) (c : OpenCall) → R k c → c
 pub record LogAt (C : ℕ) (log : LogView) (m : Moment) : Type 0 where
   pub commits : newest log ≡ length m.commits
   pub logged : log.deltas ≡ drop log.held_after (deltas_of C m.commits)
+  pub rows : log.rows ≡ len (rows C m)
   pub held : (number : ℕ) → times_held number log.holders ≡ times_held number (holding m)
 
 -- it is held from the number that the moment tells
@@ -77,6 +79,7 @@ pub record TrimmedAt (C : ℕ) (log : LogView) (m : Moment) : Type 0 where
   pub commits : newest log ≡ length m.commits
   pub logged : log.deltas ≡ drop log.held_after (deltas_of C m.commits)
   pub trimmed : log.held_after ≡ min (held_from m) (length m.commits - log.retention)
+  pub rows : log.rows ≡ len (rows C m)
   pub held : (number : ℕ) → times_held number log.holders ≡ times_held number (holding m)
 
 pub trims : (C : ℕ) (log : LogView) (m : Moment) → IsLog log → LogAt C log m → TrimmedAt C (trimmed log) m
@@ -88,6 +91,7 @@ trims C log m sound at =
       commits = newest-trimmed log bound (drop (bound - log.held_after) log.deltas) sound refl refl ∙ at.commits;
       logged = ap (λ (ds : List Delta). drop (bound - log.held_after) ds) at.logged ∙ drop-drop (bound - log.held_after) log.held_after (deltas_of C m.commits) ∙ ap (λ (n : ℕ). drop n (deltas_of C m.commits)) same;
       trimmed = ap (λ (n : ℕ). min n (newest log - log.retention)) (slowest_is log m at.commits at.held) ∙ ap (λ (n : ℕ). min (held_from m) (n - log.retention)) at.commits;
+      rows = at.rows;
       held = at.held;
     }
 

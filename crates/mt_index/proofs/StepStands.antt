@@ -1,6 +1,6 @@
 -- A step of one call leads from a machine at a history to a machine at the next one.
 use Rattle.std.proofs.Common.{ℕ, ◌≡◌, ◌≢◌, ◌≤◌, ◌+◌, ◌⊎◌, ◌↔◌, inl, inr, List, [], ◌∷◌, ◌++◌, length, Option, Some, refl, sym, ap, subst, ◌∙◌, arith, drop, map}
-use Rattle.std.specs.FinMap.{get}
+use Rattle.std.specs.FinMap.{get, len}
 use Rattle.std.proofs.lemmas.List.{length-append, drop-append-le}
 use Rattle.mt_types.specs.Rows.{Rows, after, after_change}
 use Rattle.mt_types.specs.declared.row.Row.{Row}
@@ -15,7 +15,7 @@ use Rattle.mt_promise.specs.Legal.{MayStepAt, MayStep, MayCommit}
 use Rattle.mt_promise.proofs.HistoryLemmas.{after-append}
 use Rattle.mt_slice.specs.Place.{AreBytes, place_of}
 use Rattle.mt_slice.proofs.Canonical.{same_from_place_of}
-use Rattle.mt_commit.specs.Log.{LogView, IsLog, newest, slowest, with_delta, trimmed}
+use Rattle.mt_commit.specs.Log.{LogView, IsLog, counted, effect_of, newest, slowest, with_delta, trimmed}
 use Rattle.mt_commit.specs.Laws.{times_held}
 use Rattle.mt_commit.specs.Deltas.{with_row}
 use Rattle.mt_arena.specs.Arena.{ArenaView}
@@ -32,6 +32,7 @@ use Rattle.mt_index.specs.Paired.{Paired}
 use Rattle.mt_index.specs.Calls.{call_at, with_changed, with_work, without, AreApart, total, all_reserved, BeganInOrder}
 use Rattle.mt_index.specs.Stands.{AllOwned, MachineView, CallStands, WasBlocked, HasRowsOf, IsPast, Stands, holding}
 use Rattle.mt_commit.proofs.DeltaLemmas.{delta_is, deltas_of-append, deltas_of-length}
+use Rattle.mt_commit.proofs.RowLemmas.{len-with_row}
 use Rattle.mt_index.proofs.LogStands.{holds_from, all-held, slowest_is, trims, was_later, blocked_now}
 use Rattle.mt_view.specs.Views.{ViewsView}
 use Rattle.mt_index.specs.Viewing.{ViewsStand, ReadsOf}
@@ -248,6 +249,7 @@ module _ {commit : Option ℕ} (s : MachineView) (h : History) (n : ℕ) (kept :
         let log = trims s.columns (record left { holders = holders }) (moment (x ∷ h)) sound (record {
           commits = ap (λ (m : ℕ). m + length left.deltas) quiet.trimmed ∙ ap (λ (ds : List Delta). s.log.held_after + length ds) quiet.deltas ∙ st.commits ∙ ap length (sym same);
           logged = quiet.deltas ∙ st.logged ∙ ap (λ (m : ℕ). drop m (deltas_of s.columns (moment h).commits)) (sym quiet.trimmed) ∙ ap (λ (cs : List Change). drop left.held_after (deltas_of s.columns cs)) (sym same);
+          rows = quiet.rows ∙ st.counted ∙ ap len (sym alike);
           held = now_held s h x holders entries goes.next after_tree calls (ap (λ m. m.views) then ∙ views) held;
         }) in
         record {
@@ -263,6 +265,7 @@ module _ {commit : Option ℕ} (s : MachineView) (h : History) (n : ℕ) (kept :
           keys = λ key row is. st.keys key row (sym (ap (λ (rs : Rows). get rs key) alike) ∙ is);
           logged = log.logged;
           trimmed = log.trimmed;
+          counted = log.rows;
           held = log.held;
           views = now_views s h x building entries goes.next after_tree calls (ap (λ m. m.views) then ∙ views) (ap (λ m. m.built) then ∙ built) (inl same) counted fewer st.views;
           calls = calls;
@@ -343,6 +346,10 @@ module _ {commit : Option ℕ} (s : MachineView) (h : History) (n : ℕ) (kept :
         ∙ sym (drop-append-le s.log.held_after (deltas_of s.columns (moment h).commits) (delta ∷ []) reaches)
         ∙ ap (drop s.log.held_after) (made_now)
 
+    -- and so is its number of rows
+    counted_then : counted (effect_of before then) s.log.rows ≡ len (rows s.columns (moment (happened ∷ h)))
+    counted_then = ap (counted (effect_of before then)) st.counted ∙ sym (len-with_row key before then old stood) ∙ ap len (sym rows_are)
+
     grows : Grows s.columns (moment h) (moment (happened ∷ h))
     grows = inr (record { change = change; commits = commits_are; delta = delta; deltas = sym made_now; made = rows_are })
 
@@ -360,6 +367,7 @@ module _ {commit : Option ℕ} (s : MachineView) (h : History) (n : ℕ) (kept :
         let log = trims s.columns left (moment (happened ∷ h)) sound (record {
           commits = ap newest changes.logged ∙ counted ∙ sym (ap length commits_are);
           logged = ap (λ (l : LogView). l.deltas) changes.logged ∙ logged_then ∙ ap (λ (l : LogView). drop l.held_after (deltas_of s.columns (moment (happened ∷ h)).commits)) (sym changes.logged);
+          rows = ap (λ (l : LogView). l.rows) changes.logged ∙ counted_then;
           held = now_held s h happened left.holders ks goes.next after_tree calls (ap (λ m. m.views) then) held;
         }) in
         record {
@@ -378,6 +386,7 @@ module _ {commit : Option ℕ} (s : MachineView) (h : History) (n : ℕ) (kept :
           keys = keys_then;
           logged = log.logged;
           trimmed = log.trimmed;
+          counted = log.rows;
           held = log.held;
           views = now_views s h happened s.views.building ks goes.next after_tree calls (ap (λ m. m.views) then) (ap (λ m. m.built) then) grows building_is (omega arith) st.views;
           calls = calls;

@@ -3,7 +3,7 @@ use Rattle.std.proofs.Common.{ℕ, ◌≡◌, ◌≤◌, ◌<◌, ◌+◌, ◌-�
 use Rattle.std.specs.Prelude.{count_by}
 use Rattle.std.proofs.lemmas.Bool.Decides.{eqb_tells}
 use Rattle.std.proofs.lemmas.List.{length-append}
-use Rattle.std.specs.FinMap.{get}
+use Rattle.std.specs.FinMap.{get, len}
 use Rattle.mt_tree.specs.Seen.{HasRow}
 use Rattle.mt_types.specs.Rows.{Rows, after}
 use Rattle.mt_types.specs.Numbers.{greatest_number}
@@ -63,6 +63,7 @@ module _ (s : MachineView) (h : History) (st : Stands s h) (x : Happening) (may 
       let log = trims s.columns (record s.log { holders = holders }) (moment (x ∷ h)) sound (record {
         commits = st.commits ∙ ap length (sym commits);
         logged = st.logged ∙ ap (λ (cs : List Change). drop s.log.held_after (deltas_of s.columns cs)) (sym commits);
+        rows = st.counted ∙ ap len (sym same_rows);
         held = λ number. held number ∙ sym (all-held (CallStands s.columns s.epoch s.tree st.w (x ∷ h)) (λ k c r. r.from) (λ k c r. r.request) number 0 s.calls.begun entries (moment (x ∷ h)) calls);
       }) in
       record {
@@ -78,6 +79,7 @@ module _ (s : MachineView) (h : History) (st : Stands s h) (x : Happening) (may 
         keys = λ key row is. st.keys key row (sym (ap (λ (rs : Rows). get rs key) same_rows) ∙ is);
         logged = log.logged;
         trimmed = log.trimmed;
+        counted = log.rows;
         held = log.held;
         views = stand;
         calls = calls;

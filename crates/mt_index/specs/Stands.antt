@@ -1,7 +1,7 @@
 -- The machine as contracts see it, and the histories that it is at.
 use Rattle.std.specs.Option.{option_map}
 use Rattle.std.specs.Prelude.{Result, Ok, Err, ℕ, ◌+◌, ◌-◌, ◌≡◌, ◌≤◌, ◌<◌, ◌==◌, ◌⊎◌, ◌↔◌, true, if◌then◌else◌, min, Bool, List, [], ◌∷◌, ◌++◌, length, drop, map, filter, Option, Some, None}
-use Rattle.std.specs.FinMap.{get}
+use Rattle.std.specs.FinMap.{get, len}
 use Rattle.mt_types.specs.declared.numbers.PassNo.{PassNo}
 use Rattle.mt_types.specs.declared.event.Request.{Request}
 use Rattle.mt_types.specs.declared.event.Outcome.{Outcome}
@@ -123,6 +123,8 @@ pub record Stands (s : MachineView) (h : History) : Type 0 where
   -- that it keeps for no reader
   pub logged : s.log.deltas ≡ drop s.log.held_after (deltas_of s.columns (moment h).commits)
   pub trimmed : s.log.held_after ≡ min (held_from (moment h)) (length (moment h).commits - s.log.retention)
+  -- it counts the rows
+  pub counted : s.log.rows ≡ len (rows s.columns (moment h))
   -- it is held from each number as often as views and open calls hold it from there
   pub held : (number : ℕ) → times_held number s.log.holders ≡ times_held number (holding (moment h))
   -- the views are those of the history, and each is exact at its number

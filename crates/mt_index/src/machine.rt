@@ -4,7 +4,8 @@ ghost use Rattle.std.specs.Prelude.{ℕ, ◌≡◌, ◌↔◌, [], ◌∷◌, ta
 ghost use Rattle.std.specs.Option.{option_map};
 ghost use Rattle.mt_types.specs.Limits.{open_fault};
 ghost use Rattle.mt_types.specs.Limited.{OutcomeIsLimited};
-ghost use Rattle.mt_promise.specs.History.{History, happening, moment, call_of};
+ghost use Rattle.std.specs.FinMap.{len};
+ghost use Rattle.mt_promise.specs.History.{History, happening, moment, call_of, rows};
 ghost use Rattle.mt_arena.specs.Node.{occupied};
 ghost use Rattle.mt_index.specs.Alone.{IsIdle, IsQuiet};
 ghost use Rattle.mt_index.specs.Causes.{IsCaused};
@@ -141,6 +142,13 @@ impl Machine {
         ensures told { (h : History) → Stands self.now h → result ≡ length (moment h).commits }
     {
         self.log.number()
+    }
+
+    /// Returns how many rows there are: those after the commits that have been made, also while calls are open.
+    pub fn len(&self) -> usize
+        ensures { (h : History) → Stands self.now h → result ≡ len (rows self.now.columns (moment h)) }
+    {
+        self.log.rows() as usize
     }
 
     /// Returns the pass of the call of this number, if it is open. O(log n) in the open calls.

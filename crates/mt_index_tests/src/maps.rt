@@ -56,8 +56,10 @@ fn rows_of_a_map(rt: HostRuntime) -> Result<(), Fail> {
     assert_eq!(rt; put(&mut map, b"apple", b"red"), Ok(1));
     assert_eq!(rt; put(&mut map, b"apple", b"green"), Ok(2));
     assert_eq!(rt; seen(&map, b"apple"), Ok(Some((2, 5))));
+    assert_eq!(rt; map.len(), 1);
     assert_eq!(rt; map.remove(b"apple"), Ok(Some(3)));
     assert_eq!(rt; map.remove(b"apple"), Ok(None));
+    assert_eq!(rt; map.len(), 0);
     assert_eq!(rt; map.contains_key(b"apple"), Ok(false));
     assert_eq!(rt; (map.commits(), map.feed(1, 10)?.len()), (3, 2));
     Ok(())
@@ -198,13 +200,13 @@ fn bounds_of_a_map(rt: HostRuntime) -> Result<(), Fail> {
 fn first_of_a_map(rt: HostRuntime) -> Result<(), Fail> {
     let mut map = filled(rt.alloc())?;
     for key in &KEYS {
-        assert!(rt; !map.is_empty()?);
+        assert!(rt; !map.is_empty());
         let first = map.first()?;
         assert!(rt; matches!(&first, Some(first) if first.as_slice() == *key));
         assert!(rt; map.remove(*key)?.is_some());
     }
     assert!(rt; map.first()?.is_none());
-    assert!(rt; map.is_empty()?);
+    assert!(rt; map.is_empty());
     Ok(())
 }
 

@@ -163,7 +163,7 @@ fn has_rows(alloc: Global, map: &Map, plain: &BTreeMap<u64, u64>) -> Result<bool
             return Ok(false);
         }
     }
-    Ok(walk.next()?.is_none())
+    Ok(walk.next()?.is_none() && map.len() == plain.len())
 }
 
 // Whether a view of all rows, once it is at the newest commit, has this many.

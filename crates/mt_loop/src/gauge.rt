@@ -158,6 +158,7 @@ impl<'a, R: Wait + Clock> Gauge<'a, R> {
         let moment = door.moment();
         let machine = moment.machine();
         facts.commits = moment.commits();
+        facts.rows = moment.len() as u64;
         facts.standing = moment.views().count() as u64;
         match query {
             Some(ServerQuery::Views) => facts.views = listing_of(alloc, &moment).ok(),
@@ -279,6 +280,7 @@ impl<'a, R: Wait + Clock> Gauge<'a, R> {
             run: self.tally.run,
             columns: self.index.columns(),
             commits: 0,
+            rows: 0,
             logged: 0,
             nodes: 0,
             standing: 0,

@@ -1,6 +1,8 @@
 //! How connections come to a worker, and move to another one: a long frame is answered by a worker of its own, so that the
 //! other connections of a worker don't wait for it.
 
+ghost use Rattle.std.specs.Prelude.{◌≡◌, ◌≢◌, ◌<◌, ◌≤◌, ◌+◌};
+
 use crate::connection::Connection;
 use crate::desk::{Arrival, Desk};
 use crate::gauge::Gauge;
@@ -24,8 +26,12 @@ pub enum Share {
     Long,
 }
 
-/// Returns which frames the worker with this number answers, of `count` workers.
-pub fn share_of(number: usize, count: usize) -> Share {
+/// Returns which frames the worker with this number answers, of `count` workers: the last of several answers long ones.
+pub fn share_of(number: usize, count: usize) -> Share
+    ensures alone { count < 2 → result ≡ Share.All }
+    ensures last { 2 ≤ count → number + 1 ≡ count → result ≡ Share.Long }
+    ensures other { 2 ≤ count → number + 1 ≢ count → result ≡ Share.Short }
+{
     if count < 2 {
         Share::All
     } else if number.saturating_add(1) == count {

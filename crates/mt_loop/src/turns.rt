@@ -1,5 +1,7 @@
 //! The frames of a round: they are answered one after another, and then retired nodes are freed.
 
+ghost use Rattle.std.specs.Prelude.{◌≡◌, ◌≢◌};
+
 use crate::connection::{Connection, Front};
 use crate::gauge::Gauge;
 use crate::report::{Origin, Report};
@@ -225,7 +227,10 @@ fn refuse_secret<R: Wait + Clock + Eprint>(gauge: &Gauge<'_, R>, connection: &mu
 }
 
 // What the lock is kept for while `frames` frames of one kind are answered.
-fn keeping_for(frames: usize, keeping: Keeping) -> Keeping {
+fn keeping_for(frames: usize, keeping: Keeping) -> Keeping
+    ensures one { frames ≡ 1 → result ≡ Keeping.Frame }
+    ensures several { frames ≢ 1 → result ≡ keeping }
+{
     if frames == 1 { Keeping::Frame } else { keeping }
 }
 

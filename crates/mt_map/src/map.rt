@@ -2,7 +2,7 @@
 
 ghost use Rattle.std.specs.Prelude.{◌≡◌, ◌↔◌, IsTrue, IsSome, IsOk, IfOk, IfErr, MatchOption, Err, None, [], length, take, drop};
 ghost use Rattle.std.specs.Option.{option_copied};
-ghost use Rattle.std.specs.FinMap.{get};
+ghost use Rattle.std.specs.FinMap.{empty, get, len};
 ghost use Rattle.mt_types.specs.Limits.{key_fault, open_fault, request_fault};
 ghost use Rattle.mt_types.specs.declared.event.Request.TheVariants.{Range};
 ghost use Rattle.mt_promise.specs.Alone.{IsRangeOfMap};
@@ -122,6 +122,28 @@ impl Map {
     {
         let _stands = self.machine.is_idle();
         self.machine.commits()
+    }
+
+    /// Returns how many rows there are.
+    ///
+    ///     println!(rt; "{} rows", map.len())?;
+    pub fn len(&self) -> usize
+        ensures { (h : History) → Stands self.now.machine h
+            → result ≡ len (rows self.now.machine.columns (moment h)) }
+    {
+        self.machine.len()
+    }
+
+    /// Returns whether there are no rows.
+    ///
+    ///     if map.is_empty() {
+    ///         println!(rt; "nothing is left")?;
+    ///     }
+    pub fn is_empty(&self) -> bool
+        ensures { (h : History) → Stands self.now.machine h
+            → IsTrue result ↔ (rows self.now.machine.columns (moment h) ≡ empty) }
+    {
+        self.machine.len() == 0
     }
 
     /// Returns how many of the `MAX_NODES` node numbers are occupied.

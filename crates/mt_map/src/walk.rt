@@ -1,10 +1,10 @@
 //! The walks over the rows of a map, in the order of their keys.
 
-ghost use Rattle.std.specs.Prelude.{◌≡◌, ◌↔◌, IfErr, IfOk, IsTrue, MatchOption, Err, false};
+ghost use Rattle.std.specs.Prelude.{◌≡◌, IfErr, IfOk, MatchOption, Err, false};
 ghost use Rattle.mt_types.specs.Limits.{key_fault};
 ghost use Rattle.mt_promise.specs.History.{History, moment, rows};
 ghost use Rattle.mt_index.specs.Stands.{Stands};
-ghost use Rattle.mt_reads.specs.Walks.{IsEmpty, IsFirst};
+ghost use Rattle.mt_reads.specs.Walks.{IsFirst};
 
 use crate::map::Map;
 pub use mt_reads::Rows;
@@ -51,24 +51,5 @@ impl Map {
             → IsFirst (rows self.now.machine.columns (moment h)) first) }
     {
         first_of(self.alloc, &self.machine)
-    }
-
-    /// Returns whether there are no rows.
-    ///
-    ///     if map.is_empty()? {
-    ///         println!(rt; "nothing is left")?;
-    ///     }
-    ///
-    /// Costs what [`Map::first`] costs.
-    ///
-    /// # Errors
-    ///
-    /// `NoMemory` if an allocation is refused.
-    pub fn is_empty(&self) -> Result<bool, NoMemory>
-        ensures { IfOk result (λ empty. (h : History) → Stands self.now.machine h
-            → IsTrue empty ↔ IsEmpty (rows self.now.machine.columns (moment h))) }
-    {
-        let first = self.first()?;
-        Ok(first.is_none())
     }
 }

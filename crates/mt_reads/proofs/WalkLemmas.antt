@@ -16,7 +16,7 @@ use Rattle.mt_slice.proofs.KeyOrder.{KeyLess, key_three, cmp_less, cmp_greater, 
 use Rattle.mt_chart.specs.Tree.{Arena, Has}
 use Rattle.mt_walk.specs.Walk.{WalkAt, from, behind, ToCome, Gives}
 use Rattle.mt_index.specs.Stands.{MachineView, Stands}
-use Rattle.mt_reads.specs.Walks.{At, IsAfter, IsEmpty, IsFirst, GivesNext}
+use Rattle.mt_reads.specs.Walks.{At, IsAfter, IsFirst, GivesNext}
 
 -- ---- the order of keys and of their places
 pub less_back : (one other : List ℕ) → key_cmp one other ≡ Less → KeyLess one other
@@ -122,11 +122,3 @@ module _ (s m : MachineView) (at new : At) (least : List ℕ) where
       go : (found : Option Row) → get (rows s.columns (moment h)) key ≡ found → get (rows s.columns (moment h)) key ≡ None
       go None is = is
       go (Some row) is = absurd (none.1 key row is (any_comes key))
-
--- a map without a first key is empty, and one with a first key isn't
-pub first_tells : (map : Rows) (first : Option (List ℕ)) (empty : Bool) → IsFirst map first → is_some first ≡ not empty → IsTrue empty ↔ IsEmpty map
-first_tells map None true none is = ((λ yes. none), (λ all. refl))
-first_tells map None false none is = absurd (false≢true is)
-first_tells map (Some first) true found is = absurd (false≢true (sym is))
-first_tells map (Some first) false (there, least) is =
-    ((λ yes. absurd (false≢true yes)), (λ all. absurd (false≢true (sym (ap is_some (all first)) ∙ there))))

@@ -40,9 +40,6 @@ IsFirst map (Some first) =
     IsSome (get map first) × ((key : List ℕ) (row : Row) → get map key ≡ Some row → IsAfter first false key)
 IsFirst map None = (key : List ℕ) → get map key ≡ None
 
-abbrev pub IsEmpty : Rows → Type 0
-IsEmpty map = (key : List ℕ) → get map key ≡ None
-
 -- ---- how many keys are to come on a walk, be there rows or not: so it ends
 -- how many keys have at most this many bytes
 unfoldable pub keys_of : ℕ → ℕ

@@ -16,7 +16,7 @@ use Rattle.mt_remove.specs.declared.tidy.Tidy.{Tidy}
 use Rattle.mt_remove.specs.Tidy.{tidy_request, tidy_held, TidyTruth, NewTidyIsTrue, IsTidied, TidyLaw, MayTidy}
 
 quiet : (a after : ArenaView) (log : LogView) → SameContent (arena_seen a) (arena_seen after) → IsQuiet a after log log
-quiet a after log content = record { content = content; trimmed = refl; deltas = refl }
+quiet a after log content = record { content = content; trimmed = refl; deltas = refl; rows = refl }
 
 pub step_law : (C epoch : ℕ) (a after : ArenaView) (log : LogView) (tidy next : Tidy) (p : Progress) → IsTidied p → TidyLaw epoch a after tidy p next → StepLawIn epoch C a after log log (tidy_request tidy) (tidy_held tidy) p (tidy_held next) (TidyTruth tidy) (TidyTruth next)
 step_law C epoch a after log tidy next Moved t law = record {

@@ -6,7 +6,7 @@ use Rattle.mt_types.specs.declared.event.Request.TheVariants.{Get, Put, PutIf, R
 use Rattle.mt_types.specs.declared.view.ViewSpec.TheVariants.{Range as RangeOf, Prefix as PrefixOf}
 use Rattle.mt_types.specs.declared.view.RowTest.TheVariants.{Any, Equals, AtLeast}
 use Rattle.mt_types.specs.declared.event.Event.TheVariants.{Begin, Step, ViewRead, Advance}
-use Rattle.mt_script.specs.declared.command.Command.TheVariants.{Once, Finish, Alone, Feed, Read}
+use Rattle.mt_script.specs.declared.command.Command.TheVariants.{Once, Finish, Alone, Feed, Read, Len}
 use Rattle.mt_reads.specs.declared.quiet.QuietRead.TheVariants.{Gets, Count}
 use Rattle.mt_script.specs.Reads.{count_of, gets_of, read_of}
 use Rattle.mt_types.specs.declared.event.Outcome.TheVariants.{Moved}
@@ -75,6 +75,10 @@ reads_a_view = refl
 alone : command_of (codes "alone remove 61") ≡ Some (Alone (Remove (97 ∷ [])))
 unfolding command_of long_command_of alone_of request_of remove_of decode_pairs
 alone = refl
+
+counts_all : command_of (codes "len") ≡ Some Len
+unfolding command_of
+counts_all = refl
 
 feeds : command_of (codes "feed 0 10") ≡ Some (Feed 0 10)
 unfolding command_of long_command_of view_command_of feed_of

@@ -3,7 +3,7 @@ use Rattle.std.specs.Prelude.{ℕ, ◌-◌, ◌^◌, if◌then◌else◌, List, 
 use Rattle.std.specs.Str.{bytes_eq}
 use Rattle.mt_types.specs.declared.event.Event.TheVariants.{Begin, Step, Apply, ViewRead, ViewDrop, Advance, Collect}
 use Rattle.mt_script.specs.declared.command.Command.{Command}
-use Rattle.mt_script.specs.declared.command.Command.TheVariants.{Once, Finish, Alone, Feed, Read}
+use Rattle.mt_script.specs.declared.command.Command.TheVariants.{Once, Finish, Alone, Feed, Read, Len}
 use Rattle.mt_script.specs.Words.{◌>>=◌, word_at, number_of, bytes_of}
 use Rattle.mt_script.specs.Reading.{request_of}
 use Rattle.mt_script.specs.Reads.{read_of}
@@ -87,9 +87,10 @@ long_command_of line = do
       else if bytes_eq word.0 (codes "alone") then alone_of word.1
       else view_command_of word.0 word.1
 
--- what a line says, its words parted by one space: advance, collect, or a command of more than one word
+-- what a line says, its words parted by one space: advance, collect, len, or a command of more than one word
 unfoldable pub command_of : List ℕ → Option Command
 command_of line =
     if bytes_eq line (codes "advance") then Some (Once Advance)
     else if bytes_eq line (codes "collect") then Some (Once Collect)
+    else if bytes_eq line (codes "len") then Some Len
     else long_command_of line

@@ -1,6 +1,7 @@
 -- What the lines of a script do to an index, and what is written of it.
-use Rattle.std.specs.Prelude.{◌≡◌, ◌⊎◌, ℕ, ◌-◌, ◌<◌, min, nat_lt, Bool, true, false, List, [], ◌∷◌, ◌++◌, length, map, take, drop, All, codes, Option, Some, None, IfSome}
+use Rattle.std.specs.Prelude.{◌≡◌, ◌⊎◌, ℕ, ◌-◌, ◌<◌, min, nat_lt, Bool, true, false, List, [], ◌∷◌, ◌++◌, length, map, take, drop, All, codes, decimal, Option, Some, None, IfSome}
 use Rattle.std.specs.List.{flat_map, count_by}
+use Rattle.std.specs.FinMap.{len}
 use Rattle.std.specs.Option.{option_or}
 use Rattle.std.specs.Io.KnownBytes.{Appends}
 use Rattle.mt_types.specs.declared.numbers.CallNo.{CallNo}
@@ -12,7 +13,7 @@ use Rattle.mt_types.specs.declared.event.Request.{Request}
 use Rattle.mt_types.specs.declared.event.Outcome.{Outcome}
 use Rattle.mt_types.specs.declared.event.Outcome.TheVariants.{Moved, Commit, Done, Refused}
 use Rattle.mt_types.specs.Limits.{limit_fault, refused_if}
-use Rattle.mt_promise.specs.History.{History, GoesOn, moment}
+use Rattle.mt_promise.specs.History.{History, GoesOn, moment, rows}
 use Rattle.mt_promise.specs.Legal.{Legal, held_from}
 use Rattle.mt_promise.specs.Headline.{KeepsPromise}
 use Rattle.mt_promise.specs.Alone.{RunsThrough, IsTurnedAway, EndsPlainly, EndsRefused}
@@ -21,9 +22,9 @@ use Rattle.mt_commit.specs.Logged.{deltas_of}
 use Rattle.mt_script.specs.declared.fault.ScriptFault.{ScriptFault}
 use Rattle.mt_script.specs.declared.fault.ScriptFault.TheVariants.{Read, Start, NoMemory}
 use Rattle.mt_script.specs.declared.command.Command.{Command}
-use Rattle.mt_script.specs.declared.command.Command.TheVariants.{Once, Finish, Alone, Feed, Read as ReadLine}
+use Rattle.mt_script.specs.declared.command.Command.TheVariants.{Once, Finish, Alone, Feed, Read as ReadLine, Len as LenLine}
 use Rattle.mt_script.specs.declared.command.Reply.{Reply}
-use Rattle.mt_script.specs.declared.command.Reply.TheVariants.{Bad, Busy, Came, Fed, NotFed, Read as ReadSo, NotRead}
+use Rattle.mt_script.specs.declared.command.Reply.TheVariants.{Bad, Busy, Came, Fed, NotFed, Read as ReadSo, NotRead, Len as HasRows}
 use Rattle.mt_script.specs.Lines.{lines_of, line_text, ReadsLines}
 use Rattle.mt_script.specs.Commands.{command_of}
 use Rattle.mt_reads.specs.declared.quiet.QuietRead.{QuietRead}
@@ -39,6 +40,7 @@ reply_lines (Fed deltas) = flat_map (λ delta. line_text (delta_text delta)) del
 reply_lines (NotFed refusal) = line_text (refusal_text refusal)
 reply_lines (ReadSo answer) = line_text (quiet_text answer)
 reply_lines (NotRead refusal) = line_text (refusal_text refusal)
+reply_lines (HasRows many) = line_text (codes "len " ++ decimal many)
 
 -- the lines of each reply
 abbrev pub output_of : List Reply → List ℕ
@@ -137,6 +139,11 @@ ReadsOnce C read past (NotRead refusal) = (open_calls past ≡ 0) × IsNotRead C
 ReadsOnce C read past Busy = 0 < open_calls past
 ReadsOnce C read past _ = ⊥
 
+-- how many rows there are
+abbrev pub CountsRows : ℕ → History → Reply → Type 0
+CountsRows C past (HasRows many) = many ≡ len (rows C (moment past))
+CountsRows C past _ = ⊥
+
 -- what a line says was answered so after this past, on an index of C columns that keeps `keep` commits for no reader,
 -- and led to this history
 abbrev pub Answers : ℕ → ℕ → Option Command → History → Reply → History → Type 0
@@ -146,6 +153,7 @@ Answers C keep (Some (Finish call)) past reply h = Ends call past reply h
 Answers C keep (Some (Alone request)) past reply h = DoesAlone C request past reply h
 Answers C keep (Some (Feed from limit)) past reply h = Feeds C keep from limit past reply × (h ≡ past)
 Answers C keep (Some (ReadLine read)) past reply h = ReadsOnce C read past reply × (h ≡ past)
+Answers C keep (Some LenLine) past reply h = CountsRows C past reply × (h ≡ past)
 
 -- these lines, one after the other, were answered so, each by one reply
 abbrev pub AnswersAll : ℕ → ℕ → History → List (List ℕ) → List Reply → History → Type 0

@@ -20,6 +20,8 @@ pub enum Command {
     Feed { from: u64, limit: u16 },
     /// A read of one moment, if no call is open. No event happens.
     Read(QuietRead),
+    /// How many rows there are. No event happens.
+    Len,
 }
 
 /// What a line of a script is answered.
@@ -39,4 +41,6 @@ pub enum Reply {
     Read(QuietAnswer),
     /// Why such a read has none.
     NotRead(Refusal),
+    /// How many rows there are.
+    Len(u64),
 }

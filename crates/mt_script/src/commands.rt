@@ -131,7 +131,7 @@ fn long_command(alloc: Global, line: &[u8]) -> Result<Command, LineError>
 }
 
 /// What a line says, its words parted by one space: `begin PASS REQUEST`, `step CALL`, `finish CALL` or
-/// `alone REQUEST`; `apply VIEW`, `view VIEW FLOOR START LIMIT` or `drop VIEW`; `advance` or `collect`;
+/// `alone REQUEST`; `apply VIEW`, `view VIEW FLOOR START LIMIT` or `drop VIEW`; `advance`, `collect` or `len`;
 /// `feed FROM LIMIT`; `gets KEYS COLS`, `back END LIMIT COLS` or `count START END MOST`. Costs what its request costs to read.
 #[tactic(auto, unfolding(crate::specs::Commands::command_of))]
 pub fn read_command(alloc: Global, line: &[u8]) -> Result<Command, LineError>
@@ -141,6 +141,8 @@ pub fn read_command(alloc: Global, line: &[u8]) -> Result<Command, LineError>
         Ok(Command::Once(Event::Advance))
     } else if line == b"collect".as_slice() {
         Ok(Command::Once(Event::Collect))
+    } else if line == b"len".as_slice() {
+        Ok(Command::Len)
     } else {
         long_command(alloc, line)
     }

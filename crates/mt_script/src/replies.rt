@@ -48,6 +48,11 @@ pub(crate) fn reply_text(alloc: Global, reply: &Reply) -> Result<String, AllocEr
             push_refusal(&mut text, *refusal)?;
             text.push_str("\n")?;
         }
+        Reply::Len(rows) => {
+            let rows = *rows;
+            write!(text, "len {rows}")?;
+            text.push_str("\n")?;
+        }
     }
     Ok(text)
 }

@@ -120,6 +120,7 @@ fn answer(machine: &mut Machine, alloc: Global, line: &[u8]) -> Result<Reply, Sc
         Ok(Command::Alone(request)) => Ok(alone(machine, alloc, request)),
         Ok(Command::Feed { from, limit }) => Ok(feed(machine, alloc, from, limit)),
         Ok(Command::Read(asked)) => Ok(read(machine, alloc, &asked)),
+        Ok(Command::Len) => Ok(Reply::Len(machine.len() as u64)),
         Err(LineError::Bad) => Ok(Reply::Bad),
         Err(LineError::Memory) => Err(ScriptFault::NoMemory),
     }
@@ -191,8 +192,8 @@ fn start_fault(refusal: Refusal) -> ScriptFault
 /// Answers the lines of a script on an empty index, one after the other, and returns the number of bad lines.
 ///
 /// A line is `begin PASS REQUEST`, `step CALL`, `finish CALL` or `alone REQUEST`, `apply VIEW`,
-/// `view VIEW FLOOR START LIMIT` or `drop VIEW`, `advance`, `collect`, or `feed FROM LIMIT`, which is answered by a line
-/// for each delta, or `gets KEYS COLS`, `back END LIMIT COLS` or `count START END MOST`, which are answered from the rows
+/// `view VIEW FLOOR START LIMIT` or `drop VIEW`, `advance`, `collect`, `len`, or `feed FROM LIMIT`, which is answered by a
+/// line for each delta, or `gets KEYS COLS`, `back END LIMIT COLS` or `count START END MOST`, which are answered from the rows
 /// of one moment. A line of other bytes is answered `bad line`. The modules `commands`, `reading` and `showing` say
 /// what a line asks for and how an outcome is written. `finish` makes at most 1,000,000 steps.
 ///

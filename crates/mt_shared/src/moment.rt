@@ -3,7 +3,8 @@
 ghost use Rattle.std.specs.Prelude.{ℕ, ◌≡◌, ◌↔◌, IsSome, IfSome};
 ghost use Rattle.std.specs.Option.{option_copied};
 ghost use Rattle.std.specs.Map.Iter.{ShowsInOrder, deref_pair};
-ghost use Rattle.mt_promise.specs.History.{History, moment};
+ghost use Rattle.std.specs.FinMap.{len};
+ghost use Rattle.mt_promise.specs.History.{History, moment, rows};
 ghost use Rattle.mt_commit.specs.Log.{newest};
 ghost use Rattle.mt_view.specs.State.{StateView};
 ghost use Rattle.mt_view.specs.Views.{state_at};
@@ -47,6 +48,14 @@ impl<'a> Moment<'a> {
         self.kept.commits()
     }
 
+    /// Returns how many rows there are, after those commits.
+    pub fn len(&self) -> usize
+        ensures { (h : History) → Stands (machine_of self.now) h
+            → result ≡ len (rows (machine_of self.now).columns (moment h)) }
+    {
+        self.kept.len()
+    }
+
     /// Iterates over the views, each with its number, in the order of the numbers. Copies nothing.
     pub fn views(&self) -> Iter<'_, u64, ViewState>
         ensures listed { result ≡ (machine_of self.now).views.views }
@@ -87,6 +96,13 @@ impl Inner {
         ensures number { result ≡ newest self.now.machine.log }
     {
         self.machine.commits()
+    }
+
+    fn len(&self) -> usize
+        ensures { (h : History) → Stands self.now.machine h
+            → result ≡ len (rows self.now.machine.columns (moment h)) }
+    {
+        self.machine.len()
     }
 
     fn views(&self) -> Iter<'_, u64, ViewState>

@@ -110,7 +110,7 @@ fn views_of_a_moment(rt: HostRuntime) -> Result<(), Fail> {
         })?
         .value;
     let moment = client.shared.moment();
-    assert_eq!(rt; moment.commits(), 1);
+    assert_eq!(rt; (moment.commits(), moment.len()), (1, 1));
     for (number, state) in moment.views() {
         assert_eq!(rt; (ViewNo(*number), state.at(), state.count()), (view, 1, 1));
     }

@@ -61,7 +61,7 @@ goes_same now a w Then owned owns same world truth = record {
 }
 
 pub quiet_same : (a : ArenaView) (log : LogView) → IsQuiet a a log log
-quiet_same a log = record { content = λ key row. ((λ h. h), (λ h. h)); trimmed = refl; deltas = refl }
+quiet_same a log = record { content = λ key row. ((λ h. h), (λ h. h)); trimmed = refl; deltas = refl; rows = refl }
 
 -- each number of the chart is one of the arena's
 named_within : (number : ℕ) (node : Option Node) (seen : PlainNode) → option_map node_seen node ≡ Some seen → node ≡ None → ⊥

@@ -57,11 +57,12 @@ ThenTrue (Committed number) moves True w = True 0 w
 ThenTrue (Answered answer) moves True w = Unit {0}
 ThenTrue (Refused refusal) moves True w = Unit {0}
 
--- the rows, and the deltas of the log, are as before
+-- the rows, their number, and the deltas of the log, are as before
 pub record IsQuiet (a after : ArenaView) (log left : LogView) : Type 0 where
   pub content : SameContent (arena_seen a) (arena_seen after)
   pub trimmed : left.held_after ≡ log.held_after
   pub deltas : left.deltas ≡ log.deltas
+  pub rows : left.rows ≡ log.rows
 
 -- this is the row at the key, or there is none
 abbrev pub RowIs : ArenaView → List ℕ → Option Row → Type 0

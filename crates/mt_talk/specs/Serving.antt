@@ -86,7 +86,7 @@ greeting facts newest role =
 -- what is counted, in the order in which it is named
 abbrev pub numbers : Facts → List ℕ
 numbers facts =
-    facts.commits ∷ facts.nodes ∷ facts.standing ∷ facts.logged ∷ facts.connections ∷ facts.accepted ∷ facts.turned_away
+    facts.commits ∷ facts.rows ∷ facts.nodes ∷ facts.standing ∷ facts.logged ∷ facts.connections ∷ facts.accepted ∷ facts.turned_away
     ∷ facts.frames ∷ facts.queries ∷ facts.faults ∷ facts.input_bytes ∷ facts.output_bytes ∷ unwrap_or facts.durable 0
     ∷ facts.wrong_secrets ∷ facts.buffered_bytes ∷ facts.resident_bytes ∷ facts.milliseconds ∷ []
 

@@ -20,6 +20,8 @@ pub struct Facts {
     pub commits: u64,
     /// From which number of commits on the log has all.
     pub logged: u64,
+    /// How many rows there are.
+    pub rows: u64,
     /// How many numbers of nodes are in use.
     pub nodes: u64,
     /// How many views there are.
@@ -72,6 +74,7 @@ impl Facts {
     {
         Ok(vec![in alloc;
             count(b"commits", self.commits),
+            count(b"rows", self.rows),
             count(b"nodes", self.nodes),
             count(b"views", self.standing),
             count(b"feed_from", self.logged),

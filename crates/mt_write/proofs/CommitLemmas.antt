@@ -263,7 +263,7 @@ module _ (C : ℕ) (a : ArenaView) (log : LogView) (key : List ℕ) (edit : Edit
         let same : f.b ≡ b = (let both : ◌≡◌ {A = Option BorderView} (Some f.b) (Some b) = sym f.named ∙ at.named in cc) in
         record {
           goes = goes_same now a w _ (way.node.0 ∷ []) (way.node.0 ∷ []) refl world (b, at, subst (λ (e : Edit). IsFound key e way b place stored before) (sym is_remove) (subst (λ (x : BorderView). IsFound key RemoveEdit way x place stored before) same f.found));
-          does = (record { content = λ k row. ((λ h. h), (λ h. h)); trimmed = ap (λ (l : LogView). l.held_after) f.reserved; deltas = ap (λ (l : LogView). l.deltas) f.reserved }, refl);
+          does = (record { content = λ k row. ((λ h. h), (λ h. h)); trimmed = ap (λ (l : LogView). l.held_after) f.reserved; deltas = ap (λ (l : LogView). l.deltas) f.reserved; rows = ap (λ (l : LogView). l.rows) f.reserved }, refl);
           reserved = let more = ap (λ (l : LogView). l.reserved) f.reserved in omega (arith, more);
           bounds = ap bounds f.reserved;
           blocked = inl refl;
@@ -294,7 +294,7 @@ module _ (C : ℕ) (a : ArenaView) (log : LogView) (key : List ℕ) (edit : Edit
             (goes_border a way.node.0 at.b unlock at.named now w (way.node.0 ∷ []) [] _ world (λ known. (ages_unlocked at.b, inr refl)) (subst (λ (x : ArenaView). IsIndexAt x now w.twins w.chart) is kept.index)
             (subst (λ (x : ArenaView). RowsAreOfKeys x) is (keys_same a after kept.content world.keys))
             (own_free a way.node.0 w) (λ other i. elim i [ ]) (λ other ne i. absurd (ne (among_one other way.node.0 i))) (λ taken. absurd (elim taken [ inl locked ↦ (let clash : false ≡ true = locked in cc) | inr none ↦ (let some : IsSome (let nothing : Option Spot = None in nothing) = subst (λ (x : Option Spot). IsSome x) none at.known in cc) ])) (locked_may a way.node.0 at.b unlock at.named now w world at.locked at.free (inr at.alive)) truth),
-        record { content = kept.content; trimmed = refl; deltas = refl },
+        record { content = kept.content; trimmed = refl; deltas = refl; rows = refl },
       )
 
   pub answers : (number : ℕ) (answer : Answer) → answer ≡ written_answer edit number → (then : Held) (Then : Truth) (after : ArenaView) → after ≡ with_border_changed a way.node.0 unlock → KeepsTree a after → EndLaw after (Answered answer) then Then (Stored number None)

@@ -304,7 +304,7 @@ module _ (a : ArenaView) (write : Write) (half : NodeNo) (may : MayBeAt a write 
         (λ number i. inl (later i))
         (λ mid. (ends C between log write.key write.edit write.way (λ next. Unit {0}) now w after unlocked keeps mid there tt).0) in
         let content = content_twice a between after kept.content (keeps.keeps now w.twins w.chart kept.index).content in
-        record { goes = goes; does = (record { content = content; trimmed = refl; deltas = refl }, refl, tt, tells_version C a log write.key write.edit write.way w now world write.edit NoMemory tt); reserved = refl; bounds = refl; blocked = refl; may = tt };
+        record { goes = goes; does = (record { content = content; trimmed = refl; deltas = refl; rows = refl }, refl, tt, tells_version C a log write.key write.edit write.way w now world write.edit NoMemory tt); reserved = refl; bounds = refl; blocked = refl; may = tt };
   }
 
   pub gives_back : (between after : ArenaView) → between ≡ without_node a half.0 → KeepsUnknown a between half.0 → after ≡ with_border_changed between write.way.node.0 with_unlocked → KeepsTree between after → TreeStep a after write (GivesBack half) (Refused NoMemory) write

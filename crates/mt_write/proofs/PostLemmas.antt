@@ -139,7 +139,7 @@ module _ (C : ℕ) (a : ArenaView) (log : LogView) (key : List ℕ) (edit : Edit
             (subst (λ (x : ArenaView). RowsAreOfKeys x) is (keys_same a after kept.content world.keys))
             (mine_free a split.left.0 w (split.half.0 ∷ split.left.0 ∷ []) (later first)) (λ other i. inl (widen other i)) (λ other ne i. among_two other i ne)
             (λ taken. absurd (elim taken [ inl locked ↦ (let clash : false ≡ true = locked in cc) | inr none ↦ (let some : IsSome (let nothing : Option Spot = None in nothing) = subst (λ (x : Option Spot). IsSome x) none left.known in cc) ])) (locked_may a split.left.0 left.b unlock left.named now w world left.locked left.free (inr left.alive)) truth),
-        record { content = kept.content; trimmed = refl; deltas = refl },
+        record { content = kept.content; trimmed = refl; deltas = refl; rows = refl },
       )
 
   module _ (head : NodeNo) (posting : Posting) (head_is : posting.head ≡ head) (half_is : posting.half ≡ split.half) (r : BorderView) (read : border_at a.nodes split.half.0 ≡ Some r) (low_is : posting.low ≡ r.low) (new : NewPostingIsTrue posting) where
@@ -219,7 +219,7 @@ module _ (C : ℕ) (a after : ArenaView) (log : LogView) (key : List ℕ) (edit 
         let (goes, content) = law.steps now begun w world before truth.0.0 in
         record {
           goes = goes_more now a after w _ _ _ (λ x. HeadedStage C key edit way head (Posts then ending) begun after x) goes (λ evolves t. ((t, ap (λ (q : Posting). q.half) same ∙ truth.0.1, truth.0.2), known_on begun w goes.next (evolves begun before) truth.1));
-          does = (record { content = content; trimmed = refl; deltas = refl }, refl);
+          does = (record { content = content; trimmed = refl; deltas = refl; rows = refl }, refl);
           reserved = refl;
           bounds = refl;
           blocked = inl refl;
@@ -241,7 +241,7 @@ module _ (C : ℕ) (a after : ArenaView) (log : LogView) (key : List ℕ) (edit 
       let (goes, content) = law.steps now begun w world before truth in (
         subst (λ (h : NodeNo). Goes now a after w (posting_owned posting) (h.0 ∷ []) More) (ap (λ (q : Posting). q.half) same ∙ half_is)
             (goes_more now a after w _ _ _ More goes (λ evolves t. more goes.next (evolves begun before) (still goes.next (ap (λ (q : Posting). q.half) same ∙ half_is) t))),
-        record { content = content; trimmed = refl; deltas = refl },
+        record { content = content; trimmed = refl; deltas = refl; rows = refl },
       )
 
   pub posts_end : (end : PostEnd) → PostLaw a after posting (Ended end) then → PostingStep Moved (ending_stage ending None)

@@ -73,7 +73,7 @@ module _ (C : ℕ) (a : ArenaView) (log : LogView) (key : List ℕ) (sets : List
       )) in
       record {
         goes = subst (λ (owns : List ℕ). Goes now a after w (owned way.node.0 split) owns (λ next. StageIsTrue C key (PutEdit sets only) way (Reserved new slot_key row) begun after next)) owned_is goes;
-        does = (record { content = content; trimmed = ap (λ (l : LogView). l.held_after) f.reserved; deltas = ap (λ (l : LogView). l.deltas) f.reserved }, refl);
+        does = (record { content = content; trimmed = ap (λ (l : LogView). l.held_after) f.reserved; deltas = ap (λ (l : LogView). l.deltas) f.reserved; rows = ap (λ (l : LogView). l.rows) f.reserved }, refl);
         reserved = let more = ap (λ (l : LogView). l.reserved) f.reserved in omega (arith, more);
         bounds = ap bounds f.reserved;
         blocked = inl refl;
@@ -131,7 +131,7 @@ module _ (C : ℕ) (a : ArenaView) (log : LogView) (key : List ℕ) (sets : List
         subst (λ (x : ArenaView). Stepped C now moves past a x log left w (put_request key sets only) (stage_held way.node.0 (Searched there)) Moved (stage_held way.node.0 (Made place stored columns logged)) (λ m next. StageIsTrue C key (PutEdit sets only) way (Made place stored columns logged) begun x next)) (sym f.same)
         (record {
           goes = goes_same now a w _ (way.node.0 ∷ []) (way.node.0 ∷ []) refl world (b, at, record { sets = sets; only = only; is_put = refl; agrees = subst (λ (x : BorderView). version_fault only (row_at place x.live) ≡ None) same (subst (λ (o : Found). version_fault only (row_found f.b.live o) ≡ None) f.made.there (agrees f.b f.named)) }, subst (λ (x : BorderView). IsMade C key sets way x place stored columns logged) same f.made);
-          does = (record { content = λ k row. ((λ h. h), (λ h. h)); trimmed = ap (λ (l : LogView). l.held_after) f.reserved; deltas = ap (λ (l : LogView). l.deltas) f.reserved }, refl);
+          does = (record { content = λ k row. ((λ h. h), (λ h. h)); trimmed = ap (λ (l : LogView). l.held_after) f.reserved; deltas = ap (λ (l : LogView). l.deltas) f.reserved; rows = ap (λ (l : LogView). l.rows) f.reserved }, refl);
           reserved = let more = ap (λ (l : LogView). l.reserved) f.reserved in omega (arith, more);
           bounds = ap bounds f.reserved;
           blocked = inl refl;

@@ -12,7 +12,8 @@ use Rattle.mt_types.specs.declared.row.Delta.{Delta}
 use Rattle.mt_types.specs.declared.row.Row.{Row}
 use Rattle.mt_slice.specs.Place.{AreBytes}
 use Rattle.mt_word.specs.declared.permutation_word.TheConstants.{SLOTS}
-use Rattle.mt_commit.specs.Log.{LogView, IsLog, newest, reserve_fault, slowest, trimmed, with_delta}
+use Rattle.mt_commit.specs.Log.{LogView, IsLog, effect_of, newest, reserve_fault, slowest, trimmed, with_delta}
+use Rattle.mt_commit.specs.declared.effect.Effect.TheVariants.{Adds, Keeps, Removes}
 use Rattle.mt_commit.proofs.LogLemmas.{appended_log}
 use Rattle.mt_border.specs.Border.{BorderView, row_at, with_filled, with_hidden, with_inserting, with_shown, with_value}
 use Rattle.mt_border.specs.Order.{IsBorder}
@@ -45,6 +46,21 @@ use Rattle.mt_border.specs.declared.unwritten.Unwritten.TheVariants.{Value}
 use Rattle.mt_steps.proofs.BorderLemmas.{now_named}
 use Rattle.mt_write.specs.declared.writing.Insertion.{Insertion}
 use Rattle.mt_write.proofs.StageSteps.{hides_row, may_show, readies_put, readies_remove, row_there, shows_row, writes_row}
+
+-- ---- the row that was found
+row_is : (o : Option Row) → IsSome o → (row : Row) × (o ≡ Some row)
+row_is None has = absurd (let clash : false ≡ true = has in cc)
+row_is (Some row) has = (row, refl)
+
+-- a put over it leaves as many rows
+keeps_over : (o : Option Row) (row : Row) → IsSome o → effect_of o (Some row) ≡ Keeps
+keeps_over None row has = absurd (let clash : false ≡ true = has in cc)
+keeps_over (Some old) row has = refl
+
+has_row : (a : ArenaView) (write : Write) (found : Found) → Finds a write.key write.way found → (place : ℕ) → found ≡ RowFound place → (b : BorderView) → border_at a.nodes write.way.node.0 ≡ Some b → IsSome (row_at place b.live)
+has_row a write found f place row b named =
+    let at = subst (λ (x : Found). IsFoundAt (rest_of write.key write.way) b.live x) row (found_stands a write.key write.way found f b named) in
+    (row_there b.live place at.entry at.stands at.row).1
 
 -- ---- why what was to be made was not made
 -- for a fault, if there is one, and otherwise only if out of memory
@@ -82,7 +98,7 @@ module _ (C : ℕ) (a between after : ArenaView) (log left last : LogView) (writ
       → delta.number ≡ newest left + 1 → 1 ≤ left.reserved → last ≡ trimmed (with_delta left delta) → newest last ≡ newest left + 1 → IsLog left → IsArena after → steps + 1 + cond hides 2 0 ≤ 4 → CommitsAt C a after log last write there (record { commit = number; steps = steps + 1; hides = hides })
   passes ready commits next room passed newest_is sound arena few =
       let long = length-append left.deltas (delta ∷ []) in
-      commits_ready C a log write there between left stage steps ready hides after (with_delta left delta) last number commits (appended_log left delta (left.deltas ++ delta ∷ []) sound room next refl) arena passed (omega (arith, newest_is, long)) few
+      commits_ready C a log write there between left stage steps ready hides after (with_delta left delta) last number commits (appended_log left delta (left.deltas ++ delta ∷ []) _ sound room next refl) arena passed (omega (arith, newest_is, long)) few
 
 -- there is room for the delta
 pub has_room : (log left : LogView) → left ≡ with_room log → 1 ≤ left.reserved
@@ -124,7 +140,7 @@ module _ (C : ℕ) (a : ArenaView) (log left : LogView) (write : Write) (there :
         (made_ready (List (List ℕ)) (reserve_fault log) made (Made place write.key made made) tt fault)
 
     pub passes_over : MayAct C a log write found there → (after : ArenaView) (last : LogView) (number : ℕ) → number ≡ newest last → after ≡ with_border_changed a write.way.node.0 (λ x. with_value x place (record { version = number; columns = made }))
-        → SetsRowAt a after write.way.node.0 place (record { version = number; columns = made }) → ((delta : Delta) → last ≡ trimmed (with_delta left delta)) → newest last ≡ newest left + 1 → IsLog left → IsArena after → CommitsAt C a after log last write there (record { commit = number; steps = 2; hides = false })
+        → SetsRowAt a after write.way.node.0 place (record { version = number; columns = made }) → ((delta : Delta) → effect_of delta.before delta.after ≡ Keeps → last ≡ trimmed (with_delta left delta)) → newest last ≡ newest left + 1 → IsLog left → IsArena after → CommitsAt C a after log last write there (record { commit = number; steps = 2; hides = false })
     passes_over act after last number is_last written sets_row passed newest_is sound_left arena =
         let next : number ≡ newest left + 1 = is_last ∙ newest_is in
         let delta : Delta = put_delta (newest left + 1) write.key (row_at place b.live) made in
@@ -134,7 +150,7 @@ module _ (C : ℕ) (a : ArenaView) (log left : LogView) (write : Write) (there :
         (subst (λ (n : ℕ). after ≡ with_border_changed a write.way.node.0 (λ x. with_value x place (record { version = n; columns = made }))) next written)
         (subst (λ (n : ℕ). SetsRowAt a after write.way.node.0 place (record { version = n; columns = made })) next sets_row)
         (subst (λ (o : Option BorderView). IsSomeAnd o (λ x. with_delta left delta ≡ with_delta left (put_delta (newest left + 1) write.key (row_at place x.live) made))) (sym named) refl) room)
-        refl room (passed delta) newest_is sound_left arena (omega arith)
+        refl room (passed delta (keeps_over (row_at place b.live) _ (has_row a write found f place row b named))) newest_is sound_left arena (omega arith)
 
   -- ---- of a new key
   pub new_fails : (T : Type 0) (place : ℕ) → found ≡ AbsentFound place → length b.live < SLOTS → (after : ArenaView) (refusal : Refusal) → MayFail log (PutRequest write.key sets) refusal × (after ≡ a) × (left ≡ log) → MadeFor T (fill_fault log b) (Err refusal)
@@ -185,7 +201,7 @@ module _ (C : ℕ) (a : ArenaView) (log left : LogView) (write : Write) (there :
     may_show_new version = some_for place (border_at between.nodes write.way.node.0) (may_show between write left place write.key (columns_after C sets None) None (C, may_next C a log write there between left filled 3 readied_new)) version
 
     pub passes_new : (after : ArenaView) (last : LogView) (number : ℕ) → number ≡ newest last → after ≡ with_border_changed between write.way.node.0 (λ x. with_shown x place number)
-        → ShowsNext between after write.way.node.0 number → ((delta : Delta) → last ≡ trimmed (with_delta left delta)) → newest last ≡ newest left + 1 → IsArena after → CommitsAt C a after log last write there (record { commit = number; steps = 4; hides = false })
+        → ShowsNext between after write.way.node.0 number → ((delta : Delta) → effect_of delta.before delta.after ≡ Adds → last ≡ trimmed (with_delta left delta)) → newest last ≡ newest left + 1 → IsArena after → CommitsAt C a after log last write there (record { commit = number; steps = 4; hides = false })
     passes_new after last number is_last shown shows passed newest_is arena =
         let next : number ≡ newest left + 1 = is_last ∙ newest_is in
         let delta : Delta = put_delta (newest left + 1) write.key None (columns_after C sets None) in
@@ -193,19 +209,10 @@ module _ (C : ℕ) (a : ArenaView) (log left : LogView) (write : Write) (there :
         passes C a between after log left last write there filled 3 number delta false readied_new
         (shows_row C between after left (with_delta left delta) write place write.key (columns_after C sets None) None number next
         (subst (λ (n : ℕ). after ≡ with_border_changed between write.way.node.0 (λ x. with_shown x place n)) next shown) (subst (λ (n : ℕ). ShowsNext between after write.way.node.0 n) next shows) refl room)
-        refl room (passed delta) newest_is sound_left arena (omega arith)
+        refl room (passed delta refl) newest_is sound_left arena (omega arith)
 
 -- ---- a remove
-row_is : (o : Option Row) → IsSome o → (row : Row) × (o ≡ Some row)
-row_is None has = absurd (let clash : false ≡ true = has in cc)
-row_is (Some row) has = (row, refl)
-
 module _ (C : ℕ) (a : ArenaView) (log left : LogView) (write : Write) (there : There) (is : write.edit ≡ RemoveEdit) (found : Found) (f : Finds a write.key write.way found) (place : ℕ) (row : found ≡ RowFound place) (b : BorderView) (named : border_at a.nodes write.way.node.0 ≡ Some b) where
-  has_row : IsSome (row_at place b.live)
-  has_row =
-      let at = subst (λ (x : Found). IsFoundAt (rest_of write.key write.way) b.live x) row (found_stands a write.key write.way found f b named) in
-      (row_there b.live place at.entry at.stands at.row).1
-
   there_is : found_for (rest_of write.key write.way) b.live ≡ RowFound place
   there_is = sym (found_is a write.key write.way found f b named) ∙ row
 
@@ -226,12 +233,12 @@ module _ (C : ℕ) (a : ArenaView) (log left : LogView) (write : Write) (there :
         (Taken place write.key before) refl
 
     pub passes_found : MayAct C a log write found there → (after : ArenaView) (last : LogView) (number : ℕ) → number ≡ newest last → after ≡ with_border_changed a write.way.node.0 (λ x. with_hidden x place) → HidesRowAt a after write.way.node.0 place
-        → ((delta : Delta) → last ≡ trimmed (with_delta left delta)) → newest last ≡ newest left + 1 → IsLog left → IsArena after → CommitsAt C a after log last write there (record { commit = number; steps = 2; hides = true })
+        → ((delta : Delta) → effect_of delta.before delta.after ≡ Removes → last ≡ trimmed (with_delta left delta)) → newest last ≡ newest left + 1 → IsLog left → IsArena after → CommitsAt C a after log last write there (record { commit = number; steps = 2; hides = true })
     passes_found act after last number is_last hidden hides passed newest_is sound_left arena =
         let next : number ≡ newest left + 1 = is_last ∙ newest_is in
-        let (before, copied) = row_is (row_at place b.live) has_row in
+        let (before, copied) = row_is (row_at place b.live) (has_row a write found f place row b named) in
         let delta : Delta = remove_delta (newest left + 1) write.key before in
         let room = has_room log left reserved in
         passes C a a after log left last write there (Taken place write.key before) 1 number delta true (readied_one C a log write there act.may act.trimmed act.arena a left (Taken place write.key before) (readies_found before copied) act.arena sound_left)
         (hides_row C a after left (with_delta left delta) write place write.key before number next hidden hides refl room)
-        refl room (passed delta) newest_is sound_left arena (omega arith)
+        refl room (passed delta refl) newest_is sound_left arena (omega arith)

@@ -60,7 +60,7 @@ pub quiet_step : {C now moves : ℕ} {past : List Arena} {a after : ArenaView} {
     → SameContent (arena_seen a) (arena_seen after) → then.committed ≡ held.committed → then.reserves ≡ held.reserves → Blocks log held.blocked Moved then.blocked → Stepped C now moves past a after log log w (edit_request key edit) held Moved then True
 quiet_step {C} {now} {moves} {past} {a} {after} {log} key edit goes content committed reserves blocked = record {
   goes = goes;
-  does = (record { content = content; trimmed = refl; deltas = refl }, committed);
+  does = (record { content = content; trimmed = refl; deltas = refl; rows = refl }, committed);
   reserved = ap (λ (n : ℕ). log.reserved + n) (sym reserves);
   bounds = refl;
   blocked = blocked;

@@ -11,6 +11,7 @@ use crate::inserting::insert_unread;
 use crate::ready::{NewRow, make_columns, other_version};
 use crate::writing::{Edit, Write};
 use mt_border::Found;
+use mt_commit::effect::Effect;
 use mt_commit::log::Log;
 use mt_steps::way::rest_of;
 use mt_tree::Tree;
@@ -39,7 +40,7 @@ impl Write {
         log.reserve()?;
         tree.hide_row(self.way.node, place);
         let _hidden = tree.free_numbers();
-        log.pass();
+        log.pass(Effect::Removes);
         Ok(Some(Committed {
             commit: log.number(),
             steps: 2,
@@ -82,7 +83,7 @@ impl Write {
         match found {
             Found::Row(place) => {
                 let columns = make_columns(alloc, log, &row, border, place)?;
-                log.pass();
+                log.pass(Effect::Keeps);
                 let version = log.number();
                 drop(tree.set_value(self.way.node, place, Row { version, columns }));
                 let _written = tree.free_numbers();
@@ -95,7 +96,7 @@ impl Write {
             Found::Absent(place) if !border.is_full() => {
                 insert_unread(alloc, tree, log, &row)?;
                 let _filled = tree.free_numbers();
-                log.pass();
+                log.pass(Effect::Adds);
                 let version = log.number();
                 tree.show(self.way.node, place, version);
                 let _shown = tree.free_numbers();

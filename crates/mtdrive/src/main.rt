@@ -32,6 +32,7 @@ Each line of standard input is one of
   view VIEW FLOOR START LIMIT   reads a view that is at FLOOR or later: `view AT COUNT SUMS K ROWS` or a refusal
   drop VIEW            ends a view: `dropped` or a refusal
   advance, collect     the next epoch: `epoch N`; frees retired nodes: `freed N`
+  len                  how many rows there are: `len N`, also while calls are open
   feed FROM LIMIT      the commits after FROM, at most LIMIT: a line `delta N KEY BEFORE AFTER` for each, or a refusal
   gets KEYS COLS, back END LIMIT COLS, count START END MOST   the rows of keys joined by commas: `found N ROWS`; the last rows
                        before END: `rows N ROWS`; how many rows are from START on and before END, up to MOST: `count N`; a

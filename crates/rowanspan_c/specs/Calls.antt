@@ -1,5 +1,6 @@
 -- What each call does with what a handle holds, and what it reports.
 use Rattle.std.specs.Prelude.{ℕ, ◌≡◌, ◌⊎◌, List, Result, Option, Some, None, IfOk, IfErr}
+use Rattle.std.specs.FinMap.{len}
 use Rattle.mt_types.specs.Limits.{open_fault}
 use Rattle.mt_types.specs.RefusalNumbers.{refusal_number}
 use Rattle.mt_types.specs.declared.event.Answer.{Answer}
@@ -8,7 +9,9 @@ use Rattle.mt_types.specs.declared.event.Outcome.{Outcome}
 use Rattle.mt_types.specs.declared.event.Request.{Request}
 use Rattle.mt_types.specs.declared.refusal.Refusal.{Refusal}
 use Rattle.mt_index.specs.declared.options.Options.{Options}
+use Rattle.mt_promise.specs.History.{History, moment, rows}
 use Rattle.mt_index.specs.Events.{IsOpened}
+use Rattle.mt_index.specs.Stands.{Stands}
 use Rattle.mt_map.specs.Tidies.{ChangeComesTo, MapMakes, MapView}
 use Rattle.mt_map.specs.Views.{IsStopped, KeepsUp}
 use Rattle.rowanspan_c.specs.declared.status.TheConstants.{DONE, CLOSED, HELD}
@@ -56,6 +59,12 @@ abbrev pub CountsRows : Option MapView → List ℕ → Option (List ℕ) → �
 CountsRows None start end most status told = Tells CLOSED 0 status told
 CountsRows (Some s) start end most status told =
     (count : Result ℕ Refusal) × CountsTo s.machine start end most count × TellsCount count status told
+
+-- the number of all rows is reported
+abbrev pub CountsAll : Option MapView → ℕ → ℕ → Type 0
+CountsAll None status told = Tells CLOSED 0 status told
+CountsAll (Some s) status told =
+    (h : History) → Stands s.machine h → Tells DONE (len (rows s.machine.columns (moment h))) status told
 
 -- a number of the index is reported
 abbrev pub Counts : Option MapView → (MapView → ℕ) → ℕ → ℕ → Type 0

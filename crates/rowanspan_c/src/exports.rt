@@ -12,7 +12,7 @@ ghost use Rattle.mt_asked.specs.Borrowed.{sets_of};
 ghost use Rattle.mt_reads.specs.Back.{bound_of};
 ghost use Rattle.rowanspan_c.specs.Questions.{ReadsRow, ReadsRows, ReadsRowsBack, ReadsMany, ReadsDeltas};
 ghost use Rattle.rowanspan_c.specs.Keys.{keys_of};
-ghost use Rattle.rowanspan_c.specs.Calls.{Opens, Changes, Reads, Meets, Counts, CountsRows, close_status};
+ghost use Rattle.rowanspan_c.specs.Calls.{Opens, Changes, Reads, Meets, Counts, CountsAll, CountsRows, close_status};
 
 use crate::changing::{answer, change, meet};
 use crate::gathering::BorrowedKey;
@@ -293,6 +293,21 @@ pub extern "C" fn rowanspan_commits(handle: &mut Handle, alloc: Global, told: &m
         return CLOSED;
     };
     *told = index.commits();
+    handle.fill(index);
+    DONE
+}
+
+/// Reports how many rows there are.
+#[unsafe(no_mangle)]
+pub extern "C" fn rowanspan_len(handle: &mut Handle, alloc: Global, told: &mut u64) -> u16
+    ensures number { CountsAll handle.old.held result told.new }
+    ensures kept { handle.new.held ≡ handle.old.held }
+{
+    let Some(index) = handle.take(alloc) else {
+        *told = 0;
+        return CLOSED;
+    };
+    *told = index.len() as u64;
     handle.fill(index);
     DONE
 }

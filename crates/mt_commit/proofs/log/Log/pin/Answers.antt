@@ -15,6 +15,7 @@ invariant_of-self-2 c =
       sound = pinned_log (log_of c.self.inside) c.args.number c.add.new.self c.self.invariant.sound (omega arith) (omega arith) c.in_ok-add.ensures.ok;
       room = c.self.invariant.room;
       counted = omega arith;
+      few = c.self.invariant.few;
     }
 
 pub returns-clause-sound : goal.returns-clause-sound

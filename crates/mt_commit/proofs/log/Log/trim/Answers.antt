@@ -21,6 +21,7 @@ invariant_of-self c =
       sound = trimmed_log (log_of c.self.inside) _ _ c.self.invariant.sound bound c.drop_front.ensures.items;
       room = omega arith;
       counted = c.self.invariant.counted;
+      few = let stays = newest-trimmed (log_of c.self.inside) _ _ c.self.invariant.sound bound c.drop_front.ensures.items in let few = c.self.invariant.few in omega (arith, stays, few);
     }
 
 pub returns-clause-newest_stays : goal.returns-clause-newest_stays

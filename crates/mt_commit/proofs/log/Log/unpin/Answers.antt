@@ -18,6 +18,7 @@ invariant_of-self c =
       sound = unpinned_log (log_of c.self.inside) c.args.number c.remove.new.self c.self.invariant.sound c.remove.ensures;
       room = c.self.invariant.room;
       counted = omega arith;
+      few = c.self.invariant.few;
     }
 
 pub returns-clause-sound : goal.returns-clause-sound
