@@ -1,9 +1,13 @@
 -- What calls and events come to on a machine on which no call is open.
 use Rattle.std.proofs.Common.{arith, ◌≡◌, ◌≤◌, ℕ, List, [], length, suc, ◌<◌, refl, sym, ap, subst, ◌∙◌, inl, inr, Bool, true, false, eqb}
-use Rattle.std.specs.Prelude.{Option, Some, None, Result, Ok, Err, IfOk, MatchBool, MatchOption, if◌then◌else◌, ◌&&◌, is_some, nat_le}
+use Rattle.std.specs.FinMap.{empty, empty_of_len, len, len-empty}
+use Rattle.std.specs.Prelude.{Option, Some, None, Result, Ok, Err, IfOk, IsTrue, ◌↔◌, ◌==◌, MatchBool, MatchOption, if◌then◌else◌, ◌&&◌, is_some, nat_le}
 use Rattle.std.specs.Option.{option_or}
-use Rattle.std.proofs.lemmas.Bool.Decides.{leb_tells}
+use Rattle.std.proofs.lemmas.Bool.Decides.{eqb_tells, leb_tells}
+use Rattle.mt_types.specs.Keys.{key_cmp}
 use Rattle.mt_types.specs.Numbers.{greatest_number}
+use Rattle.mt_types.specs.Rows.{Rows}
+use Rattle.mt_types.specs.declared.row.Row.{Row}
 use Rattle.mt_types.specs.declared.limits.TheConstants.{MAX_KEY_BYTES, MAX_OPEN_CALLS, MAX_VIEWS}
 use Rattle.mt_types.specs.declared.numbers.ViewNo.{ViewNo}
 use Rattle.mt_types.specs.declared.refusal.Refusal.{Refusal}
@@ -324,3 +328,16 @@ pub pages_floor : (s : MachineView) (view : ℕ) (floor : ℕ) (start : List ℕ
     → ReadsView s view floor start limit (page_outcome result) → IfOk result (λ page. floor ≤ page.at)
 pages_floor s view floor start limit (Ok page) reads = page_floor (page_fault start limit) (state_at view s.views.views) floor start limit page reads
 pages_floor s view floor start limit (Err refusal) reads = tt
+
+-- a map is empty if no row is counted, and only then
+pub none_counted : (map : Rows) (many : ℕ) → many ≡ len map → IsTrue (many == 0) ↔ (map ≡ empty)
+none_counted map many is = (
+  (λ yes. elim (eqb_tells many 0) [
+    | inl none ↦ empty_of_len map (sym is ∙ none.1)
+    | inr some ↦ absurd (let clash : ◌≡◌ {A = Bool} false true = sym some.0 ∙ yes in cc)
+  ]),
+  (λ none. elim (eqb_tells many 0) [
+    | inl same ↦ same.0
+    | inr some ↦ absurd (some.1 (is ∙ ap len none ∙ len-empty key_cmp Row))
+  ]),
+)

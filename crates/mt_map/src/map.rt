@@ -143,7 +143,7 @@ impl Map {
         ensures { (h : History) → Stands self.now.machine h
             → IsTrue result ↔ (rows self.now.machine.columns (moment h) ≡ empty) }
     {
-        self.machine.len() == 0
+        self.len() == 0
     }
 
     /// Returns how many of the `MAX_NODES` node numbers are occupied.

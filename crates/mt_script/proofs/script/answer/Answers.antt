@@ -17,4 +17,4 @@ pub returns-in-Ok-Alone-clause-stands : goal.returns-in-Ok-Alone-clause-stands
 returns-in-Ok-Alone-clause-stands c = λ past stands. rw (c.in-Ok-Alone.ensures, c.in-Ok-Alone.field-0-is) (c.alone.ensures.stands past stands)
 
 pub returns-in-Ok-Len-clause-stands : goal.returns-in-Ok-Len-clause-stands
-returns-in-Ok-Len-clause-stands c = λ past stands. (past, rw (c.in-Ok-Len.ensures) (c.len.ensures past stands, refl), stands)
+returns-in-Ok-Len-clause-stands c = λ past stands. (past, rw (c.in-Ok-Len.ensures, c.in-Ok-Len.field-0-is) (c.len.ensures past stands, refl), stands)
