@@ -34,7 +34,7 @@ pub fn share_of(number: usize, count: usize) -> Share
 {
     if count < 2 {
         Share::All
-    } else if number.saturating_add(1) == count {
+    } else if number == count - 1 {
         Share::Long
     } else {
         Share::Short
