@@ -25,26 +25,6 @@ step 4
 len
 step 4
 len
-step 4
-len
-step 4
-len
-step 4
-len
-step 4
-len
-step 4
-len
-step 4
-len
-step 4
-len
-step 4
-len
-step 4
-len
-step 4
-len
 begin 2 remove 61
 step 5
 len
@@ -70,19 +50,4 @@ step 5
 len
 step 5
 len
-step 5
-len
-step 5
-len
-step 5
-len
-step 5
-len
-step 5
-len
-step 5
-len
-step 5
-len
-step 5
-len
+len 1
