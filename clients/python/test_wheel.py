@@ -30,9 +30,10 @@ STAND_IN = "#!/bin/sh\necho \"$@\"\ngrep SigIgn: /proc/self/status\n"
 
 
 def ignored() -> str:
-    """The signals that this process ignores, but for those that Python does, as the kernel says it."""
+    """The signals that this process ignores, as the kernel says it, but for those that Python ignores and those that
+    `rowan serve` handles."""
     signals = int(re.findall("SigIgn:\\s*([0-9a-f]+)", Path("/proc/self/status").read_text(encoding="ascii"))[0], 16)
-    for number in (signal.SIGPIPE, signal.SIGXFSZ):
+    for number in (signal.SIGPIPE, signal.SIGXFSZ, signal.SIGINT, signal.SIGTERM):
         signals &= ~(1 << number - 1)
     return f"SigIgn:\t{signals:016x}"
 

@@ -6,7 +6,7 @@ import sys
 import time
 from dataclasses import dataclass, field
 from types import ModuleType
-from typing import Any, Dict, List, Optional, Sequence, Tuple
+from typing import Any, Callable, Dict, List, Optional, Sequence, Tuple
 
 from histories import History
 from running import COLUMNS, SECONDS, TOP, Failed, Setting, at_once, want, want_same
@@ -35,6 +35,7 @@ class Writer:
     size: int
     removes: bool
     chance: random.Random
+    keys: int = KEYS_EACH
     rows: Dict[bytes, Row] = field(default_factory=dict)
     said: List[Any] = field(default_factory=list)
     commits: Dict[int, Query[Any]] = field(default_factory=dict)
@@ -57,18 +58,27 @@ class Writer:
         except ConnectionLost:
             pass
 
+    def fill(self, index: Client) -> None:
+        """Puts a row under each of its keys."""
+        for at in range(0, self.keys, MAX_QUERIES):
+            self.ask_all(index, [self.put(self.key(number)) for number in range(at, min(at + MAX_QUERIES, self.keys))])
+
     def ask(self, index: Client) -> None:
-        self.pending = self.frame()
+        """Asks a frame of a server with --sync always."""
+        self.ask_all(index, self.frame())
+        if self.chance.random() < 0.05:
+            want(index.durable() >= self.answered, f"commit {self.answered} was answered, and isn't durable")
+
+    def ask_all(self, index: Client, queries: List[Query[Any]]) -> None:
+        self.pending = queries
         outcomes = index.call_all(self.pending)
         for query, outcome in zip(self.pending, outcomes):
             self.take(query, outcome)
         self.pending = []
         self.frames += 1
-        if self.chance.random() < 0.05:
-            want(index.durable() >= self.answered, f"commit {self.answered} was answered, and isn't durable")
 
     def frame(self) -> List[Query[Any]]:
-        keys = [self.key(number) for number in self.chance.sample(range(KEYS_EACH), self.size)]
+        keys = [self.key(number) for number in self.chance.sample(range(self.keys), self.size)]
         queries = [self.change(key) for key in keys]
         if self.removes and self.rows:
             key = self.chance.choice(sorted(self.rows))
@@ -79,13 +89,17 @@ class Writer:
             queries.append(Get(self.chance.choice(queries).key))
         return queries
 
-    def change(self, key: bytes) -> Any:
+    def put(self, key: bytes) -> Any:
         self.made += 1
-        sets = {0: b"%d.%d" % (self.number, self.made), 1: self.chance.randbytes(self.chance.choice((0, 9, 64)))}
+        size = self.chance.choice((0, 9, 64))
+        return Put(key, {0: b"%d.%d" % (self.number, self.made), 1: self.chance.randbytes(size)})
+
+    def change(self, key: bytes) -> Any:
+        query = self.put(key)
         if self.chance.random() < 0.3:
             row = self.rows.get(key)
-            return PutIf(key, sets, row.version if row else 0)
-        return Put(key, sets)
+            return PutIf(key, query.sets, row.version if row else 0)
+        return query
 
     # -- what comes of it
 
@@ -138,6 +152,7 @@ def is_done(query: Any, found: Dict[bytes, Row]) -> bool:
 class Crowd:
     """The writers, and all commits so far."""
 
+    serving: ModuleType
     writers: List[Writer]
     commits: Dict[int, Query[Any]] = field(default_factory=dict)
     last: int = 0
@@ -165,46 +180,57 @@ class Crowd:
         return {key: row for writer in self.writers for key, row in writer.rows.items()}
 
 
+def crowd_of(setting: Setting, shapes: Sequence[Tuple[int, bool]] = WRITERS, keys: int = KEYS_EACH) -> Crowd:
+    serving = serving_test()
+    want_same("the columns", serving.COLUMNS, COLUMNS)
+    return Crowd(serving, [Writer(serving, number, size, removes, random.Random(f"{setting.seed} {number}"), keys)
+                           for number, (size, removes) in enumerate(shapes)])
+
+
 def killed_while_clients_write(setting: Setting) -> str:
     """With --sync always each change that was answered is there after a kill, and of each frame that wasn't its first
     changes."""
-    serving, chance = serving_test(), random.Random(setting.seed)
-    want_same("the columns", serving.COLUMNS, COLUMNS)
-    crowd = Crowd([Writer(serving, number, size, removes, random.Random(f"{setting.seed} {number}"))
-                   for number, (size, removes) in enumerate(WRITERS)])
+    chance = random.Random(setting.seed)
+    return kill_again_and_again(setting, crowd_of(setting), chance,
+                                lambda: time.sleep(chance.uniform(*chance.choice(RUNS))))
+
+
+def kill_again_and_again(setting: Setting, crowd: Crowd, chance: random.Random, moment: Callable[[], None],
+                         *words: str, look: Callable[[], None] = lambda: None) -> str:
+    """Lets the crowd write until `moment` returns, kills the server, looks, and starts it again."""
     early = 0
     for _ in range(setting.kills):
         if chance.random() < EARLY:
             early += 1
-            starting = setting.server()
+            starting = setting.server(*words)
             time.sleep(chance.uniform(0.0, 0.1))
             starting.kill()
-        with setting.server("--sync", "always") as server:
+        with setting.server("--sync", "always", *words) as server:
             with server.index() as index:
                 crowd.find_out(index)
-            runs = chance.choice(RUNS)
 
             def kill() -> None:
-                time.sleep(chance.uniform(*runs))
+                moment()
                 server.kill()
 
             at_once([kill, *(lambda writer=writer: writer.work(server.port) for writer in crowd.writers)])
             want_same("what the server said", server.rest_of_lines(), [])
-    with setting.server() as server, server.index() as index:
+        look()
+    with setting.server(*words) as server, server.index() as index:
         crowd.find_out(index)
         want_same("the rows", dict(index.range()), crowd.rows())
     return (f"{setting.kills} kills, {early} more at the start, {crowd.last} commits, "
-            f"{sum(writer.frames for writer in crowd.writers)} frames{audited(setting, serving, crowd)}")
+            f"{sum(writer.frames for writer in crowd.writers)} frames{audited(setting, crowd)}")
 
 
-def audited(setting: Setting, serving: ModuleType, crowd: Crowd) -> str:
+def audited(setting: Setting, crowd: Crowd) -> str:
     """Holds all answers by the auditor, over the commits of all runs."""
-    deltas, rows = serving.folded([crowd.commits[number] for number in range(1, crowd.last + 1)])
+    deltas, rows = crowd.serving.folded([crowd.commits[number] for number in range(1, crowd.last + 1)])
     want_same("the rows that the commits make", rows, crowd.rows())
     if setting.check is None:
         return ""
-    receipts = serving.receipts_of([one for writer in crowd.writers for one in writer.said])
-    serving.want_audited(setting.check, deltas, receipts)
+    receipts = crowd.serving.receipts_of([one for writer in crowd.writers for one in writer.said])
+    crowd.serving.want_audited(setting.check, deltas, receipts)
     return f", {len(receipts)} answers audited"
 
 

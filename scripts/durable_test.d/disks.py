@@ -8,7 +8,7 @@ import subprocess
 import time
 from contextlib import contextmanager
 from pathlib import Path
-from typing import Callable, Iterator, List, Tuple, Union
+from typing import Callable, Iterator, List, Sequence, Tuple, Union
 
 from ends import POLICIES
 from histories import History
@@ -32,18 +32,26 @@ def fill(server: Server, history: History) -> Union[Refused, ConnectionLost]:
 
 def fill_by(index: Client, history: History) -> Union[Refused, ConnectionLost]:
     for _ in range(FRAMES):
-        frame = [Put(b"k%d" % number, {0: history.chance.randbytes(64), 1: bytes(64)}) for number in range(PUTS)]
-        try:
-            outcomes = index.call_all(frame)
-        except ConnectionLost as fault:
-            history.assume(frame)
-            return fault
-        if isinstance(outcomes[0], Refused):
-            want(all(isinstance(outcome, type(outcomes[0])) for outcome in outcomes), f"it answers {outcomes}")
-            return outcomes[0]
-        for query, outcome in zip(frame, outcomes):
-            history.take(query, outcome)
+        met = refusal_of(index, history, [Put(b"k%d" % number, {0: history.chance.randbytes(64), 1: bytes(64)})
+                                          for number in range(PUTS)])
+        if met is not None:
+            return met
     raise Failed(f"{history.commits} commits have found room")
+
+
+def refusal_of(index: Client, history: History, frame: Sequence[Put]) -> Union[Refused, ConnectionLost, None]:
+    """Asks a frame of puts; returns how it is refused, if it is."""
+    try:
+        outcomes = index.call_all(frame)
+    except ConnectionLost as fault:
+        history.assume(frame)
+        return fault
+    if isinstance(outcomes[0], Refused):
+        want(all(isinstance(outcome, type(outcomes[0])) for outcome in outcomes), f"it answers {outcomes}")
+        return outcomes[0]
+    for query, outcome in zip(frame, outcomes):
+        history.take(query, outcome)
+    return None
 
 
 def want_read_only(server: Server, history: History, durable: int) -> Refused:
@@ -165,14 +173,14 @@ STRACE = "strace"
 SYNCS = "fsync,fdatasync"
 
 
-def traced(setting: Setting, words: Tuple[str, ...], *options: str) -> Server:
-    """A server whose calls of the disk are traced. Raises `Skipped`."""
+def traced(setting: Setting, words: Tuple[str, ...], *options: str, calls: str = SYNCS) -> Server:
+    """A server of which these calls are traced. Raises `Skipped`."""
     if shutil.which(STRACE) is None:
         raise Skipped("Debian package strace is missing")
     tried = subprocess.run([STRACE, "-o", "/dev/null", "true"], capture_output=True, check=False)
     if tried.returncode != 0:
         raise Skipped(f"strace can't trace: {tried.stderr.decode(errors='replace').strip()[:100]}")
-    return Server([STRACE, "-f", "-e", f"trace={SYNCS}", *options, *setting.command(*words),
+    return Server([STRACE, "-f", "-e", f"trace={calls}", *options, *setting.command(*words),
                    "--stop-at-end-of-input"])
 
 

@@ -118,8 +118,8 @@ def info_and_hello(setting: Setting) -> None:
             runs.add(index.hello.run)
             want_same("hello", (index.hello.commits, index.hello.columns, index.hello.role), (number, 2, Role.ALL))
             names = list(index.info())
-            want(names[-6:] == ["output_bytes", "durable", "wrong_secrets", "buffered_bytes", "resident_bytes", "uptime_ms"],
-                 f"the names of info are {names}")
+            want_same("the last names of info", names[-6:],
+                      ["output_bytes", "durable", "wrong_secrets", "buffered_bytes", "resident_bytes", "uptime_ms"])
             want_same("what is durable", index.info()["durable"], number)
             want_same("a put", index.put(b"a", {0: b"v"}), number + 1)
             want_same("what is durable after it", index.info()["durable"], number + 1)

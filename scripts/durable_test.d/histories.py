@@ -1,8 +1,8 @@
-"""What a server is to have: the rows after each commit, as the answers to one client say."""
+"""What a server is to have: what each commit left, as the answers to one client say."""
 from __future__ import annotations
 
 import random
-from typing import Any, Dict, List, Optional, Sequence
+from typing import Any, Dict, List, Optional, Sequence, Tuple
 
 # (it puts the package on the path)
 from running import COLUMNS, want, want_raised, want_same
@@ -24,33 +24,41 @@ def row_after(number: int, query: Query[Any], before: Optional[Row]) -> Optional
     return Row(number, tuple(columns))
 
 
-def changed(rows: Rows, number: int, query: Any) -> Rows:
-    """The rows after a commit."""
-    after = row_after(number, query, rows.get(query.key))
-    others = {key: row for key, row in rows.items() if key != query.key}
-    return others if after is None else {**others, query.key: after}
-
-
 class History:
-    """The rows after each commit, of a server that only one client changes."""
+    """What each commit left, of a server that only one client changes, and the rows after the last one."""
 
-    def __init__(self, seed: int = 1) -> None:
-        self.chance = random.Random(seed)
-        self.after: List[Rows] = [{}]
+    def __init__(self, seed: int = 1, keys: Sequence[bytes] = KEYS) -> None:
+        self.chance, self.keys = random.Random(seed), keys
+        self.left: List[Tuple[bytes, Optional[Row]]] = []
+        self.rows: Rows = {}
 
     @property
     def commits(self) -> int:
-        return len(self.after) - 1
+        return len(self.left)
 
-    @property
-    def rows(self) -> Rows:
-        return self.after[-1]
+    def front(self, commits: int) -> History:
+        """A copy that has the first commits alone."""
+        copied = History(keys=self.keys)
+        for key, row in self.left[:commits]:
+            copied.leave(key, row)
+        return copied
+
+    def leave(self, key: bytes, row: Optional[Row]) -> None:
+        """The next commit leaves this row, or none."""
+        self.left.append((key, row))
+        self.rows.pop(key, None)
+        if row is not None:
+            self.rows[key] = row
+
+    def made(self, query: Any) -> None:
+        """A change is the next commit."""
+        self.leave(query.key, row_after(self.commits + 1, query, self.rows.get(query.key)))
 
     # -- what is asked
 
     def change(self) -> Query[Any]:
         """A put, a conditional put or a remove, by chance; some aren't to be done."""
-        key, kind = self.chance.choice(KEYS), self.chance.random()
+        key, kind = self.chance.choice(self.keys), self.chance.random()
         if kind < 0.2:
             return Remove(key)
         sets = {column: self.chance.randbytes(self.chance.choice((0, 1, 8, 64)))
@@ -77,7 +85,7 @@ class History:
             want_same(f"{query}", outcome.value, None)
             return
         want_same(f"the commit of {query}", outcome.value, self.commits + 1)
-        self.after.append(changed(self.rows, self.commits + 1, query))
+        self.made(query)
 
     def work(self, index: Client, frames: int, size: int) -> None:
         """Asks `frames` frames of `size` changes each."""
@@ -96,7 +104,7 @@ class History:
             version = before.version if before else 0
             if isinstance(query, Remove) and before is None or isinstance(query, PutIf) and query.version != version:
                 continue
-            self.after.append(changed(self.rows, self.commits + 1, query))
+            self.made(query)
 
     # -- what is to be there
 
@@ -113,12 +121,12 @@ class History:
         want_same("how many commits each says", (index.ping(), index.hello.commits, info["commits"]),
                   (self.commits,) * 3)
         want_same("how many rows it says", info["rows"], len(self.rows))
-        for key in KEYS[:4]:
+        for key in self.keys[:4]:
             want_same(f"the row of {key!r}", index.call(Get(key)).value, self.rows.get(key))
 
     def want_versions(self, index: Client) -> None:
         """A conditional put is answered as before."""
-        for key in KEYS:
+        for key in self.keys:
             row = self.rows.get(key)
             refusal = want_raised("a put of another version",
                                   lambda: index.put_if(key, b"v", (row.version if row else 0) + 1), OtherVersion)
@@ -135,6 +143,6 @@ class History:
         commits = index.ping()
         want(least <= commits <= self.commits,
              f"{commits} commits are there, of {self.commits}; {least} have to be there")
-        del self.after[commits + 1:]
+        self.left, self.rows = self.left[:commits], self.front(commits).rows
         self.want_rows(index)
         return commits

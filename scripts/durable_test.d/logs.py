@@ -12,7 +12,7 @@ from dataclasses import dataclass
 from typing import Any, Callable, Dict, List, Sequence, Tuple
 
 from histories import History
-from running import LOG, Setting, Skipped, files_of, want, want_same
+from running import LOG, OTHER, Setting, Skipped, files_of, want, want_same
 
 # how many places of a file are tried, and how many bytes of a frame are its length (crates/mt_frame/README.md)
 PLACES, LENGTH = 12, 5
@@ -62,7 +62,8 @@ def tails_that_are_cut(setting: Setting) -> str:
     for at in cuts:
         setting.log.write_bytes(log.whole[:at])
         said = want_refused(setting, f"a file of {at} bytes")
-        want(log.ends[log.commits_before(at)] in places_in(said, setting), f"a file of {at} bytes: it says {said!r}")
+        want(LOG in said and log.ends[log.commits_before(at)] in places_in(said, setting),
+             f"a file of {at} bytes: it says {said!r}")
     return f"{len(cuts)} places"
 
 
@@ -82,8 +83,12 @@ def torn_tails(setting: Setting, tear: Callable[[bytes, int], bytes]) -> str:
 def want_found(setting: Setting, left: bytes, history: History, least: int) -> int:
     """With this log the server starts, has the first of these commits, and goes on. Returns how many it has."""
     setting.log.write_bytes(left)
-    copied = History()
-    copied.after = list(history.after)
+    return want_front_found(setting, history, least)
+
+
+def want_front_found(setting: Setting, history: History, least: int) -> int:
+    """The same, with the logs that the folder has."""
+    copied = history.front(history.commits)
     with setting.server() as server, server.index() as index:
         found = copied.want_front(index, least)
         copied.work(index, 3, 1)
@@ -107,8 +112,7 @@ def tails_of_a_crash(setting: Setting) -> str:
                 synced.append((setting.log.read_bytes(), history.commits))
         server.kill()
     for (before, least), (whole, commits) in zip(synced, synced[1:]):
-        copied = History()
-        copied.after = history.after[:commits + 1]
+        copied = history.front(commits)
         begin, end, unit = end_of(before), end_of(whole), chance.choice((1, 16, 512))
         lost, left = chance.choice((0.02, 0.5, 0.9)), bytearray(whole)
         for at in range(begin, end, unit):
@@ -172,7 +176,7 @@ def want_each_refused(setting: Setting, log: Written, changes: Sequence[Tuple[in
                           f"{whole[at]:02x} as {other:02x}: {fault}")
             continue
         # (that of the damaged frame, or of a later one that shows what is missing)
-        if not any(ends[before] <= place <= ends[-1] for place in places_in(said, setting)):
+        if LOG not in said or not any(ends[before] <= place <= ends[-1] for place in places_in(said, setting)):
             wrong.append(f"byte {at} of a frame from byte {ends[before]} on: {said!r}")
     want(not opened, f"of {len(changes)} changes {len(opened)} aren't refused: {'; '.join(opened)[:1500]}")
     want(not wrong, f"of {len(changes)} changes {len(wrong)} aren't named: {'; '.join(wrong)[:600]}")
@@ -236,7 +240,7 @@ def folders_that_are_none(setting: Setting) -> None:
     with setting.server() as server, server.index() as index:
         want_same("a put in a folder that was there", index.put(b"a", {0: b"v"}), 1)
         server.stop()
-    want_same("its files", [name for name, _ in files_of(setting.data)], ["even", LOG])
+    want_same("its files", [name for name, _ in files_of(setting.data)], ["even", LOG, "odd", OTHER])
     with setting.server() as server, server.index() as index:
         want_same("the row", index[b"a"].version, 1)
 
@@ -299,16 +303,20 @@ def a_copied_folder(setting: Setting) -> None:
 # ---- command lines
 
 def bad_command_lines(setting: Setting) -> None:
-    for words in (["--sync", "always"], ["--sync", "never"], ["--sync", "50"], ["--data"], ["--sync"]):
+    for words in (["--sync", "always"], ["--sync", "never"], ["--sync", "50"], ["--data"], ["--sync"],
+                  ["--checkpoint"]):
         setting.refused(2, *words)
     for word in ("", "often", "Always", "-1", "0", "1.5", "50ms", "86400001", "99999999999999999999"):
         setting.refused(2, "--data", str(setting.data), "--sync", word)
         want(not setting.data.exists(), f"--sync {word!r} has made a folder")
+    for word in ("", "often", "-1", "1.5", "64M", "1099511627777", "99999999999999999999"):
+        setting.refused(2, "--data", str(setting.data), "--checkpoint", word)
+        want(not setting.data.exists(), f"--checkpoint {word!r} has made a folder")
 
 
 def options_that_are_told(setting: Setting) -> None:
     done = subprocess.run([setting.serve, "--help"], capture_output=True, check=False)
-    for word in (b"--data", b"--sync", b"always", b"never"):
+    for word in (b"--data", b"--sync", b"always", b"never", b"--checkpoint"):
         want(word in done.stdout, f"--help doesn't say {word.decode()}")
 
 

@@ -22,7 +22,8 @@ from rowanspan import Client  # noqa: E402
 # only a case that fails waits so long
 SECONDS = 60.0
 COLUMNS = 2
-LOG = "even-wal"
+# the files of a folder's logs: those of even generations, and of odd ones
+FILES = LOG, OTHER = "even-wal", "odd-wal"
 # with it a server ends when its standard input does
 STOPS = "--stop-at-end-of-input"
 
@@ -71,6 +72,7 @@ class Setting:
 
     @property
     def log(self) -> Path:
+        """The log of a folder in which no checkpoint was made."""
         return self.data / LOG
 
     def command(self, *words: str) -> List[str]:

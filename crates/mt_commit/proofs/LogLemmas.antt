@@ -1,5 +1,5 @@
 -- What the calls of a log leave as it has to be.
-use Rattle.std.proofs.Common.{◌≡◌, ℕ, zero, suc, ◌+◌, ◌-◌, ◌<◌, ◌≤◌, true, false, List, [], ◌∷◌, ◌++◌, length, drop, min, Some, ap, sym, ◌∙◌, subst, arith, length-append, length-drop}
+use Rattle.std.proofs.Common.{◌≡◌, ℕ, zero, suc, ◌+◌, ◌-◌, ◌^◌, ◌<◌, ◌≤◌, true, false, List, [], ◌∷◌, ◌++◌, length, drop, min, max, Some, ap, sym, ◌∙◌, subst, arith, length-append, length-drop}
 use Rattle.std.specs.Prelude.{All, slice_get, cond, nat_le, ◌==◌}
 use Rattle.std.specs.List.{AllByRecursion}
 use Rattle.std.proofs.lemmas.List.Elements.{All-from_recursion, recursion_from_All, All-weaker}
@@ -7,7 +7,7 @@ use Rattle.std.proofs.Math.Nat.{min-le_left, min-le_right, le-min}
 use Rattle.mt_types.specs.Numbers.{least}
 use Rattle.mt_types.specs.declared.row.Delta.{Delta}
 use Rattle.mt_commit.specs.Holders.{with_holder, without_holder}
-use Rattle.mt_commit.specs.Log.{LogView, IsLog, Numbered, newest, slowest}
+use Rattle.mt_commit.specs.Log.{LogView, IsLog, Numbered, newest, slowest, kept_after, begun_after}
 
 pub least_within : (best : ℕ) (numbers : List ℕ) → least best numbers ≤ best
 least_within best [] = omega arith
@@ -77,6 +77,7 @@ appended_log log delta deltas rows is reserved next e =
       numbered = subst (Numbered log.held_after) (sym e) (Numbered-append log.held_after log.deltas delta is.numbered next);
       holders_from = is.holders_from;
       holders_to = All-weaker (λ n. n ≤ newest log) (λ n. n ≤ log.held_after + length deltas) (λ n h. omega arith) log.holders is.holders_to;
+      begun = is.begun;
       kept = omega arith;
       fits = omega arith;
     }
@@ -87,6 +88,7 @@ pinned_log log number holders is from to e = record {
   numbered = is.numbered;
   holders_from = let P : ℕ → Type 0 = λ n. log.held_after ≤ n in subst (All P) (sym e) (All-with P number log.holders from is.holders_from);
   holders_to = let P : ℕ → Type 0 = λ n. n ≤ newest log in subst (All P) (sym e) (All-with P number log.holders to is.holders_to);
+  begun = is.begun;
   kept = is.kept;
   fits = is.fits;
 }
@@ -96,6 +98,7 @@ unpinned_log log number holders is e = record {
   numbered = is.numbered;
   holders_from = let P : ℕ → Type 0 = λ n. log.held_after ≤ n in subst (All P) (sym e) (All-without P number log.holders is.holders_from);
   holders_to = let P : ℕ → Type 0 = λ n. n ≤ newest log in subst (All P) (sym e) (All-without P number log.holders is.holders_to);
+  begun = is.begun;
   kept = is.kept;
   fits = is.fits;
 }
@@ -108,18 +111,18 @@ least_below best (n ∷ numbers) =
     (omega (arith, k, m), least_below (min best n) numbers)
 
 -- what is left after a trim begins no earlier
-pub trim_rises : (log : LogView) (bound : ℕ) → IsLog log → bound ≡ min (slowest log) (newest log - log.retention) → log.held_after ≤ bound
+pub trim_rises : (log : LogView) (bound : ℕ) → IsLog log → bound ≡ min (slowest log) (kept_after log (newest log)) → log.held_after ≤ bound
 trim_rises log bound is e =
-    let both : log.held_after ≤ min (slowest log) (newest log - log.retention) = le-min (held_by_slowest log is) is.kept in omega arith
+    let both : log.held_after ≤ min (slowest log) (kept_after log (newest log)) = le-min (held_by_slowest log is) is.kept in omega arith
 
 -- no delta beyond the newest is dropped
-pub trim_drops : (log : LogView) (bound : ℕ) → bound ≡ min (slowest log) (newest log - log.retention) → bound - log.held_after ≤ length log.deltas
+pub trim_drops : (log : LogView) (bound : ℕ) → bound ≡ min (slowest log) (kept_after log (newest log)) → bound - log.held_after ≤ length log.deltas
 trim_drops log bound e =
-    let a = min-le_left (slowest log) (newest log - log.retention) in
+    let a = min-le_left (slowest log) (kept_after log (newest log)) in
     let b = slowest_within log in
     omega (arith, a, b)
 
-pub newest-trimmed : (log : LogView) (bound : ℕ) (deltas : List Delta) → IsLog log → bound ≡ min (slowest log) (newest log - log.retention)
+pub newest-trimmed : (log : LogView) (bound : ℕ) (deltas : List Delta) → IsLog log → bound ≡ min (slowest log) (kept_after log (newest log))
     → deltas ≡ drop (bound - log.held_after) log.deltas → bound + length deltas ≡ newest log
 newest-trimmed log bound deltas is e d =
     let rises = trim_rises log bound is e in
@@ -127,26 +130,38 @@ newest-trimmed log bound deltas is e d =
     let long : length deltas ≡ length log.deltas - (bound - log.held_after) = ap length d ∙ length-drop (bound - log.held_after) log.deltas in
     omega arith
 
-pub trimmed_log : (log : LogView) (bound : ℕ) (deltas : List Delta) → IsLog log → bound ≡ min (slowest log) (newest log - log.retention)
+pub trimmed_log : (log : LogView) (bound : ℕ) (deltas : List Delta) → IsLog log → bound ≡ min (slowest log) (kept_after log (newest log))
     → deltas ≡ drop (bound - log.held_after) log.deltas → IsLog (record log { held_after = bound; deltas = deltas })
 trimmed_log log bound deltas is e d =
     let rises = trim_rises log bound is e in
     let drops = trim_drops log bound e in
     let stays = newest-trimmed log bound deltas is e d in
-    let by_slowest = min-le_left (slowest log) (newest log - log.retention) in
-    let by_keep = min-le_right (slowest log) (newest log - log.retention) in
+    let by_slowest = min-le_left (slowest log) (kept_after log (newest log)) in
+    let by_keep = min-le_right (slowest log) (kept_after log (newest log)) in
     let fits = is.fits in
     record {
       numbered = subst (Numbered bound) (sym d) (Numbered-drop (bound - log.held_after) log.held_after bound log.deltas (omega arith) drops is.numbered);
       holders_from = All-weaker (λ n. slowest log ≤ n) (λ n. bound ≤ n) (λ n h. omega (arith, by_slowest)) log.holders
           (All-from_recursion (λ n. slowest log ≤ n) log.holders (least_below (newest log) log.holders));
       holders_to = All-weaker (λ n. n ≤ newest log) (λ n. n ≤ bound + length deltas) (λ n h. omega (arith, stays)) log.holders is.holders_to;
+      begun = let begun = is.begun in omega (arith, begun, rises);
       kept = omega (arith, by_keep, stays);
       fits = omega (arith, stays);
     }
 
 -- the bound of a trim, of the log as it is
-pub bound_is : (log now : LogView) (number slow bound : ℕ) → log ≡ now → slow ≡ slowest now → number ≡ newest now → bound ≡ min slow (number - log.retention)
-    → bound ≡ min (slowest log) (newest log - log.retention)
-bound_is log now number slow bound same s n e =
-    e ∙ ap (λ x. min x (number - log.retention)) (s ∙ sym (ap slowest same)) ∙ ap (λ x. min (slowest log) (x - log.retention)) (n ∙ sym (ap newest same))
+pub bound_is : (log now : LogView) (slow kept bound : ℕ) → log ≡ now → slow ≡ slowest now → kept ≡ kept_after now (newest now) → bound ≡ min slow kept
+    → bound ≡ min (slowest log) (kept_after log (newest log))
+bound_is log now slow kept bound same s k e =
+    e ∙ ap (λ x. min x kept) (s ∙ sym (ap slowest same)) ∙ ap (min (slowest log)) (k ∙ sym (ap (λ (l : LogView). kept_after l (newest l)) same))
+
+-- a log that begins again has what it needs
+pub begun_log : (log : LogView) (number : ℕ) → IsLog log → log.holders ≡ [] → number + log.reserved < 2 ^ 64 → IsLog (begun_after number log)
+begun_log log number is unheld fits = record {
+  numbered = tt;
+  holders_from = let P : ℕ → Type 0 = λ n. number ≤ n in subst (All P) (sym unheld) (All-from_recursion P [] tt);
+  holders_to = let P : ℕ → Type 0 = λ n. n ≤ number + 0 in subst (All P) (sym unheld) (All-from_recursion P [] tt);
+  begun = omega arith;
+  kept = omega arith;
+  fits = omega (arith, fits);
+}

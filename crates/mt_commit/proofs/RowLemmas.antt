@@ -13,7 +13,7 @@ use Rattle.mt_types.specs.Keys.{key_cmp}
 use Rattle.mt_types.specs.Rows.{Rows}
 use Rattle.mt_types.specs.declared.row.Row.{Row}
 use Rattle.mt_types.specs.declared.row.Delta.{Delta}
-use Rattle.mt_commit.specs.Log.{newest, slowest, trimmed, counted, effect_of}
+use Rattle.mt_commit.specs.Log.{newest, slowest, kept_after, trimmed, counted, effect_of}
 use Rattle.mt_commit.specs.Deltas.{with_row, redo, undo, rows_before, rows_at, FitsNewestFirst}
 use Rattle.mt_commit.specs.Laws.{DoneIsUndone, UndoneIsDone, UndoneLeavesBefore, NewestIsPresent, AppendingFits, AppendingKeepsRows, TrimmingFits, TrimmingKeepsRows, EachDeltaMakesRows, Makes}
 use Rattle.mt_commit.proofs.LogLemmas.{trim_rises}
@@ -111,7 +111,7 @@ trimming_fits log rows fits = fits_last ((trimmed log).held_after - log.held_aft
 
 pub trimming_keeps_rows : TrimmingKeepsRows
 trimming_keeps_rows log rows number is h =
-    let bound = min (slowest log) (newest log - log.retention) in
+    let bound = min (slowest log) (kept_after log (newest log)) in
     let rises = trim_rises log bound is refl in
     let same : (bound - log.held_after) + (number - bound) ≡ number - log.held_after = omega arith in
     ap (λ deltas. rows_before (reverse deltas) rows) (drop-drop (number - bound) (bound - log.held_after) log.deltas ∙ ap (λ n. drop n log.deltas) same)

@@ -1,5 +1,5 @@
 -- The log of commits as its contracts see it, and what its calls make of it.
-use Rattle.std.specs.Prelude.{ℕ, ◌+◌, ◌-◌, ◌^◌, ◌≡◌, ◌<◌, ◌≤◌, nat_lt, nat_le, min, List, [], ◌∷◌, ◌++◌, length, drop, slice_get, Option, Some, None, All}
+use Rattle.std.specs.Prelude.{ℕ, ◌+◌, ◌-◌, ◌^◌, ◌≡◌, ◌<◌, ◌≤◌, nat_lt, nat_le, min, max, List, [], ◌∷◌, ◌++◌, length, drop, slice_get, Option, Some, None, All}
 use Rattle.std.specs.Option.{option_or}
 use Rattle.mt_types.specs.Numbers.{least, greatest_number}
 use Rattle.mt_types.specs.Limits.{refused_if}
@@ -11,6 +11,7 @@ use Rattle.mt_commit.specs.declared.effect.Effect.{Effect}
 use Rattle.mt_commit.specs.declared.effect.Effect.TheVariants.{Adds, Keeps, Removes}
 
 pub record LogView : Type 0 where
+  pub base : ℕ  -- after this number of commits it began: what came before was never in it
   pub held_after : ℕ  -- the deltas of the commits up to this number were trimmed
   pub deltas : List Delta  -- those of the commits after it, the oldest first
   pub reserved : ℕ  -- for how many more deltas there is room
@@ -58,11 +59,19 @@ with_delta log delta = record log {
   rows = counted (effect_of delta.before delta.after) log.rows;
 }
 
+-- if there are n commits, those after this number are kept for no reader: the last ones, but none from before the log began
+abbrev pub kept_after : LogView → ℕ → ℕ
+kept_after log n = max log.base (n - log.retention)
+
 -- what is left is what came after the slowest, and the last ones, which are kept in any case
 abbrev pub trimmed : LogView → LogView
 trimmed log =
-    let bound = min (slowest log) (newest log - log.retention) in
+    let bound = min (slowest log) (kept_after log (newest log)) in
     record log { held_after = bound; deltas = drop (bound - log.held_after) log.deltas }
+
+-- the log that begins again after this number of commits, and has none of their deltas
+abbrev pub begun_after : ℕ → LogView → LogView
+begun_after number log = record log { base = number; held_after = number; deltas = [] }
 
 -- no delta stays in it: nobody holds it, and it keeps none
 abbrev pub IsUnread : LogView → Type 0
@@ -78,5 +87,6 @@ pub record IsLog (log : LogView) : Type 0 where
   pub numbered : Numbered log.held_after log.deltas
   pub holders_from : All (λ holder. log.held_after ≤ holder) log.holders
   pub holders_to : All (λ holder. holder ≤ newest log) log.holders
-  pub kept : log.held_after ≤ newest log - log.retention
+  pub begun : log.base ≤ log.held_after
+  pub kept : log.held_after ≤ kept_after log (newest log)
   pub fits : newest log + log.reserved < 2 ^ 64

@@ -6,6 +6,7 @@ use Rattle.mt_commit.specs.declared.log.Log.TheInside.{Inside}
 
 abbrev pub log_of : Inside → LogView
 log_of log = record {
+  base = log.base;
   held_after = log.held_after;
   deltas = deque_items log.deltas;
   reserved = log.reserved;

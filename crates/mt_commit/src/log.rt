@@ -1,6 +1,6 @@
 //! The log of commits: a queue of deltas, the numbers from which it is held, and the room that was reserved.
 
-ghost use Rattle.std.specs.Prelude.{◌≡◌, ◌↔◌, ◌+◌, ◌-◌, ◌<◌, ◌≤◌, [], length, drop, IsTrue, IfErr, IsErrOf, None, OnOk, OnErr, MatchOption, Contains, slice_get};
+ghost use Rattle.std.specs.Prelude.{◌≡◌, ◌↔◌, ◌+◌, ◌-◌, ◌^◌, ◌<◌, ◌≤◌, [], length, drop, IsTrue, IfErr, IsErrOf, None, OnOk, OnErr, MatchOption, Contains, slice_get};
 ghost use Rattle.std.specs.VecDeque.{deque_capacity};
 ghost use Rattle.mt_types.specs.declared.row.Delta.{Delta as DeltaView};
 
@@ -22,6 +22,7 @@ pub struct Log {
     deltas: VecDeque<Delta>,
     holders: Holders,
     holder_count: u64,
+    base: u64,
     held_after: u64,
     reserved: u64,
     capacity: u64,
@@ -53,13 +54,14 @@ fn drop_front(deltas: &mut VecDeque<Delta>, count: u64)
 }
 
 impl Log {
-    ghost use Rattle.mt_commit.specs.Log.{LogView, IsLog, newest, slowest, delta_of, reserve_fault, with_delta, trimmed, effect_of, IsUnread};
+    ghost use Rattle.mt_commit.specs.Log.{LogView, IsLog, newest, slowest, delta_of, reserve_fault, with_delta, trimmed, begun_after, kept_after, effect_of, IsUnread};
     ghost use Rattle.mt_commit.specs.Holders.{with_holder, without_holder};
 
     /// Returns the log before any commit. It is to hold at most `capacity` deltas for its slowest reader, and to keep the
     /// last `retention` for no reader. Allocates nothing.
     pub fn open(alloc: Global, capacity: u64, retention: u64) -> Log
         ensures empty { result ≡ record {
+          base = 0;
           held_after = 0;
           deltas = [];
           reserved = 0;
@@ -74,6 +76,7 @@ impl Log {
             deltas: VecDeque::new(alloc),
             holders: Holders::new(alloc),
             holder_count: 0,
+            base: 0,
             held_after: 0,
             reserved: 0,
             capacity,
@@ -229,6 +232,27 @@ impl Log {
         self.holder_count -= 1;
     }
 
+    // Returns the number after which the deltas are kept for no reader.
+    fn kept_after(&self) -> u64
+        ensures { result ≡ kept_after self.now (newest self.now) }
+    {
+        self.number().saturating_sub(self.retention).max(self.base)
+    }
+
+    /// Begins again after `number` commits: the log has no deltas then, and those of earlier commits are out of reach, also
+    /// if it is to keep some for no reader. O(n) in the deltas that it had.
+    pub fn begin_after(&mut self, number: u64)
+        requires unheld { self.old.holders ≡ [] }
+        requires later { newest self.old ≤ number }
+        requires fits { number + self.old.reserved < 2 ^ 64 }
+        ensures after { self.new ≡ begun_after number self.old }
+        ensures sound { IsLog self.new }
+    {
+        self.deltas.clear();
+        self.base = number;
+        self.held_after = number;
+    }
+
     /// Drops the deltas that no reader holds, except the last ones, which the log keeps in any case. The queue keeps
     /// its memory for later deltas. O(n + log m) in the deltas that are dropped and the numbers that are held.
     pub fn trim(&mut self)
@@ -236,8 +260,7 @@ impl Log {
         ensures newest_stays { newest self.new ≡ newest self.old }
         ensures sound { IsLog self.new }
     {
-        let number = self.number();
-        let bound = self.slowest().min(number.saturating_sub(self.retention));
+        let bound = self.slowest().min(self.kept_after());
         drop_front(&mut self.deltas, bound - self.held_after);
         self.held_after = bound;
     }

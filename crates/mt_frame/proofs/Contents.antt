@@ -8,17 +8,18 @@ use Rattle.std.proofs.lemmas.Bool.Decides.{eqb_tells, leb_tells}
 use Rattle.std.proofs.lemmas.List.{append-nil}
 use Rattle.std.proofs.lemmas.Slice.Eq.{bytes_eq-Decides}
 use Rattle.mt_types.specs.Packed.{are_packable, ArePackable}
+use Rattle.mt_types.specs.declared.row.Row.{Row as RowOf}
 use Rattle.mt_types.specs.declared.limits.TheConstants.{MAX_KEY_BYTES}
-use Rattle.mt_wire.specs.Spelling.{key_spelling, columns_spelling}
+use Rattle.mt_wire.specs.Spelling.{key_spelling, columns_spelling, row_spelling, pair_spelling, pairs_spelling}
 use Rattle.mt_wire.specs.Reading.{bytes_at, number_at, byte_at, key_at, short_at, counted_at, counted16_at, kind_at}
-use Rattle.mt_wire.proofs.Exact.{IsBytes, Takes, IsExact, bind_some, wide64, both_exact, made_takes, made_again, kind_exact, byte_exact, bytes_take, number_exact, key_exact, short_exact, counted_exact, counted16_exact}
+use Rattle.mt_wire.proofs.Exact.{IsBytes, Takes, IsExact, bind_some, wide64, both_exact, made_takes, made_again, made_exact, kind_exact, byte_exact, bytes_take, number_exact, key_exact, short_exact, counted_exact, counted16_exact}
 use Rattle.mt_frame.specs.declared.entry.Entry.{Entry}
-use Rattle.mt_frame.specs.declared.entry.Entry.TheVariants.{Header, Commits as Group, Closed}
+use Rattle.mt_frame.specs.declared.entry.Entry.TheVariants.{Header, Commits as Group, Rows, Sealed, Closed}
 use Rattle.mt_frame.specs.declared.entry.Record.{Record}
 use Rattle.mt_frame.specs.declared.entry.Record.TheVariants.{Row, Removed}
 use Rattle.mt_frame.specs.Spelling.{record_spelling, records_spelling, title, entry_spelling}
-use Rattle.mt_frame.specs.Fits.{RecordFits, EntryFits}
-use Rattle.mt_frame.specs.Reading.{limited_key_at, columns_at, record_rest, records_at, title_at, header_at, commits_at, closed_at, entry_rest, content_at}
+use Rattle.mt_frame.specs.Fits.{RecordFits, RowFits, PairFits, EntryFits}
+use Rattle.mt_frame.specs.Reading.{limited_key_at, columns_at, record_rest, records_at, title_at, header_at, commits_at, row_at, pair_at, pairs_at, rows_at, sealed_at, closed_at, entry_rest, content_at}
 
 abbrev n64 : IsExact ℕ (λ n. n < 2 ^ 64) (λ n. to_be_bytes w64 n) (number_at w64)
 n64 = number_exact w64 (2 ^ 64) wide64
@@ -100,6 +101,23 @@ records_exact : IsExact (List Record) RecordsFit records_spelling records_at
 unfolding records_at counted16_at
 records_exact = counted16_exact record_exact
 
+-- ---- rows with their keys
+
+row_exact : IsExact RowOf RowFits row_spelling row_at
+unfolding row_at
+row_exact = made_exact (λ x. record { version = x.0; columns = x.1 }) (λ row. (row.version, row.columns)) row_spelling RowFits (both_exact n64 columns_exact) (λ x h. refl) (λ x h. (h.0, h.1)) (λ row h. (h.0, h.1)) (λ row. refl) (λ row. refl)
+
+pair_exact : IsExact (List ℕ × RowOf) PairFits pair_spelling pair_at
+unfolding pair_at
+pair_exact = both_exact limited_key_exact row_exact
+
+abbrev PairsFit : List (List ℕ × RowOf) → Type 0
+PairsFit pairs = (length pairs < 2 ^ 16) × AllByRecursion PairFits pairs
+
+pairs_exact : IsExact (List (List ℕ × RowOf)) PairsFit pairs_spelling pairs_at
+unfolding pairs_at
+pairs_exact = counted16_exact pair_exact
+
 -- ---- the title
 
 guard_title : (b : Bool) (x y : Unit {0} × List ℕ) → cond b (Some x) None ≡ Some y → (b ≡ true) × (x ≡ y)
@@ -128,24 +146,28 @@ title_exact = record { takes = title_takes; again = title_again }
 -- ---- entries
 
 entry_takes : (kind : ℕ) (bytes : List ℕ) (y : Entry × List ℕ) → IsBytes bytes → entry_rest kind bytes ≡ Some y → Takes (kind ∷ bytes) (entry_spelling y.0) y.1 × EntryFits y.0
-unfolding entry_rest header_at commits_at closed_at
+unfolding entry_rest header_at commits_at rows_at sealed_at closed_at
 entry_takes zero = λ bytes y fits e. absurd cc
 entry_takes (suc zero) =
     made_takes (λ x. Header (record { columns = x.0.0.0.1; generation = x.0.0.1; base = x.0.1; run = x.1 })) entry_spelling EntryFits 1 (both_exact (both_exact (both_exact (both_exact title_exact byte_exact) n64) n64) n64) (λ x. refl) (λ x h. (h.0.0.1, h.0.1, h.1))
 entry_takes (suc (suc zero)) =
     made_takes (λ x. Group (record { first = x.0.0; durable = x.0.1; records = x.1 })) entry_spelling EntryFits 2 (both_exact (both_exact n64 n64) records_exact) (λ x. refl) (λ x h. (h.0.0, h.0.1, (omega (arith, h.1.0), h.1.1)))
-entry_takes (suc (suc (suc zero))) = λ bytes y fits e. absurd cc
+entry_takes (suc (suc (suc zero))) =
+    made_takes (λ x. Rows (record { at = x.0; rows = x.1 })) entry_spelling EntryFits 3 (both_exact n64 pairs_exact) (λ x. refl) (λ x h. (h.0, (omega (arith, h.1.0), h.1.1)))
 entry_takes (suc (suc (suc (suc zero)))) = λ bytes y fits e. absurd cc
-entry_takes (suc (suc (suc (suc (suc zero))))) = λ bytes y fits e. absurd cc
+entry_takes (suc (suc (suc (suc (suc zero))))) = made_takes (λ x. Sealed x) entry_spelling EntryFits 5 n64 (λ x. refl) (λ x h. h)
 entry_takes (suc (suc (suc (suc (suc (suc zero)))))) = made_takes (λ x. Closed x) entry_spelling EntryFits 6 n64 (λ x. refl) (λ x h. h)
 entry_takes (suc (suc (suc (suc (suc (suc (suc kind))))))) = λ bytes y fits e. absurd cc
 
 entry_again : (x : Entry) (rest : List ℕ) → EntryFits x → kind_at entry_rest (entry_spelling x ++ rest) ≡ Some (x, rest)
-unfolding kind_at byte_at entry_rest header_at commits_at closed_at
+unfolding kind_at byte_at entry_rest header_at commits_at rows_at sealed_at closed_at
 entry_again (Header h) rest fits =
     made_again (λ x. Header (record { columns = x.0.0.0.1; generation = x.0.0.1; base = x.0.1; run = x.1 })) (both_exact (both_exact (both_exact (both_exact title_exact byte_exact) n64) n64) n64) ((((tt, h.columns), h.generation), h.base), h.run) rest ((((tt, tt), fits.0), fits.1), fits.2)
 entry_again (Group g) rest fits =
     made_again (λ x. Group (record { first = x.0.0; durable = x.0.1; records = x.1 })) (both_exact (both_exact n64 n64) records_exact) ((g.first, g.durable), g.records) rest ((fits.0, fits.1), (omega (arith, fits.2.0), fits.2.1))
+entry_again (Rows p) rest fits =
+    made_again (λ x. Rows (record { at = x.0; rows = x.1 })) (both_exact n64 pairs_exact) (p.at, p.rows) rest (fits.0, (omega (arith, fits.1.0), fits.1.1))
+entry_again (Sealed n) rest fits = made_again (λ x. Sealed x) n64 n rest fits
 entry_again (Closed n) rest fits = made_again (λ x. Closed x) n64 n rest fits
 
 entry_exact : IsExact Entry EntryFits entry_spelling (kind_at entry_rest)

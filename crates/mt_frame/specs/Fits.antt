@@ -1,13 +1,15 @@
 -- Which entries have a frame.
-use Rattle.std.specs.Prelude.{ℕ, ◌<◌, ◌≤◌, ◌^◌, length}
+use Rattle.std.specs.Prelude.{ℕ, ◌<◌, ◌≤◌, ◌^◌, List, length}
 use Rattle.std.specs.List.{AllByRecursion}
 use Rattle.mt_types.specs.Packed.{ArePackable}
+use Rattle.mt_types.specs.declared.row.Row.{Row as RowOf}
 use Rattle.mt_types.specs.declared.limits.TheConstants.{MAX_KEY_BYTES}
 use Rattle.mt_frame.specs.declared.limits.TheConstants.{MAX_TEXT_BYTES, MAX_RECORDS}
 use Rattle.mt_frame.specs.declared.entry.Entry.{Entry}
-use Rattle.mt_frame.specs.declared.entry.Entry.TheVariants.{Header, Commits as Group, Closed}
+use Rattle.mt_frame.specs.declared.entry.Entry.TheVariants.{Header, Commits as Group, Rows, Sealed, Closed}
 use Rattle.mt_frame.specs.declared.entry.LogHeader.{LogHeader}
 use Rattle.mt_frame.specs.declared.entry.Commits.{Commits}
+use Rattle.mt_frame.specs.declared.entry.Part.{Part}
 use Rattle.mt_frame.specs.declared.entry.Record.{Record}
 use Rattle.mt_frame.specs.declared.entry.Record.TheVariants.{Row, Removed}
 use Rattle.mt_frame.specs.Spelling.{text_of}
@@ -25,16 +27,30 @@ CommitsFit commits =
     (commits.first < 2 ^ 64) × (commits.durable < 2 ^ 64)
     × ((length commits.records ≤ MAX_RECORDS) × AllByRecursion RecordFits commits.records)
 
--- there are at most MAX_RECORDS records: the types keep the rest of what EntryFits says
+abbrev pub RowFits : RowOf → Type 0
+RowFits row = (row.version < 2 ^ 64) × ArePackable row.columns
+
+abbrev pub PairFits : List ℕ × RowOf → Type 0
+PairFits pair = (length pair.0 ≤ MAX_KEY_BYTES) × RowFits pair.1
+
+abbrev pub PartFits : Part → Type 0
+PartFits part =
+    (part.at < 2 ^ 64) × ((length part.rows ≤ MAX_RECORDS) × AllByRecursion PairFits part.rows)
+
+-- there are at most MAX_RECORDS records or rows: the types keep the rest of what EntryFits says
 abbrev pub CountFits : Entry → Type 0
 CountFits (Header header) = Unit {0}
 CountFits (Group commits) = length commits.records ≤ MAX_RECORDS
+CountFits (Rows part) = length part.rows ≤ MAX_RECORDS
+CountFits (Sealed count) = Unit {0}
 CountFits (Closed number) = Unit {0}
 
 -- each number and each length fits its field
 abbrev pub EntryFits : Entry → Type 0
 EntryFits (Header header) = HeaderFits header
 EntryFits (Group commits) = CommitsFit commits
+EntryFits (Rows part) = PartFits part
+EntryFits (Sealed count) = count < 2 ^ 64
 EntryFits (Closed number) = number < 2 ^ 64
 
 -- the entry has a frame at this place

@@ -3,12 +3,13 @@
 use Rattle.std.specs.Prelude.{◌≡◌, ◌==◌, ℕ, zero, suc, Bool, true, false, List, [], ◌∷◌, ◌++◌, length, Option, Some, None, Result, Ok, Err, nat_lt, bytes_eq, if◌then◌else◌}
 use Rattle.std.specs.Int.{w16, w64}
 use Rattle.mt_types.specs.Packed.{are_packable}
+use Rattle.mt_types.specs.declared.row.Row.{Row as RowOf}
 use Rattle.mt_types.specs.declared.limits.TheConstants.{MAX_KEY_BYTES}
-use Rattle.mt_wire.specs.Reading.{Reader, ◌>>=◌, both, made, bytes_at, number_at, byte_at, key_at, short_at, times_at, counted_at, kind_at}
+use Rattle.mt_wire.specs.Reading.{Reader, ◌>>=◌, both, made, bytes_at, number_at, byte_at, key_at, short_at, times_at, counted_at, counted16_at, kind_at}
 use Rattle.mt_frame.specs.declared.fault.ReadError.{ReadError}
 use Rattle.mt_frame.specs.declared.fault.ReadError.TheVariants as errors
 use Rattle.mt_frame.specs.declared.entry.Entry.{Entry}
-use Rattle.mt_frame.specs.declared.entry.Entry.TheVariants.{Header, Commits as Group, Closed}
+use Rattle.mt_frame.specs.declared.entry.Entry.TheVariants.{Header, Commits as Group, Rows, Sealed, Closed}
 use Rattle.mt_frame.specs.declared.entry.Record.{Record}
 use Rattle.mt_frame.specs.declared.entry.Record.TheVariants.{Row, Removed}
 use Rattle.mt_frame.specs.Spelling.{title}
@@ -80,6 +81,22 @@ commits_at =
     made (λ x. Group (record { first = x.0.0; durable = x.0.1; records = x.1 }))
     (both (both (number_at w64) (number_at w64)) records_at)
 
+-- a row, and one with its key
+unfoldable pub row_at : Reader RowOf
+row_at = made (λ x. record { version = x.0; columns = x.1 }) (both (number_at w64) columns_at)
+
+unfoldable pub pair_at : Reader (List ℕ × RowOf)
+pair_at = both limited_key_at row_at
+
+unfoldable pub pairs_at : Reader (List (List ℕ × RowOf))
+pairs_at = counted16_at pair_at
+
+unfoldable pub rows_at : Reader Entry
+rows_at = made (λ x. Rows (record { at = x.0; rows = x.1 })) (both (number_at w64) pairs_at)
+
+unfoldable pub sealed_at : Reader Entry
+sealed_at = made (λ x. Sealed x) (number_at w64)
+
 unfoldable pub closed_at : Reader Entry
 closed_at = made (λ x. Closed x) (number_at w64)
 
@@ -87,9 +104,9 @@ unfoldable pub entry_rest : ℕ → Reader Entry
 entry_rest zero = λ bytes. None
 entry_rest (suc zero) = header_at
 entry_rest (suc (suc zero)) = commits_at
-entry_rest (suc (suc (suc zero))) = λ bytes. None
+entry_rest (suc (suc (suc zero))) = rows_at
 entry_rest (suc (suc (suc (suc zero)))) = λ bytes. None
-entry_rest (suc (suc (suc (suc (suc zero))))) = λ bytes. None
+entry_rest (suc (suc (suc (suc (suc zero))))) = sealed_at
 entry_rest (suc (suc (suc (suc (suc (suc zero)))))) = closed_at
 entry_rest (suc (suc (suc (suc (suc (suc (suc kind))))))) = λ bytes. None
 

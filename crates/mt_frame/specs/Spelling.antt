@@ -3,12 +3,13 @@
 use Rattle.std.specs.Prelude.{ℕ, ◌+◌, ◌/◌, ◌%◌, ◌^◌, List, [], ◌∷◌, ◌++◌, length, codes, ◌==◌, if◌then◌else◌}
 use Rattle.std.specs.List.{flat_map}
 use Rattle.std.specs.Int.{w16, w64, to_be_bytes}
-use Rattle.mt_wire.specs.Spelling.{key_spelling, columns_spelling}
+use Rattle.mt_wire.specs.Spelling.{key_spelling, columns_spelling, pairs_spelling}
 use Rattle.mt_frame.specs.declared.limits.TheConstants.{LOG_FORMAT}
 use Rattle.mt_frame.specs.declared.entry.Entry.{Entry}
-use Rattle.mt_frame.specs.declared.entry.Entry.TheVariants.{Header, Commits as Group, Closed}
+use Rattle.mt_frame.specs.declared.entry.Entry.TheVariants.{Header, Commits as Group, Rows, Sealed, Closed}
 use Rattle.mt_frame.specs.declared.entry.LogHeader.{LogHeader}
 use Rattle.mt_frame.specs.declared.entry.Commits.{Commits}
+use Rattle.mt_frame.specs.declared.entry.Part.{Part}
 use Rattle.mt_frame.specs.declared.entry.Record.{Record}
 use Rattle.mt_frame.specs.declared.entry.Record.TheVariants.{Row, Removed}
 use Rattle.mt_frame.specs.Digest.{digest}
@@ -35,10 +36,16 @@ abbrev pub commits_spelling : Commits → List ℕ
 commits_spelling commits =
     to_be_bytes w64 commits.first ++ to_be_bytes w64 commits.durable ++ records_spelling commits.records
 
+-- after how many commits the rows were so, and the rows with their keys, as a response has them
+abbrev pub part_spelling : Part → List ℕ
+part_spelling part = to_be_bytes w64 part.at ++ pairs_spelling part.rows
+
 -- the content of a frame: a byte of the kind, and what goes with it
 abbrev pub entry_spelling : Entry → List ℕ
 entry_spelling (Header header) = 1 ∷ header_spelling header
 entry_spelling (Group commits) = 2 ∷ commits_spelling commits
+entry_spelling (Rows part) = 3 ∷ part_spelling part
+entry_spelling (Sealed count) = 5 ∷ to_be_bytes w64 count
 entry_spelling (Closed number) = 6 ∷ to_be_bytes w64 number
 
 -- the body: the content, and the digest

@@ -18,7 +18,8 @@ fn count_fits(entry: &Entry) -> bool
 {
     match entry {
         Entry::Commits(commits) => commits.records.len() <= MAX_RECORDS,
-        Entry::Header(_) | Entry::Closed(_) => true,
+        Entry::Rows(part) => part.rows.len() <= MAX_RECORDS,
+        Entry::Header(_) | Entry::Sealed(_) | Entry::Closed(_) => true,
     }
 }
 
@@ -40,8 +41,8 @@ fn body(alloc: Global, generation: u64, place: u64, entry: &Entry) -> Result<Vec
 ///
 /// # Errors
 ///
-/// `TooLong` exactly if there are more than `MAX_RECORDS` records, or if the text would have more than `MAX_TEXT_BYTES`
-/// bytes.
+/// `TooLong` exactly if there are more than `MAX_RECORDS` records or rows, or if the text would have more than
+/// `MAX_TEXT_BYTES` bytes.
 pub fn encode(
     alloc: Global,
     generation: u64,

@@ -2,7 +2,7 @@
 
 use mt_types::items::Items;
 use mt_types::key::Key;
-use mt_types::row::Columns;
+use mt_types::row::{Columns, Pairs};
 
 /// What a frame of a log says.
 #[derive(Debug, PartialEq, Eq, Drop)]
@@ -11,6 +11,10 @@ pub enum Entry {
     Header(LogHeader),
     /// Commits, in the order of their numbers.
     Commits(Commits),
+    /// Rows of a checkpoint, as they were after a number of commits.
+    Rows(Part),
+    /// The checkpoint of this log is complete: the parts before this have all rows, this many.
+    Sealed(u64),
     /// The log was closed after this number of commits: nothing was in progress.
     Closed(u64),
 }
@@ -37,6 +41,16 @@ pub struct Commits {
     pub durable: u64,
     /// What each commit left.
     pub records: Items<Record>,
+}
+
+/// Some of the rows of an index, in the order of their keys: all from the end of the part before, or from the first key
+/// on, to the last of these.
+#[derive(Debug, PartialEq, Eq, Drop)]
+pub struct Part {
+    /// After how many commits the index had them.
+    pub at: u64,
+    /// The rows with their versions.
+    pub rows: Pairs,
 }
 
 /// What one commit left of one key.

@@ -44,7 +44,7 @@ pub enum DecodeError {
 /// Why an entry was not written as a frame.
 #[derive(Clone, Copy, Debug, PartialEq, Eq, Error)]
 pub enum EncodeError {
-    /// There are more records than a frame may have, or its text would have more bytes.
+    /// There are more records or rows than a frame may have, or its text would have more bytes.
     #[error("a frame would be too long")]
     TooLong,
     /// A growth was refused.

@@ -12,5 +12,5 @@ pub const DIGEST_BYTES: usize = 8;
 /// The most bytes of a frame after its length; the least is 1.
 pub const MAX_TEXT_BYTES: usize = 4_194_304;
 
-/// The most records of a frame.
+/// The most records, or rows, of a frame.
 pub const MAX_RECORDS: usize = 65_535;

@@ -2,15 +2,15 @@
 
 ghost use Rattle.std.specs.Prelude.{◌≡◌, bytes_eq};
 ghost use Rattle.std.specs.Int.{w16, w64};
-ghost use Rattle.mt_wire.specs.Reading.{Reader, byte_at, number_at, bytes_at, key_at, short_at, times_at, counted_at, kind_at};
-ghost use Rattle.mt_frame.specs.Reading.{Gives, limited_key_at, columns_at, record_rest, records_at, title_at, header_at, commits_at, closed_at, entry_rest, content_at};
+ghost use Rattle.mt_wire.specs.Reading.{Reader, byte_at, number_at, bytes_at, key_at, short_at, times_at, counted_at, counted16_at, kind_at};
+ghost use Rattle.mt_frame.specs.Reading.{Gives, limited_key_at, columns_at, record_rest, records_at, title_at, header_at, commits_at, row_at, pairs_at, rows_at, sealed_at, closed_at, entry_rest, content_at};
 
-use crate::entry::{Commits, Entry, LogHeader, Record};
+use crate::entry::{Commits, Entry, LogHeader, Part, Record};
 use crate::fault::ReadError;
 use bytes::{Buf, Bytes};
 use mt_types::items::Items;
 use mt_types::key::Key;
-use mt_types::row::{Column, Columns};
+use mt_types::row::{Column, Columns, Row};
 use std::alloc::Global;
 
 #[tactic(auto, unfolding(mt_wire::specs::Reading::byte_at))]
@@ -203,6 +203,51 @@ fn commits(alloc: Global, input: &mut Bytes) -> Result<Entry, ReadError>
     }))
 }
 
+#[tactic(auto, unfolding(crate::specs::Reading::row_at))]
+fn row(alloc: Global, input: &mut Bytes) -> Result<Row, ReadError>
+    ensures { Gives (λ x. (x, input.new)) result (row_at input.old) }
+{
+    let version = number64(input)?;
+    let columns = columns(alloc, input)?;
+    Ok(Row { version, columns })
+}
+
+impl Readable for (Key, Row) {
+    ghost use Rattle.mt_frame.specs.Reading.{pair_at};
+
+    ghost reading = { pair_at };
+
+    #[tactic(auto, unfolding(crate::specs::Reading::pair_at))]
+    fn read(alloc: Global, input: &mut Bytes) -> Result<(Key, Row), ReadError> {
+        let key = key(input)?;
+        Ok((key, row(alloc, input)?))
+    }
+}
+
+#[tactic(auto, unfolding(crate::specs::Reading::pairs_at, mt_wire::specs::Reading::counted16_at))]
+fn pairs(alloc: Global, input: &mut Bytes) -> Result<Vec<(Key, Row)>, ReadError>
+    ensures { Gives (λ x. (x.items, input.new)) result (pairs_at input.old) }
+{
+    let count = number16(input)?;
+    items(alloc, input, usize::from(count))
+}
+
+#[tactic(auto, unfolding(crate::specs::Reading::rows_at))]
+fn rows(alloc: Global, input: &mut Bytes) -> Result<Entry, ReadError>
+    ensures { Gives (λ x. (x, input.new)) result (rows_at input.old) }
+{
+    let at = number64(input)?;
+    let rows = Items::from_vec(pairs(alloc, input)?);
+    Ok(Entry::Rows(Part { at, rows }))
+}
+
+#[tactic(auto, unfolding(crate::specs::Reading::sealed_at))]
+fn sealed(input: &mut Bytes) -> Result<Entry, ReadError>
+    ensures { Gives (λ x. (x, input.new)) result (sealed_at input.old) }
+{
+    Ok(Entry::Sealed(number64(input)?))
+}
+
 #[tactic(auto, unfolding(crate::specs::Reading::closed_at))]
 fn closed(input: &mut Bytes) -> Result<Entry, ReadError>
     ensures { Gives (λ x. (x, input.new)) result (closed_at input.old) }
@@ -217,6 +262,8 @@ fn entry_of_kind(alloc: Global, input: &mut Bytes, kind: u8) -> Result<Entry, Re
     match kind {
         1 => header(input),
         2 => commits(alloc, input),
+        3 => rows(alloc, input),
+        5 => sealed(input),
         6 => closed(input),
         _ => Err(ReadError::Misspelled),
     }

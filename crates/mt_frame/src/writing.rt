@@ -3,16 +3,16 @@
 ghost use Rattle.std.specs.Prelude.{◌≡◌, ◌≤◌, ◌++◌, OnOk, length};
 ghost use Rattle.std.specs.List.{AllByRecursion, flat_map};
 ghost use Rattle.std.specs.Int.{w16, w64, to_be_bytes};
-ghost use Rattle.mt_wire.specs.Spelling.{key_spelling, columns_spelling};
-ghost use Rattle.mt_frame.specs.Spelling.{record_spelling, records_spelling, title, header_spelling, commits_spelling, entry_spelling};
+ghost use Rattle.mt_wire.specs.Spelling.{key_spelling, columns_spelling, row_spelling, pair_spelling, pairs_spelling};
+ghost use Rattle.mt_frame.specs.Spelling.{record_spelling, records_spelling, title, header_spelling, commits_spelling, part_spelling, entry_spelling};
 ghost use Rattle.mt_types.specs.Packed.{ArePackable};
-ghost use Rattle.mt_frame.specs.Fits.{CountFits, RecordFits, HeaderFits, CommitsFit, EntryFits};
+ghost use Rattle.mt_frame.specs.Fits.{CountFits, RecordFits, HeaderFits, CommitsFit, RowFits, PairFits, PartFits, EntryFits};
 
-use crate::entry::{Commits, Entry, LogHeader, Record};
+use crate::entry::{Commits, Entry, LogHeader, Part, Record};
 use crate::limits::{LOG_FORMAT, MAX_RECORDS};
 use mt_types::key::Key;
 use mt_types::limits::MAX_KEY_BYTES;
-use mt_types::row::Columns;
+use mt_types::row::{Columns, Row};
 use std::alloc::AllocError;
 
 fn number16(out: &mut Vec<u8>, number: u16) -> Result<(), AllocError>
@@ -109,6 +109,51 @@ fn write_commits(out: &mut Vec<u8>, commits: &Commits) -> Result<(), AllocError>
     write_records(out, commits.records.as_slice())
 }
 
+fn write_row(out: &mut Vec<u8>, row: &Row) -> Result<(), AllocError>
+    ensures value { OnOk result (out.new.items ≡ out.old.items ++ row_spelling row.now) }
+    ensures fits { OnOk result (RowFits row.now) }
+{
+    number64(out, row.version)?;
+    write_columns(out, &row.columns)
+}
+
+fn write_pair(out: &mut Vec<u8>, pair: &(Key, Row)) -> Result<(), AllocError>
+    ensures value { OnOk result (out.new.items ≡ out.old.items ++ pair_spelling pair.now) }
+    ensures fits { OnOk result (PairFits pair.now) }
+{
+    let (key, row) = pair;
+    write_key(out, key)?;
+    write_row(out, row)
+}
+
+fn write_pairs(out: &mut Vec<u8>, pairs: &[(Key, Row)]) -> Result<(), AllocError>
+    requires { length pairs.now ≤ MAX_RECORDS }
+    ensures value { OnOk result (out.new.items ≡ out.old.items ++ pairs_spelling pairs.now) }
+    ensures fit { OnOk result (AllByRecursion PairFits pairs.now) }
+{
+    number16(out, pairs.len() as u16)?;
+    each_pair(out, pairs)
+}
+
+fn each_pair(out: &mut Vec<u8>, pairs: &[(Key, Row)]) -> Result<(), AllocError>
+    ensures value { OnOk result (out.new.items ≡ out.old.items ++ flat_map pair_spelling pairs.now) }
+    ensures fit { OnOk result (AllByRecursion PairFits pairs.now) }
+{
+    for pair in pairs {
+        write_pair(out, pair)?;
+    }
+    Ok(())
+}
+
+fn write_part(out: &mut Vec<u8>, part: &Part) -> Result<(), AllocError>
+    requires { length part.now.rows ≤ MAX_RECORDS }
+    ensures value { OnOk result (out.new.items ≡ out.old.items ++ part_spelling part.now) }
+    ensures fit { OnOk result (PartFits part.now) }
+{
+    number64(out, part.at)?;
+    write_pairs(out, part.rows.as_slice())
+}
+
 /// Writes the content of an entry at the end of `out`. On an error some of its bytes may be there.
 pub fn write_entry(out: &mut Vec<u8>, entry: &Entry) -> Result<(), AllocError>
     requires { CountFits entry.now }
@@ -123,6 +168,14 @@ pub fn write_entry(out: &mut Vec<u8>, entry: &Entry) -> Result<(), AllocError>
         Entry::Commits(commits) => {
             out.push(2)?;
             write_commits(out, commits)
+        }
+        Entry::Rows(part) => {
+            out.push(3)?;
+            write_part(out, part)
+        }
+        Entry::Sealed(count) => {
+            out.push(5)?;
+            number64(out, *count)
         }
         Entry::Closed(number) => {
             out.push(6)?;

@@ -18,7 +18,7 @@ use Rattle.mt_types.specs.declared.refusal.Refusal.{Refusal}
 use Rattle.mt_types.specs.declared.refusal.Refusal.TheVariants.{NoMemory, NoSuchView, Behind}
 use Rattle.mt_promise.specs.History.{History, Happening, Moment, StandingView, happening, moment, view_of, meant_view, furthest, move_view, without_view}
 use Rattle.mt_promise.specs.Legal.{IsOrLacksMemory, MayApply, MayRead, MayReadView, MayShow, MayDrop, page_of, held_from}
-use Rattle.mt_commit.specs.Log.{newest, trimmed}
+use Rattle.mt_commit.specs.Log.{newest, trimmed, kept_after}
 use Rattle.mt_commit.specs.Laws.{times_held}
 use Rattle.mt_commit.specs.Holders.{with_holder}
 use Rattle.mt_commit.proofs.CountLemmas.{pinning_counts, unpinning_counts, counted_is_held}
@@ -144,7 +144,7 @@ module _ (s : MachineView) (h : History) (st : Stands s h) where
       let low = least_held (newest s.log) state.at s.log.holders held in
       let is = slowest_is s.log (moment h) st.commits st.held in
       let trim = st.trimmed in
-      let less = min-le_left (held_from (moment h)) (length (moment h).commits - s.log.retention) in
+      let less = min-le_left (held_from (moment h)) (kept_after s.log (length (moment h).commits)) in
       (omega (arith, low, is, trim, less), held)
 
   pub view_held : (number : ℕ) (state : StateView) → state_at number s.views.views ≡ Some state → Contains s.log.holders state.at

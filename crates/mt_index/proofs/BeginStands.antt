@@ -19,7 +19,7 @@ use Rattle.mt_types.specs.Limits.{refused_if, request_fault}
 use Rattle.mt_types.specs.Numbers.{greatest_number}
 use Rattle.mt_types.specs.declared.limits.TheConstants.{MAX_OPEN_CALLS, MAX_VIEWS}
 use Rattle.mt_promise.specs.Legal.{held_from, reads_log}
-use Rattle.mt_commit.specs.Log.{LogView, newest}
+use Rattle.mt_commit.specs.Log.{LogView, newest, kept_after}
 use Rattle.mt_commit.specs.Laws.{times_held}
 use Rattle.mt_commit.specs.Holders.{with_holder}
 use Rattle.mt_chart.specs.Tree.{Among}
@@ -84,7 +84,7 @@ called s pass request work h st none is new =
       keys = st.keys;
       logged = st.logged;
       counted = st.counted;
-      trimmed = st.trimmed ∙ ap (λ (n : ℕ). min n (length (moment h).commits - s.log.retention)) still_bound;
+      trimmed = st.trimmed ∙ ap (λ (n : ℕ). min n (kept_after s.log (length (moment h).commits))) still_bound;
       held = now_holds;
       views = now_placed;
       calls = paired;

@@ -22,7 +22,7 @@ use Rattle.std.proofs.lemmas.List.Sums.{length-filter, count_by-le-length}
 use Rattle.mt_types.specs.declared.event.Answer.{Answer}
 use Rattle.mt_types.specs.declared.event.Reply.{Reply}
 use Rattle.mt_promise.specs.Legal.{held_from, reads_log}
-use Rattle.mt_commit.specs.Log.{LogView, IsLog, newest, trimmed}
+use Rattle.mt_commit.specs.Log.{LogView, IsLog, newest, trimmed, kept_after}
 use Rattle.mt_commit.specs.Laws.{times_held}
 use Rattle.mt_commit.specs.Holders.{without_holder}
 use Rattle.mt_arena.specs.Arena.{ArenaView}
@@ -74,7 +74,7 @@ held_reaches s h st n kept at reads =
     let low = least_held (newest s.log) kept.from s.log.holders held in
     let is = slowest_is s.log (moment h) st.commits st.held in
     let trim = st.trimmed in
-    let less = min-le_left (held_from (moment h)) (length (moment h).commits - s.log.retention) in
+    let less = min-le_left (held_from (moment h)) (kept_after s.log (length (moment h).commits)) in
     omega (arith, low, is, trim, less)
 
 -- ---- a step of an open call
@@ -130,7 +130,7 @@ module _ (s : MachineView) (h : History) (n : ℕ) (st : Stands s h) (kept : Cal
 
   -- what holds the log, if the call continues and if it ends
   before : (number : ℕ) → bounds left ≡ bounds s.log → times_held number left.holders ≡ times_held number (map (λ (v : StandingView). v.at) (moment h).views) + total (holds_from number) s.calls.calls
-  before number same = ap (λ (b : List ℕ × ℕ × ℕ). times_held number b.0) same ∙ held_before s h st number
+  before number same = ap (λ (b : List ℕ × ℕ × ℕ × ℕ). times_held number b.0) same ∙ held_before s h st number
 
   held_on : bounds left ≡ bounds s.log → HoldersAre s h left.holders (with_changed (with_work work) n s.calls.calls)
   held_on same number =
@@ -316,7 +316,7 @@ step_bounds s h n calls then_tree left pass reads builds from p steps st =
 pub may_settle : (s : MachineView) (h : History) (n : ℕ) (calls : CallsView) (then_tree : ArenaView) (left : LogView) (pass : PassNo) (reads builds : Bool) (from : ℕ) (p : Progress) → StepsCall s.epoch s.columns n s.calls calls s.tree then_tree s.log left pass reads builds from p → Stands s h → IsTrueBool reads → Contains left.holders from
 may_settle s h n calls then_tree left pass reads builds from p steps st is =
     let same = step_bounds s h n calls then_tree left pass reads builds from p steps st in
-    subst (λ (b : List ℕ × ℕ × ℕ). Contains b.0 from) (sym same)
+    subst (λ (b : List ℕ × ℕ × ℕ × ℕ). Contains b.0 from) (sym same)
     (subst (λ (m : ℕ). Contains s.log.holders m) (sym steps.made.from_is)
     (reader_holds n _ steps.call s.calls.calls s.log.holders steps.is_open (held_before s h st steps.call.from) (sym steps.made.reads_is ∙ is)))
 

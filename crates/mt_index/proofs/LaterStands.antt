@@ -9,7 +9,7 @@ use Rattle.mt_types.specs.declared.row.Change.{Change}
 use Rattle.mt_promise.specs.History.{History, Happening, OpenCall, StandingView, moment, rows}
 use Rattle.mt_promise.specs.Legal.{MayHappen, is_build, held_from}
 use Rattle.mt_slice.specs.Place.{AreBytes, place_of}
-use Rattle.mt_commit.specs.Log.{LogView}
+use Rattle.mt_commit.specs.Log.{LogView, kept_after}
 use Rattle.mt_commit.specs.Laws.{times_held}
 use Rattle.mt_commit.specs.Logged.{deltas_of}
 use Rattle.mt_arena.specs.Arena.{ArenaView}
@@ -75,10 +75,10 @@ module _ (s : MachineView) (h : History) (x : Happening) (st : Stands s h) (now 
   same_holding : holding (moment h) ≡ holding (moment (x ∷ h))
   same_holding = ap (λ (vs : List StandingView). map (λ (v : StandingView). v.at) vs ++ froms (moment h).calls) (sym views) ∙ ap (λ (cs : List OpenCall). map (λ (v : StandingView). v.at) (moment (x ∷ h)).views ++ froms cs) (sym calls)
 
-  same_bound : min (held_from (moment h)) (length (moment h).commits - s.log.retention) ≡ min (held_from (moment (x ∷ h))) (length (moment (x ∷ h)).commits - s.log.retention)
+  same_bound : min (held_from (moment h)) (kept_after s.log (length (moment h).commits)) ≡ min (held_from (moment (x ∷ h))) (kept_after s.log (length (moment (x ∷ h)).commits))
   same_bound =
-      ap (λ (l : List ℕ). min (least (length (moment h).commits) l) (length (moment h).commits - s.log.retention)) same_holding
-      ∙ ap (λ (cs : List Change). min (least (length cs) (holding (moment (x ∷ h)))) (length cs - s.log.retention)) (sym commits)
+      ap (λ (l : List ℕ). min (least (length (moment h).commits) l) (kept_after s.log (length (moment h).commits))) same_holding
+      ∙ ap (λ (cs : List Change). min (least (length cs) (holding (moment (x ∷ h)))) (kept_after s.log (length cs))) (sym commits)
 
   pub quiet_stands : IsWorld tree now w → SameContent (arena_seen s.tree) (arena_seen tree) → Paired (CallStands s.columns now tree w (x ∷ h)) 0 s.calls.begun s.calls.calls (moment h).calls → AllOwned tree w s.calls.calls → Stands (seen s.columns now tree s.log s.calls s.views) (x ∷ h)
   quiet_stands world same related owned = record {

@@ -10,7 +10,7 @@ use Rattle.mt_promise.specs.History.{History, moment, rows}
 use Rattle.mt_commit.specs.Deltas.{FitsNewestFirst, rows_before}
 use Rattle.mt_commit.specs.Logged.{key_of, delta_made, deltas_of}
 use Rattle.mt_index.specs.Laws.{LogTellsThePast, LogFits, EachCommitIsLogged}
-use Rattle.mt_commit.specs.Log.{LogView, newest, slowest}
+use Rattle.mt_commit.specs.Log.{LogView, newest, slowest, kept_after}
 use Rattle.mt_commit.proofs.RowLemmas.{trimming_fits}
 use Rattle.mt_promise.specs.Legal.{held_from}
 use Rattle.mt_index.specs.Stands.{MachineView}
@@ -36,8 +36,8 @@ pub log_fits : LogFits
 log_fits s h st =
     let deltas = deltas_of-length s.columns (moment h).commits in
     let as_many : newest (whole s h) ≡ length (moment h).commits = omega (arith, deltas) in
-    let bound : min (slowest (whole s h)) (newest (whole s h) - s.log.retention) - 0 ≡ s.log.held_after =
-    minus_zero (min (slowest (whole s h)) (newest (whole s h) - s.log.retention)) ∙ ap (λ (m : ℕ). min m (newest (whole s h) - s.log.retention)) (slowest_is (whole s h) (moment h) as_many st.held) ∙ ap (λ (m : ℕ). min (held_from (moment h)) (m - s.log.retention)) as_many ∙ sym st.trimmed in
+    let bound : min (slowest (whole s h)) (kept_after s.log (newest (whole s h))) - 0 ≡ s.log.held_after =
+    minus_zero (min (slowest (whole s h)) (kept_after s.log (newest (whole s h)))) ∙ ap (λ (m : ℕ). min m (kept_after s.log (newest (whole s h)))) (slowest_is (whole s h) (moment h) as_many st.held) ∙ ap (λ (m : ℕ). min (held_from (moment h)) (kept_after s.log m)) as_many ∙ sym st.trimmed in
     subst (λ (ds : List Delta). FitsNewestFirst (reverse ds) (rows s.columns (moment h)))
     (ap (λ (m : ℕ). drop m (deltas_of s.columns (moment h).commits)) bound ∙ sym st.logged)
     (trimming_fits (whole s h) (rows s.columns (moment h)) (all_fit s.columns 0 empty (moment h).commits))

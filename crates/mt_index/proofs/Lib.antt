@@ -30,3 +30,4 @@ pub mod FeedLemmas
 pub mod MakesLemmas
 pub mod RunLemmas
 pub mod AloneRuns
+pub mod RebaseStands

@@ -13,7 +13,7 @@ use Rattle.std.specs.FinMap.{len}
 use Rattle.mt_promise.specs.History.{History, Happening, Moment, OpenCall, StandingView, moment, rows}
 use Rattle.mt_promise.specs.Legal.{held_from, reads_log}
 use Rattle.mt_promise.proofs.HistoryLemmas.{Sometime-here}
-use Rattle.mt_commit.specs.Log.{LogView, IsLog, newest, slowest, trimmed}
+use Rattle.mt_commit.specs.Log.{LogView, IsLog, newest, slowest, trimmed, kept_after}
 use Rattle.mt_commit.specs.Laws.{times_held}
 use Rattle.mt_commit.specs.Holders.{with_holder, without_holder}
 use Rattle.mt_commit.proofs.CountLemmas.{pinning_counts, unpinning_counts, counted_is_held, least_is_by_counts}
@@ -78,19 +78,19 @@ slowest_is log m commits held = least_is_by_counts (newest log) log.holders (hol
 pub record TrimmedAt (C : ℕ) (log : LogView) (m : Moment) : Type 0 where
   pub commits : newest log ≡ length m.commits
   pub logged : log.deltas ≡ drop log.held_after (deltas_of C m.commits)
-  pub trimmed : log.held_after ≡ min (held_from m) (length m.commits - log.retention)
+  pub trimmed : log.held_after ≡ min (held_from m) (kept_after log (length m.commits))
   pub rows : log.rows ≡ len (rows C m)
   pub held : (number : ℕ) → times_held number log.holders ≡ times_held number (holding m)
 
 pub trims : (C : ℕ) (log : LogView) (m : Moment) → IsLog log → LogAt C log m → TrimmedAt C (trimmed log) m
 trims C log m sound at =
-    let bound : ℕ = min (slowest log) (newest log - log.retention) in
+    let bound : ℕ = min (slowest log) (kept_after log (newest log)) in
     let rises = trim_rises log bound sound refl in
     let same : log.held_after + (bound - log.held_after) ≡ bound = omega (arith, rises) in
     record {
       commits = newest-trimmed log bound (drop (bound - log.held_after) log.deltas) sound refl refl ∙ at.commits;
       logged = ap (λ (ds : List Delta). drop (bound - log.held_after) ds) at.logged ∙ drop-drop (bound - log.held_after) log.held_after (deltas_of C m.commits) ∙ ap (λ (n : ℕ). drop n (deltas_of C m.commits)) same;
-      trimmed = ap (λ (n : ℕ). min n (newest log - log.retention)) (slowest_is log m at.commits at.held) ∙ ap (λ (n : ℕ). min (held_from m) (n - log.retention)) at.commits;
+      trimmed = ap (λ (n : ℕ). min n (kept_after log (newest log))) (slowest_is log m at.commits at.held) ∙ ap (λ (n : ℕ). min (held_from m) (kept_after log n)) at.commits;
       rows = at.rows;
       held = at.held;
     }

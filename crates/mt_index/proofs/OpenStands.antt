@@ -3,7 +3,7 @@ use Rattle.std.proofs.Common.{true, false, ℕ, ◌≡◌, inl, inr, List, [], O
 use Rattle.std.specs.FinMap.{get-empty, len-empty}
 use Rattle.mt_types.specs.Keys.{key_cmp}
 use Rattle.mt_tree.specs.Seen.{arena_seen, HasRow}
-use Rattle.std.specs.Prelude.{min, MatchOption, Result, Ok, Err}
+use Rattle.std.specs.Prelude.{min, max, MatchOption, Result, Ok, Err}
 use Rattle.mt_types.specs.declared.refusal.Refusal.{Refusal}
 use Rattle.mt_types.specs.declared.row.Row.{Row}
 use Rattle.mt_types.specs.declared.limits.TheConstants.{MAX_COLUMNS}
@@ -34,7 +34,7 @@ use Rattle.mt_steps.specs.World.{IsLocked, IsTaken, World, IsWorld, RowsAreOfKey
 use Rattle.mt_index.specs.Stands.{Stands}
 
 -- ---- the new machine
-pub opens-stands : (C feed keep : ℕ) (a : ArenaView) (log : LogView) (w : World) → C ≤ MAX_COLUMNS → IsWorld a 0 w → ((number : ℕ) → IsTaken a w number → ⊥) → ((key : List ℕ) (row : Row) → HasRow a key row → ⊥) → log ≡ record { held_after = 0; deltas = []; reserved = 0; holders = []; capacity = feed; retention = keep; rows = 0 }
+pub opens-stands : (C feed keep : ℕ) (a : ArenaView) (log : LogView) (w : World) → C ≤ MAX_COLUMNS → IsWorld a 0 w → ((number : ℕ) → IsTaken a w number → ⊥) → ((key : List ℕ) (row : Row) → HasRow a key row → ⊥) → log ≡ record { base = 0; held_after = 0; deltas = []; reserved = 0; holders = []; capacity = feed; retention = keep; rows = 0 }
     → Stands (record { columns = C; epoch = 0; tree = a; log = log; calls = record { begun = 0; calls = [] }; views = record { built = 0; building = 0; views = [] } }) []
 opens-stands C feed keep a log w few world nobody empty is = subst (λ (l : LogView). Stands (record { columns = C; epoch = 0; tree = a; log = l; calls = record { begun = 0; calls = [] }; views = record { built = 0; building = 0; views = [] } }) []) (sym is) (record {
   legal = tt;
@@ -48,7 +48,7 @@ opens-stands C feed keep a log w few world nobody empty is = subst (λ (l : LogV
   content = λ key bytes row. ((λ has. absurd (empty key row has)), (λ e. absurd (let clash : ◌≡◌ {A = Option Row} None (Some row) = sym (get-empty key_cmp key) ∙ e in cc)));
   keys = λ key row e. absurd (let clash : ◌≡◌ {A = Option Row} None (Some row) = sym (get-empty key_cmp key) ∙ e in cc);
   logged = refl;
-  trimmed = let none : 0 ≡ min 0 (0 - keep) = omega arith in none;
+  trimmed = let none : 0 ≡ min 0 (max 0 (0 - keep)) = omega arith in none;
   counted = sym (len-empty key_cmp Row);
   held = λ number. refl;
   views = record { built = refl; standing = refl; exact = tt; rises = omega arith; building = refl; few = omega arith };

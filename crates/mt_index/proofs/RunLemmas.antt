@@ -14,7 +14,7 @@ use Rattle.mt_types.specs.declared.event.Outcome.TheVariants.{Call as Called, Re
 use Rattle.mt_types.specs.Limited.{OutcomeIsLimited}
 use Rattle.mt_promise.specs.History.{History, OpenCall, happening, moment}
 use Rattle.mt_promise.specs.Legal.{reads_log, is_build, held_from}
-use Rattle.mt_commit.specs.Log.{LogView, IsLog, newest, trimmed}
+use Rattle.mt_commit.specs.Log.{LogView, IsLog, newest, trimmed, kept_after}
 use Rattle.mt_commit.proofs.LogLemmas.{newest-trimmed}
 use Rattle.mt_steps.specs.declared.progress.Progress.{Progress}
 use Rattle.mt_steps.specs.declared.progress.Progress.TheVariants.{Moved, Waits, Committed, Answered, Refused}
@@ -170,8 +170,8 @@ module _ (s : MachineView) (pass : PassNo) where
 
     pub bounds_so : HasBounds x.log.capacity x.log.retention y.log
     bounds_so = (
-      ap (λ (log : LogView). log.capacity) r.trims ∙ ap (λ (b : List ℕ × ℕ × ℕ). b.1) r.bounds,
-      ap (λ (log : LogView). log.retention) r.trims ∙ ap (λ (b : List ℕ × ℕ × ℕ). b.2) r.bounds,
+      ap (λ (log : LogView). log.capacity) r.trims ∙ ap (λ (b : List ℕ × ℕ × ℕ × ℕ). b.1) r.bounds,
+      ap (λ (log : LogView). log.retention) r.trims ∙ ap (λ (b : List ℕ × ℕ × ℕ × ℕ). b.2) r.bounds,
     )
 
   -- a step after which the call continues
@@ -273,8 +273,8 @@ module _ (s : MachineView) (pass : PassNo) where
 -- a log has nothing to trim while no step is under way
 pub nothing_to_trim : (s : MachineView) (h : History) → Stands s h → IsTrimmed s.log
 nothing_to_trim s h st =
-    ap (λ (n : ℕ). min n (newest s.log - s.log.retention)) (slowest_is s.log (moment h) st.commits st.held)
-    ∙ ap (λ (n : ℕ). min (held_from (moment h)) (n - s.log.retention)) st.commits ∙ sym st.trimmed
+    ap (λ (n : ℕ). min n (kept_after s.log (newest s.log))) (slowest_is s.log (moment h) st.commits st.held)
+    ∙ ap (λ (n : ℕ). min (held_from (moment h)) (kept_after s.log n)) st.commits ∙ sym st.trimmed
 
 -- ---- at the end the machine is at a history
 go_stand : (s t : MachineView) (call : CallNo) (outcomes : List Outcome) → StepsGo s call outcomes t → (h : History) → Stands s h → (then : History) × Stands t then

@@ -9,4 +9,5 @@ pub mod OneField
 pub mod Events
 pub mod Laws
 pub mod Feed
+pub mod Rebase
 pub mod Runs

@@ -19,7 +19,7 @@ use Rattle.mt_types.specs.declared.event.Answer.TheVariants.{Built}
 use Rattle.mt_types.specs.Rows.{Rows, shown}
 use Rattle.mt_promise.specs.RightAnswers.{Shows, Lacks, Stands as IsThere}
 use Rattle.mt_slice.specs.Place.{AreBytes, place_of}
-use Rattle.mt_commit.specs.Log.{LogView, IsLog, newest, delta_of, trimmed}
+use Rattle.mt_commit.specs.Log.{LogView, IsLog, newest, delta_of, trimmed, kept_after}
 use Rattle.mt_commit.specs.Laws.{times_held}
 use Rattle.mt_commit.specs.Holders.{with_holder, without_holder}
 use Rattle.mt_arena.specs.Arena.{ArenaView}
@@ -122,7 +122,7 @@ pub record Stands (s : MachineView) (h : History) : Type 0 where
   -- the log has exactly the deltas of the commits after the least number from which it is held, and of the last ones
   -- that it keeps for no reader
   pub logged : s.log.deltas ≡ drop s.log.held_after (deltas_of s.columns (moment h).commits)
-  pub trimmed : s.log.held_after ≡ min (held_from (moment h)) (length (moment h).commits - s.log.retention)
+  pub trimmed : s.log.held_after ≡ min (held_from (moment h)) (kept_after s.log (length (moment h).commits))
   -- it counts the rows
   pub counted : s.log.rows ≡ len (rows s.columns (moment h))
   -- it is held from each number as often as views and open calls hold it from there

@@ -226,6 +226,14 @@ impl Calls {
         self.begun
     }
 
+    /// Lets this many calls have begun, while none is open. O(1).
+    pub(crate) fn begin_after(&mut self, begun: u64)
+        requires { self.old.calls ≡ [] }
+        ensures { self.new ≡ record self.old { begun = begun } }
+    {
+        self.begun = begun;
+    }
+
     /// Begins a call, and returns its number. O(log n) in the open calls. Allocates only if others are open. On an
     /// error nothing changes.
     ///

@@ -10,6 +10,7 @@ mod feed;
 pub mod laws;
 pub mod machine;
 pub mod options;
+mod rebasing;
 pub mod running;
 mod stepping;
 mod viewing;

@@ -100,6 +100,7 @@ impl Machine {
         ensures opened { IfOk result
             (λ machine. (machine.columns ≡ options.columns) × HasBounds options.log_capacity options.log_retention machine.log
             × Stands machine []) }
+        ensures base { IfOk result (λ machine. machine.log.base ≡ 0) }
         ensures fault { MatchOption (open_fault options.columns options.log_capacity options.log_retention)
             (IfErr result (λ refusal. refusal ≡ Refusal.NoMemory)) (λ refusal. result ≡ Err refusal) }
         ensures idle { IfOk result IsIdle }

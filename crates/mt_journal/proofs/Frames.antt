@@ -3,7 +3,7 @@ use Rattle.std.proofs.Common.{◌≡◌, ℕ, suc, ◌+◌, ◌<◌, ◌≤◌, 
 use Rattle.std.specs.Prelude.{IsTrue}
 use Rattle.std.proofs.lemmas.List.{append-nil}
 use Rattle.mt_frame.specs.declared.entry.Entry.{Entry}
-use Rattle.mt_frame.specs.declared.entry.Entry.TheVariants.{Header, Commits as Group, Closed}
+use Rattle.mt_frame.specs.declared.entry.Entry.TheVariants.{Header, Commits as Group, Rows, Sealed, Closed}
 use Rattle.mt_frame.specs.declared.entry.LogHeader.{LogHeader}
 use Rattle.mt_frame.specs.Spelling.{frame_of, frames_of, framed}
 use Rattle.mt_frame.specs.Fits.{HasFrame}
@@ -58,24 +58,32 @@ pub last_append : (n : ℕ) (xs ys : List Entry) → last_number n (xs ++ ys) �
 last_append n [] ys = refl
 last_append n (Header h ∷ xs) ys = last_append n xs ys
 last_append n (Group c ∷ xs) ys = last_append (n + length c.records) xs ys
+last_append n (Rows p ∷ xs) ys = last_append n xs ys
+last_append n (Sealed m ∷ xs) ys = last_append n xs ys
 last_append n (Closed m ∷ xs) ys = last_append n xs ys
 
 pub last_least : (n : ℕ) (xs : List Entry) → n ≤ last_number n xs
 last_least n [] = omega arith
 last_least n (Header h ∷ xs) = last_least n xs
 last_least n (Group c ∷ xs) = omega (arith, last_least (n + length c.records) xs)
+last_least n (Rows p ∷ xs) = last_least n xs
+last_least n (Sealed m ∷ xs) = last_least n xs
 last_least n (Closed m ∷ xs) = last_least n xs
 
 pub numbered_append : (n : ℕ) (xs ys : List Entry) → AreNumbered n xs → AreNumbered (last_number n xs) ys → AreNumbered n (xs ++ ys)
 numbered_append n [] ys are more = more
 numbered_append n (Header h ∷ xs) ys are more = are
 numbered_append n (Group c ∷ xs) ys are more = (are.0, numbered_append (n + length c.records) xs ys are.1 more)
+numbered_append n (Rows p ∷ xs) ys are more = numbered_append n xs ys are more
+numbered_append n (Sealed m ∷ xs) ys are more = numbered_append n xs ys are more
 numbered_append n (Closed m ∷ xs) ys are more = (are.0, numbered_append n xs ys are.1 more)
 
 pub numbered_front : (n : ℕ) (xs ys : List Entry) → AreNumbered n (xs ++ ys) → AreNumbered n xs
 numbered_front n [] ys are = tt
 numbered_front n (Header h ∷ xs) ys are = are
 numbered_front n (Group c ∷ xs) ys are = (are.0, numbered_front (n + length c.records) xs ys are.1)
+numbered_front n (Rows p ∷ xs) ys are = numbered_front n xs ys are
+numbered_front n (Sealed m ∷ xs) ys are = numbered_front n xs ys are
 numbered_front n (Closed m ∷ xs) ys are = (are.0, numbered_front n xs ys are.1)
 
 -- ---- the first entries
@@ -200,9 +208,13 @@ pub numbered_rest : (n : ℕ) (xs ys : List Entry) → AreNumbered n (xs ++ ys) 
 numbered_rest n [] ys are = are
 numbered_rest n (Header h ∷ xs) ys are = absurd are
 numbered_rest n (Group c ∷ xs) ys are = numbered_rest (n + length c.records) xs ys are.1
+numbered_rest n (Rows p ∷ xs) ys are = numbered_rest n xs ys are
+numbered_rest n (Sealed m ∷ xs) ys are = numbered_rest n xs ys are
 numbered_rest n (Closed m ∷ xs) ys are = numbered_rest n xs ys are.1
 
 pub numbered_first : (n : ℕ) (x : Entry) (ys : List Entry) → AreNumbered n (x ∷ ys) → AreNumbered n (x ∷ [])
 numbered_first n (Header h) ys are = are
 numbered_first n (Group c) ys are = (are.0, tt)
+numbered_first n (Rows p) ys are = tt
+numbered_first n (Sealed m) ys are = tt
 numbered_first n (Closed m) ys are = (are.0, tt)

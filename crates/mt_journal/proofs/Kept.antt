@@ -11,9 +11,9 @@ use Rattle.mt_frame.specs.Fits.{HasFrame}
 use Rattle.mt_frame.specs.Laws.{OldOrNew}
 use Rattle.mt_journal.specs.declared.position.Position.{Position}
 use Rattle.mt_journal.specs.Log.{last_number, AreNumbered, log_spelling, MaySay, IsLog}
-use Rattle.mt_journal.specs.Keeping.{IsTorn, Keeps, HasZeros, AllSurvive}
+use Rattle.mt_journal.specs.Keeping.{IsTorn, Keeps, HasZeros, AllAreLogs, AllSurvive}
 use Rattle.mt_journal.proofs.Frames.{frames_append, log_append, says_next, last_append, last_least}
-use Rattle.mt_journal.proofs.Torn.{survives}
+use Rattle.mt_journal.proofs.Torn.{ends_at_zeros, survives}
 use Rattle.mt_journal.proofs.Writes.{same_front, holds_over, mixed_zeros}
 
 old_append : (a b c d : List ℕ) → OldOrNew a c → OldOrNew b d → OldOrNew (a ++ b) (c ++ d)
@@ -132,6 +132,15 @@ sync_kept at seen new may more header entries keeps same only = record {
     some = keeps.some;
     room_is = omega (arith, keeps.room, keeps.end);
   };
+}
+
+-- and then a crash leaves all of it
+pub all_left : (at : Position) (seen : List ℕ) (may more : List ℕ → Type 0) (header : LogHeader) (entries : List Entry) → Keeps at seen may header entries → Only seen more → AllAreLogs header entries more
+all_left at seen may more header entries keeps only = λ left may_left. record {
+  says = keeps.says;
+  rest = replicate keeps.zeros 0 ++ keeps.rest;
+  parts = only left may_left ∙ keeps.seen_is;
+  ended = ends_at_zeros keeps.zeros keeps.rest keeps.some;
 }
 
 -- ---- zeros ahead

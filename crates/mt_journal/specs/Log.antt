@@ -1,7 +1,7 @@
 -- The bytes of a log, and what they say.
 use Rattle.std.specs.Prelude.{◌≡◌, ℕ, ◌+◌, List, [], ◌∷◌, ◌++◌, length, IsTrue}
 use Rattle.mt_frame.specs.declared.entry.Entry.{Entry}
-use Rattle.mt_frame.specs.declared.entry.Entry.TheVariants.{Header, Commits as Group, Closed}
+use Rattle.mt_frame.specs.declared.entry.Entry.TheVariants.{Header, Commits as Group, Rows, Sealed, Closed}
 use Rattle.mt_frame.specs.declared.entry.LogHeader.{LogHeader}
 use Rattle.mt_frame.specs.Spelling.{frame_of, frames_of}
 use Rattle.mt_frame.specs.Fits.{HasFrame}
@@ -12,14 +12,19 @@ abbrev pub last_number : ℕ → List Entry → ℕ
 last_number n [] = n
 last_number n (Header header ∷ entries) = last_number n entries
 last_number n (Group commits ∷ entries) = last_number (n + length commits.records) entries
+last_number n (Rows part ∷ entries) = last_number n entries
+last_number n (Sealed count ∷ entries) = last_number n entries
 last_number n (Closed number ∷ entries) = last_number n entries
 
--- entries that may follow the commit n: the numbers of commits follow one another, and there is no header
+-- entries that may follow the commit n: the numbers of commits follow one another, and there is no header. What a
+-- checkpoint has may stand anywhere
 abbrev pub AreNumbered : ℕ → List Entry → Type 0
 AreNumbered n [] = Unit {0}
 AreNumbered n (Header header ∷ entries) = ⊥
 AreNumbered n (Group commits ∷ entries) =
     (commits.first ≡ n + 1) × AreNumbered (n + length commits.records) entries
+AreNumbered n (Rows part ∷ entries) = AreNumbered n entries
+AreNumbered n (Sealed count ∷ entries) = AreNumbered n entries
 AreNumbered n (Closed number ∷ entries) = (number ≡ n) × AreNumbered n entries
 
 -- each of them has a frame, the first at this place, each other after the one before it

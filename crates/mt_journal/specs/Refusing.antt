@@ -1,7 +1,7 @@
 -- Why bytes are refused as a log: what is wrong first.
 use Rattle.std.specs.Prelude.{◌≡◌, ◌⊎◌, ◌==◌, ◌^◌, ◌≤◌, ℕ, List, [], ◌∷◌, drop, Option, Some, None, Result, Ok, Err, if◌then◌else◌}
 use Rattle.mt_frame.specs.declared.entry.Entry.{Entry}
-use Rattle.mt_frame.specs.declared.entry.Entry.TheVariants.{Header, Commits as Group, Closed}
+use Rattle.mt_frame.specs.declared.entry.Entry.TheVariants.{Header, Commits as Group, Rows, Sealed, Closed}
 use Rattle.mt_frame.specs.declared.entry.LogHeader.{LogHeader}
 use Rattle.mt_frame.specs.declared.fault.FrameFault.{FrameFault}
 use Rattle.mt_frame.specs.declared.fault.FrameFault.TheVariants as faults
@@ -29,6 +29,8 @@ header_fault C (Err fault) = Some (of_fault fault)
 header_fault C (Ok None) = Some NoLog
 header_fault C (Ok (Some (Header header, n))) = if header.columns == C then None else Some (OtherColumns header.columns)
 header_fault C (Ok (Some (Group commits, n))) = Some NotALog
+header_fault C (Ok (Some (Rows part, n))) = Some NotALog
+header_fault C (Ok (Some (Sealed count, n))) = Some NotALog
 header_fault C (Ok (Some (Closed number, n))) = Some NotALog
 
 -- what comes next, after the commit `newest`, is no frame, or an entry that doesn't follow

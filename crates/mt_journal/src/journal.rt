@@ -7,7 +7,7 @@ ghost use Rattle.mt_frame.specs.declared.entry.Entry.TheVariants.{Closed};
 ghost use Rattle.mt_frame.specs.declared.limits.TheConstants.{MAX_RECORDS};
 ghost use Rattle.mt_frame.specs.Fits.{CountFits};
 ghost use Rattle.mt_journal.specs.Log.{AreNumbered, last_number};
-ghost use Rattle.mt_journal.specs.Keeping.{Keeps, AllSurvive};
+ghost use Rattle.mt_journal.specs.Keeping.{Keeps, AllAreLogs, AllSurvive};
 ghost use Rattle.mt_journal.specs.Appending.{with_commits, with_end};
 ghost use Rattle.mt_journal.specs.Causes.{may_ask, next_commits, LacksPlace, IsTooLong, AppendHasCause, SyncHasCause, TellsFull, GivesUp, HasRoom, GoesOn};
 
@@ -70,7 +70,7 @@ impl<D: Disk + Drop> Journal<D> {
     }
 
     // Whether the disk may be asked.
-    fn is_usable(&self) -> bool
+    pub(crate) fn is_usable(&self) -> bool
         ensures usable { IsTrue result → IsTrue (D.Disk.is_usable self.now.disk) }
         ensures exact { result ≡ may_ask self.now.is_given_up (D.Disk.is_usable self.now.disk) }
     {
@@ -168,7 +168,12 @@ impl<D: Disk + Drop> Journal<D> {
     }
 
     // Writes an entry with `count` commits at the end, after zeros if there is no room for it.
-    fn put(&mut self, alloc: Global, entry: &Entry, count: u64) -> Result<(), JournalError>
+    pub(crate) fn put(
+        &mut self,
+        alloc: Global,
+        entry: &Entry,
+        count: u64,
+    ) -> Result<(), JournalError>
         requires usable { IsTrue (D.Disk.is_usable self.old.disk) }
         requires follows { AreNumbered self.old.at.newest (entry.now ∷ []) }
         requires counts { last_number self.old.at.newest (entry.now ∷ []) ≡ self.old.at.newest + count }
@@ -182,6 +187,7 @@ impl<D: Disk + Drop> Journal<D> {
             → AllSurvive header (entries ++ entry.now ∷ []) self.old.at.durable (D.Disk.may_leave self.new.disk) }
         ensures newest { OnOk result (self.new.at.newest ≡ self.old.at.newest + count) }
         ensures usable { OnOk result (IsTrue (D.Disk.is_usable self.new.disk)) }
+        ensures fits { self.old.at.newest < 2 ^ 64 }
         ensures many { (CountFits entry.now → ⊥) → result ≡ Err JournalError.TooLong }
         ensures cause { AppendHasCause result true ((2 ^ 64 ≤ self.old.at.newest + count) ⊎ IsTooLong self.old.at entry.now)
             (D.Disk.faults self.old.disk) (D.Disk.faults self.new.disk) }
@@ -259,7 +265,8 @@ impl<D: Disk + Drop> Journal<D> {
         Ok(self.at.newest)
     }
 
-    /// Makes all that was written durable, and returns the number of the last commit. One call of the disk.
+    /// Makes all that was written durable, and returns the number of the last commit. A crash right after leaves a log of
+    /// all entries. One call of the disk.
     ///
     /// # Errors
     ///
@@ -271,6 +278,9 @@ impl<D: Disk + Drop> Journal<D> {
         ensures crash { (header : LogHeader) (entries : List Entry)
             → Keeps self.old.at (D.Disk.seen self.old.disk) (D.Disk.may_leave self.old.disk) header entries
             → AllSurvive header entries self.old.at.durable (D.Disk.may_leave self.new.disk) }
+        ensures whole { (header : LogHeader) (entries : List Entry)
+            → Keeps self.old.at (D.Disk.seen self.old.disk) (D.Disk.may_leave self.old.disk) header entries
+            → OnOk result (AllAreLogs header entries (D.Disk.may_leave self.new.disk)) }
         ensures number { IfOk result (λ number. number ≡ self.old.at.newest) }
         ensures durable { OnOk result (self.new.at.durable ≡ self.old.at.newest) }
         ensures newest { OnOk result (self.new.at.newest ≡ self.old.at.newest) }

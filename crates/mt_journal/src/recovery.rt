@@ -48,6 +48,7 @@ fn number_after(newest: u64, entry: &Entry) -> Option<u64>
                 None
             }
         }
+        Entry::Rows(_) | Entry::Sealed(_) => Some(newest),
         Entry::Header(_) => None,
     }
 }
@@ -125,12 +126,17 @@ fn header_of(entry: Entry) -> Option<LogHeader>
 {
     match entry {
         Entry::Header(header) => Some(header),
-        Entry::Commits(_) | Entry::Closed(_) => None,
+        Entry::Commits(_) | Entry::Rows(_) | Entry::Sealed(_) | Entry::Closed(_) => None,
     }
 }
 
-// The header at the front, and where it ends.
-fn read_header(
+/// Reads the header of a log of an index with `columns` columns from the first bytes of its file. Returns it with the
+/// position after it. O(1): the frames after it aren't read.
+///
+/// # Errors
+///
+/// Those of [`read_log`] for the first frame.
+pub fn read_header(
     alloc: Global,
     bytes: &[u8],
     columns: u8,

@@ -7,7 +7,7 @@ ghost use Rattle.mt_frame.specs.Spelling.{frame_of};
 ghost use Rattle.sqlite_disk.specs.Disk.{CountsFault};
 ghost use Rattle.sqlite_disk.specs.Tally.{CountsRefusal};
 ghost use Rattle.mt_journal.specs.Log.{MaySay, last_number};
-ghost use Rattle.mt_journal.specs.Keeping.{Keeps, AllSurvive};
+ghost use Rattle.mt_journal.specs.Keeping.{Keeps, AllAreLogs, AllSurvive};
 
 use crate::position::Position;
 use sqlite_disk::Disk;
@@ -58,6 +58,9 @@ pub fn sync_log<D: Disk>(disk: &mut D, at: &mut Position) -> io::Result<()>
     ensures crash { (header : LogHeader) (entries : List Entry)
         → Keeps at.old (D.Disk.seen disk.old) (D.Disk.may_leave disk.old) header entries
         → AllSurvive header entries at.old.durable (D.Disk.may_leave disk.new) }
+    ensures whole { (header : LogHeader) (entries : List Entry)
+        → Keeps at.old (D.Disk.seen disk.old) (D.Disk.may_leave disk.old) header entries
+        → OnOk result (AllAreLogs header entries (D.Disk.may_leave disk.new)) }
     ensures durable { OnOk result (at.new.durable ≡ at.old.newest) }
     ensures newest { at.new.newest ≡ at.old.newest }
     ensures usable { OnOk result (IsTrue (D.Disk.is_usable disk.new)) }

@@ -1,13 +1,13 @@
 //! Small logs for the tests, and what is read of one.
 
 use bytes::Bytes;
-use mt_frame::entry::{Entry, LogHeader, Record};
+use mt_frame::entry::{Entry, LogHeader, Part, Record};
 use mt_journal::error::JournalError;
 use mt_journal::journal::Journal;
 use mt_journal::opening::{create, open};
 use mt_types::items::Items;
 use mt_types::key::Key;
-use mt_types::row::Columns;
+use mt_types::row::{Columns, Row};
 use sqlite_disk::{Disk, Memory};
 use std::alloc::Global;
 use std::test::Fail;
@@ -40,6 +40,28 @@ pub(crate) fn records(
         }
     }
     Ok(Items::from_vec(records))
+}
+
+/// A part of a checkpoint: of each row its key, its version and its one column.
+pub(crate) fn part(
+    alloc: Global,
+    at: u64,
+    rows: &[(&'static [u8], u64, &'static [u8])],
+) -> Result<Part, Fail> {
+    let mut pairs = Vec::new(alloc);
+    for (key, version, column) in rows {
+        let key = Key::new(Bytes::from_static(key))?;
+        let columns = Columns::of_new_row(alloc, 1, &[(0, Bytes::from_static(column))])?;
+        let row = Row {
+            version: *version,
+            columns,
+        };
+        pairs.push((key, row))?;
+    }
+    Ok(Part {
+        at,
+        rows: Items::from_vec(pairs),
+    })
 }
 
 /// What a test does to a journal, in turn.

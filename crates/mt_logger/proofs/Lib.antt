@@ -1,2 +1,2 @@
-pub mod ReplayLemmas
+pub mod CopyLemmas
 pub mod WriteLemmas

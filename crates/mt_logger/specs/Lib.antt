@@ -1,3 +1,3 @@
--- The commits of a shared index in a log: what is written of them, and what makes them again.
+-- The commits of a shared index in a log: what is written of them, and of its rows.
 pub mod Writing
-pub mod Replaying
+pub mod Copying

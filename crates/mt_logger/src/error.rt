@@ -1,4 +1,4 @@
-//! Why commits were not written to a log, or not made again.
+//! Why commits or rows were not written to a log.
 
 use mt_journal::error::JournalError;
 use mt_types::refusal::Refusal;
@@ -13,16 +13,4 @@ pub enum LoggerError {
     /// A call of the log failed.
     #[error("{0}")]
     Journal(JournalError),
-}
-
-/// Why the commits of a log were not made again.
-#[derive(Debug, Drop, Error)]
-pub enum ReplayError {
-    /// The index refused a commit.
-    #[error("{0}")]
-    Refused(Refusal),
-    /// The log's commit of this number can't be made again: it is a remove of a key that has no row, or the index has
-    /// other commits.
-    #[error("commit {commit} of the log can't be made again")]
-    Damaged { commit: u64 },
 }

@@ -21,8 +21,8 @@ use std::sync::Wait;
 /// What writes the commits of a shared index to a log, in their order. One thread has it.
 #[derive(Drop)]
 pub struct Logger<D: Disk + Drop> {
-    alloc: Global,
-    journal: Journal<D>,
+    pub(crate) alloc: Global,
+    pub(crate) journal: Journal<D>,
 }
 
 impl<D: Disk + Drop> Logger<D> {

@@ -1,5 +1,7 @@
-//! Tests of the logger and of replays by the public surface of `mt_logger`. There is nothing else here.
+//! Tests of the logger, and of rows that are loaded, by the public surfaces of `mt_logger` and `mt_load`. There is nothing else here.
 #![tactic(auto)]
 
+#[cfg(test)]
+mod loaded;
 #[cfg(test)]
 mod logged;

@@ -4,6 +4,7 @@
 pub mod accepting;
 pub mod address;
 mod buffers;
+pub mod checkpointing;
 pub mod connection;
 mod delaying;
 pub mod desk;

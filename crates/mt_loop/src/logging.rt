@@ -1,5 +1,6 @@
 //! The thread of the log: it writes the commits of all workers, and syncs them in groups.
 
+use crate::checkpointing::{Checkpoints, Round, may_pass};
 use crate::durability::{DiskState, Durability, Syncing};
 use crate::gauge::Gauge;
 use crate::memory::Watch;
@@ -34,14 +35,21 @@ const LAST_TRIES: u32 = 500;
 pub struct Log<D: Disk + Drop> {
     pub logger: Logger<D>,
     pub syncing: Syncing,
+    pub(crate) checkpoints: Checkpoints<D>,
 }
 
 impl<D: Disk + Drop> Log<D> {
-    /// Returns what continues this log, and syncs it so.
-    pub fn new(alloc: Global, journal: Journal<D>, syncing: Syncing) -> Log<D> {
+    /// Returns what continues this log, and syncs and shortens it so.
+    pub fn new(
+        alloc: Global,
+        journal: Journal<D>,
+        syncing: Syncing,
+        checkpoints: Checkpoints<D>,
+    ) -> Log<D> {
         Log {
             logger: Logger::new(alloc, journal),
             syncing,
+            checkpoints,
         }
     }
 }
@@ -171,6 +179,11 @@ fn sync_if_due<R: Wait + Clock + Eprint, D: Disk + Drop>(
     last: Instant,
 ) -> Option<Instant> {
     let at = logger.position();
+    if at.durable > durability.durable() {
+        // (by a checkpoint, or with zeros that were written ahead)
+        durability.note_durable(at.durable);
+        gauge.wake_waiting();
+    }
     let is_due = durability.is_ending() || is_due(gauge.rt, durability, last);
     if at.durable >= at.newest || !is_due {
         return Some(last);
@@ -185,11 +198,41 @@ fn sync_if_due<R: Wait + Clock + Eprint, D: Disk + Drop>(
     }
 }
 
+// Makes some steps of a checkpoint. Returns whether there are more to make now, or `None` if the disk has failed.
+fn shorten<R: Wait + Clock + Eprint, D: Disk + Drop>(
+    gauge: &Gauge<'_, R>,
+    door: &Door<'_, R>,
+    log: &mut Log<D>,
+) -> Option<bool> {
+    match log.move_on(door, gauge.index.columns()) {
+        Ok(Round::Waits) => Some(false),
+        Ok(Round::Goes) => Some(true),
+        Ok(Round::Ends { rows }) => {
+            let commits = log.logger.position().newest;
+            gauge
+                .reporter
+                .say(gauge.rt, &Report::Shortened { rows, commits });
+            Some(false)
+        }
+        Err(error) if log.is_moving() => {
+            if may_pass(&error) {
+                return Some(false);
+            }
+            gauge.reporter.say(gauge.rt, &Report::LogFailed(&error));
+            None
+        }
+        Err(error) => {
+            gauge.reporter.say(gauge.rt, &Report::NotShortened(&error));
+            Some(false)
+        }
+    }
+}
+
 // Writes commits and syncs them until no more are made, or the disk fails.
 fn keep<R: Wait + Clock + Files + Eprint, D: Disk + Drop>(
     gauge: &Gauge<'_, R>,
     durability: &Durability,
-    logger: &mut Logger<D>,
+    log: &mut Log<D>,
     watch: &mut Watch,
 ) -> bool {
     let rt = gauge.rt;
@@ -200,7 +243,7 @@ fn keep<R: Wait + Clock + Files + Eprint, D: Disk + Drop>(
         let is_ending = durability.is_ending();
         gauge.reporter.catch_up(rt);
         watch.look_if_due(gauge);
-        match write_all(gauge, &door, durability, logger) {
+        match write_all(gauge, &door, durability, &mut log.logger) {
             Written::All => {}
             Written::Later => thread::sleep(rt, Duration::from_millis(PAUSE)),
             Written::Never => return false,
@@ -214,15 +257,21 @@ fn keep<R: Wait + Clock + Files + Eprint, D: Disk + Drop>(
             gauge.reporter.say(rt, &Report::Unwritten);
             return false;
         }
-        let Some(synced) = sync_if_due(gauge, durability, logger, last) else {
+        let Some(synced) = sync_if_due(gauge, durability, &mut log.logger, last) else {
             return false;
         };
         last = synced;
-        let at = logger.position();
-        if is_ending && at.durable >= gauge.commits() {
-            return true;
+        let at = log.logger.position();
+        if is_ending {
+            if at.durable >= gauge.commits() {
+                return true;
+            }
+            continue;
         }
-        if !is_ending {
+        let Some(goes_on) = shorten(gauge, &door, log) else {
+            return false;
+        };
+        if !goes_on {
             pause(gauge, durability, at.durable < at.newest);
         }
     }
@@ -240,7 +289,7 @@ pub fn keep_log<R: Wait + Clock + Files + Eprint, D: Disk + Drop>(
         return false;
     };
     let mut log = log;
-    let is_kept = keep(gauge, durability, &mut log.logger, watch);
+    let is_kept = keep(gauge, durability, &mut log, watch);
     if !is_kept {
         durability.note_failed();
         gauge.wake_waiting();

@@ -62,6 +62,13 @@ pub enum Report<'a> {
         resident: u64,
         most: u64,
     },
+    /// A checkpoint of this many rows is complete, after this number of commits: the log before it isn't needed any more.
+    Shortened {
+        rows: u64,
+        commits: u64,
+    },
+    /// A checkpoint failed.
+    NotShortened(&'a LoggerError),
     /// The log failed.
     LogFailed(&'a LoggerError),
     /// The last commits are not in the log.
@@ -89,6 +96,8 @@ pub enum Kind {
     DiskUsable,
     MemoryFull,
     MemoryUsable,
+    Shortened,
+    NotShortened,
     LogFailed,
     Unwritten,
     Stopping,
@@ -97,7 +106,7 @@ pub enum Kind {
 }
 
 /// The kinds, in their order.
-pub const KINDS: [Kind; 14] = [
+pub const KINDS: [Kind; 16] = [
     Kind::Listening,
     Kind::Ended,
     Kind::WrongSecret,
@@ -107,6 +116,8 @@ pub const KINDS: [Kind; 14] = [
     Kind::DiskUsable,
     Kind::MemoryFull,
     Kind::MemoryUsable,
+    Kind::Shortened,
+    Kind::NotShortened,
     Kind::LogFailed,
     Kind::Unwritten,
     Kind::Stopping,
@@ -121,9 +132,14 @@ impl Kind {
             Kind::Listening
             | Kind::DiskUsable
             | Kind::MemoryUsable
+            | Kind::Shortened
             | Kind::Stopping
             | Kind::Stopped => "info",
-            Kind::Ended | Kind::WrongSecret | Kind::TurnedAway | Kind::MemoryFull => "warn",
+            Kind::Ended
+            | Kind::WrongSecret
+            | Kind::TurnedAway
+            | Kind::MemoryFull
+            | Kind::NotShortened => "warn",
             Kind::NotAccepted | Kind::DiskFull | Kind::LogFailed | Kind::Unwritten | Kind::Failed =>
                 "error",
         }
@@ -142,6 +158,8 @@ impl fmt::Display for Kind {
             Kind::DiskUsable => "disk_usable",
             Kind::MemoryFull => "memory_full",
             Kind::MemoryUsable => "memory_usable",
+            Kind::Shortened => "checkpoint",
+            Kind::NotShortened => "checkpoint_failed",
             Kind::LogFailed => "log_failed",
             Kind::Unwritten => "commits_unwritten",
             Kind::Stopping => "stopping",
@@ -164,6 +182,8 @@ impl Report<'_> {
             Report::DiskUsable => Kind::DiskUsable,
             Report::MemoryFull { .. } => Kind::MemoryFull,
             Report::MemoryUsable { .. } => Kind::MemoryUsable,
+            Report::Shortened { .. } => Kind::Shortened,
+            Report::NotShortened(_) => Kind::NotShortened,
             Report::LogFailed(_) => Kind::LogFailed,
             Report::Unwritten => Kind::Unwritten,
             Report::Stopping(_) => Kind::Stopping,
@@ -233,7 +253,13 @@ impl fmt::Display for Report<'_> {
                 write!(f, "{kind} resident_bytes={resident} most={most}")
             }
             Report::NotAccepted(error) => write!(f, "{kind} reason={}", Quoted(*error)),
-            Report::LogFailed(error) => write!(f, "{kind} reason={}", Quoted(*error)),
+            Report::Shortened { rows, commits } => write!(
+                f,
+                "{kind} rows={rows} commits={commits}"
+            ),
+            Report::LogFailed(error) | Report::NotShortened(error) => {
+                write!(f, "{kind} reason={}", Quoted(*error))
+            }
             Report::Failed(reason) => write!(f, "{kind} reason={}", Quoted(reason)),
             Report::Stopping(Asker::Query(origin)) => {
                 let (named, peer) = (Named(*origin, kind), Peer(*origin));

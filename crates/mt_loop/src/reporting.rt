@@ -156,6 +156,7 @@ fn say_plainly<R: Eprint>(rt: &R, report: &Report<'_>) {
         Report::MemoryFull { resident, most } => eprintln!(rt;
             "memory: {resident} bytes are resident, more than {most}: no rows and no views are added"
         ),
+        Report::NotShortened(error) => eprintln!(rt; "checkpoint: {error}"),
         Report::LogFailed(error) => eprintln!(rt; "log: {error}"),
         Report::Unwritten => eprintln!(rt; "log: the last commits could not be written"),
         Report::Listening(_)
@@ -163,6 +164,7 @@ fn say_plainly<R: Eprint>(rt: &R, report: &Report<'_>) {
         | Report::TurnedAway { .. }
         | Report::DiskUsable
         | Report::MemoryUsable { .. }
+        | Report::Shortened { .. }
         | Report::Stopping(_)
         | Report::Stopped { .. }
         | Report::Failed(_) => Ok(()),

@@ -13,12 +13,17 @@ ghost use Rattle.mt_commit.specs.Logged.{deltas_of};
 ghost use Rattle.mt_index.specs.Alone.{IsIdle};
 ghost use Rattle.mt_index.specs.Feed.{feed_fault};
 ghost use Rattle.mt_index.specs.Stands.{HasBounds, Stands};
+ghost use Rattle.mt_load.specs.declared.error.LoadError.TheVariants.{Refused};
+ghost use Rattle.mt_load.specs.Loaded.{IsLoaded};
 
 use mt_asked::asked::numbers_of;
 use mt_asked::limits::{key_fault, range_fault};
 use mt_index::machine::Machine;
 use mt_index::options::Options;
+use mt_load::error::LoadError;
+use mt_load::loading::load;
 use mt_reads::key_of;
+use mt_rows::rows::Rows;
 use mt_types::refusal::{NoMemory, Refusal};
 use mt_types::row::{Delta, Pairs, Row};
 use std::alloc::Global;
@@ -96,6 +101,33 @@ impl Map {
             (IfErr result (λ refusal. refusal ≡ Refusal.NoMemory)) (λ refusal. result ≡ Err refusal) }
     {
         let machine = Machine::open(alloc, options)?;
+        Ok(Map {
+            alloc,
+            machine,
+            tidies: options.tidies,
+        })
+    }
+
+    /// Opens a map that has these rows, with their versions, after `commits` commits, whichever commits led to them. The next
+    /// commit has the number after that. It keeps `alloc` for its later allocations.
+    ///
+    ///     let mut map = Map::load(rt.alloc(), Options::default(), rows, 1_000_000)?;
+    ///
+    /// Costs O(n log n) in the rows, and a put for each. [`Map::feed`] refuses the deltas of the first `commits` commits as
+    /// `Behind`.
+    ///
+    /// # Errors
+    ///
+    /// Those of `mt_load::loading::load`: `Refused` for a limit that the options or a row break, or if out of memory;
+    /// `Impossible` if no map has these rows after `commits` commits.
+    pub fn load(alloc: Global, options: Options, rows: Rows, commits: u64) -> Result<Map, LoadError>
+        ensures loaded { IfOk result (λ map. IsLoaded options.columns commits rows map.machine) }
+        ensures bounds { IfOk result (λ map. HasBounds options.log_capacity options.log_retention map.machine.log) }
+        ensures tidies { IfOk result (λ map. map.tidies ≡ options.tidies) }
+        ensures fault { MatchOption (open_fault options.columns options.log_capacity options.log_retention) (Unit {0})
+            (λ refusal. result ≡ Err (Refused refusal)) }
+    {
+        let machine = load(alloc, options, rows, commits)?;
         Ok(Map {
             alloc,
             machine,

@@ -1,5 +1,5 @@
 -- Each of these rows and numbers of commits is reached, by a put or a remove for each number.
-use Rattle.std.proofs.Common.{◌≡◌, ◌<◌, ◌≤◌, ◌==◌, ◌+◌, ◌-◌, ℕ, zero, suc, Bool, true, false, cond, List, [], ◌∷◌, length, map, Option, Some, None, IsSome, ◌∙◌, ap, sym, subst, refl, inl, inr, arith}
+use Rattle.std.proofs.Common.{◌≡◌, ◌<◌, ◌≤◌, ◌==◌, ◌+◌, ◌*◌, ◌-◌, ℕ, zero, suc, Bool, true, false, cond, List, [], ◌∷◌, length, map, Option, Some, None, IsSome, ◌∙◌, ap, sym, subst, refl, inl, inr, arith}
 use Rattle.std.specs.Prelude.{nat_lt}
 use Rattle.std.specs.List.{AllByRecursion, list_any}
 use Rattle.std.specs.Ordering.{eq_by_cmp}
@@ -88,6 +88,7 @@ pub record IsOneMore (C n : ℕ) (h : History) (key : List ℕ) (row : Option Ro
   pub next : History
   pub legal : Legal C next
   pub closed : IsClosedAt (n + 1) next
+  pub long : length next ≡ length h + 3
   pub shows : (q : List ℕ) → get (rows C (moment next)) q ≡ cond (eq_by_cmp key_cmp q key) row (get (rows C (moment h)) q)
 
 -- the row that a put makes as the commit after n
@@ -103,6 +104,7 @@ put_on C n h legal closed unspent key sets fits =
       next = done C h n legal closed unspent (Put key sets) fits refl answer;
       legal = legal_done C h n legal closed unspent (Put key sets) fits refl answer (refl, refl) refl;
       closed = closed_done C h n legal closed unspent (Put key sets) fits refl answer refl refl;
+      long = omega arith;
       shows = λ q.
           ap (λ (cs : List Change). get (after C cs) q) (commits_done C h n legal closed unspent (Put key sets) fits refl answer)
           ∙ ap (λ (m : Rows). get m q) (after-append C (moment h).commits (PutChange key sets))
@@ -119,6 +121,7 @@ drop_on C n h legal closed unspent key short_key stands =
       next = done C h n legal closed unspent (Remove key) fits refl answer;
       legal = legal_done C h n legal closed unspent (Remove key) fits refl answer (refl, refl, stands) refl;
       closed = closed_done C h n legal closed unspent (Remove key) fits refl answer refl refl;
+      long = omega arith;
       shows = λ q.
           ap (λ (cs : List Change). get (after C cs) q) (commits_done C h n legal closed unspent (Remove key) fits refl answer)
           ∙ ap (λ (m : Rows). get m q) (after-append C (moment h).commits (Drop key))
@@ -135,6 +138,7 @@ pub record IsAlmost (C n : ℕ) (y : List ℕ) (es : List Entry) : Type 0 where
   pub h : History
   pub legal : Legal C h
   pub closed : IsClosedAt n h
+  pub long : length h ≡ 3 * n
   pub others : (q : List ℕ) → eq_by_cmp key_cmp q y ≡ false → get (rows C (moment h)) q ≡ row_in es q
   pub widths : (q : List ℕ) → HasWidth C (get (rows C (moment h)) q)
   pub stands : length es < n → IsSome (get (rows C (moment h)) y)
@@ -183,6 +187,7 @@ module _ (C n : ℕ) (y : List ℕ) (es : List Entry) (is : IsAlmost C n y es) (
         h = one.next;
         legal = one.legal;
         closed = one.closed;
+        long = let was = is.long in let more = one.long in omega (arith, was, more);
         others = λ q apart. one.shows q ∙ ap (λ (b : Bool). cond b (Some (row_put C n is.h y [])) (get (rows C (moment is.h)) q)) apart ∙ is.others q apart;
         widths = λ q. subst (HasWidth C) (sym (one.shows q)) (width_either C (eq_by_cmp key_cmp q y) (row_put C n is.h y []) (get (rows C (moment is.h)) q) (put_width y []) (is.widths q));
         stands = λ _. subst (λ (o : Option Row). IsSome o) (sym (one.shows y ∙ ap (λ (b : Bool). cond b (Some (row_put C n is.h y [])) (get (rows C (moment is.h)) y)) (itself y))) refl;
@@ -212,6 +217,7 @@ module _ (C n : ℕ) (y : List ℕ) (es : List Entry) (is : IsAlmost C n y es) (
         h = one.next;
         legal = one.legal;
         closed = one.closed;
+        long = let was = is.long in let more = one.long in omega (arith, was, more);
         others = λ q apart. entry_shows e fits next one q ∙ ap (λ (o : Option Row). cond (eq_by_cmp key_cmp q e.0) (Some e.1) o) (is.others q apart);
         widths = λ q. subst (HasWidth C) (sym (entry_shows e fits next one q)) (width_either C (eq_by_cmp key_cmp q e.0) e.1 (get (rows C (moment is.h)) q) fits.1 (is.widths q));
         stands = λ few. subst (λ (o : Option Row). IsSome o) (sym (entry_shows e fits next one y)) (some_either (eq_by_cmp key_cmp y e.0) e.1 (get (rows C (moment is.h)) y) (is.stands (omega (arith, few))));
@@ -225,6 +231,7 @@ ended C n e es is unspent fits next =
       h = one.next;
       legal = one.legal;
       closed = one.closed;
+      long = let was = is.long in let more = one.long in omega (arith, was, more);
       rows = λ q. entry_shows C n e.0 es is unspent e fits next one q ∙ by_key q (eq_by_cmp key_cmp q e.0) refl;
     }
   where
@@ -240,6 +247,7 @@ taken_away C n y es is unspent fits none few =
       h = one.next;
       legal = one.legal;
       closed = one.closed;
+      long = let was = is.long in let more = one.long in omega (arith, was, more);
       rows = λ q. one.shows q ∙ by_key q (eq_by_cmp key_cmp q y) refl;
     }
   where
@@ -253,6 +261,7 @@ none_yet C y = record {
   h = [];
   legal = tt;
   closed = record { commits = refl; begun = refl; calls = refl; built = refl; views = refl; epoch = refl };
+  long = refl;
   others = λ q apart. fin.get-empty key_cmp q;
   widths = λ q. subst (HasWidth C) (sym (fin.get-empty key_cmp q)) tt;
   stands = λ few. absurd (omega (arith, few));
@@ -279,7 +288,7 @@ reached_by_last : (C n : ℕ) (es : List Entry) → n ≤ greatest_number → Fa
 unfolding none_yet
 reached_by_last C n [] few falls fits ends =
     let none = none_yet C [] in
-    subst (λ (k : ℕ). IsReached C k []) (sym ends) (record { h = none.h; legal = none.legal; closed = none.closed; rows = λ q. fin.get-empty key_cmp q })
+    subst (λ (k : ℕ). IsReached C k []) (sym ends) (record { h = none.h; legal = none.legal; closed = none.closed; long = none.long; rows = λ q. fin.get-empty key_cmp q })
 reached_by_last C n (e ∷ es) few falls fits ends =
     let m = e.1.version - 1 in
     let some = falls.0 in

@@ -1,5 +1,5 @@
 -- Which rows and numbers of commits some legal history leads to.
-use Rattle.std.specs.Prelude.{ℕ, ◌+◌, ◌-◌, ◌≡◌, ◌<◌, ◌≤◌, ◌⊎◌, List, [], ◌∷◌, length, Option, Some, None, cond}
+use Rattle.std.specs.Prelude.{ℕ, ◌+◌, ◌*◌, ◌-◌, ◌≡◌, ◌<◌, ◌≤◌, ◌⊎◌, List, [], ◌∷◌, length, Option, Some, None, cond}
 use Rattle.std.specs.List.{AllByRecursion}
 use Rattle.std.specs.Ordering.{eq_by_cmp}
 use Rattle.std.specs.FinMap.{get}
@@ -48,11 +48,12 @@ pub record IsClosedAt (n : ℕ) (h : History) : Type 0 where
   pub views : (moment h).views ≡ []
   pub epoch : (moment h).epoch ≡ 0
 
--- some legal history of an index of C columns, closed at n commits, has exactly these rows
+-- some legal history of an index of C columns, closed at n commits, has exactly these rows; each commit took three events
 pub record IsReached (C n : ℕ) (es : List Entry) : Type 0 where
   pub h : History
   pub legal : Legal C h
   pub closed : IsClosedAt n h
+  pub long : length h ≡ 3 * n
   pub rows : (key : List ℕ) → get (rows C (moment h)) key ≡ row_in es key
 
 -- THE CONDITION SUFFICES. Some key of no row is needed: commits of no row are puts and removes of it

@@ -3,7 +3,7 @@ use Rattle.std.proofs.Common.{◌≡◌, ℕ, ◌<◌, ◌+◌, ◌∙◌, ◌++
 use Rattle.std.proofs.lemmas.List.{append_assoc, append-nil, take_more}
 use Rattle.mt_frame.specs.declared.entry.Commits.{Commits}
 use Rattle.mt_frame.specs.declared.entry.Entry.{Entry}
-use Rattle.mt_frame.specs.declared.entry.Entry.TheVariants.{Header, Commits as Group, Closed}
+use Rattle.mt_frame.specs.declared.entry.Entry.TheVariants.{Header, Commits as Group, Rows, Sealed, Closed}
 use Rattle.mt_frame.specs.declared.entry.Record.{Record}
 use Rattle.mt_replay.specs.Replay.{records_in}
 
@@ -14,6 +14,8 @@ pub records-append : (entries more : List Entry) → records_in (entries ++ more
 records-append [] more = refl
 records-append (Header header ∷ entries) more = records-append entries more
 records-append (Group commits ∷ entries) more = ap (λ (rs : List Record). commits.records ++ rs) (records-append entries more) ∙ sym (append_assoc commits.records (records_in entries) (records_in more))
+records-append (Rows part ∷ entries) more = records-append entries more
+records-append (Sealed count ∷ entries) more = records-append entries more
 records-append (Closed number ∷ entries) more = records-append entries more
 
 -- the records of one entry
@@ -23,4 +25,6 @@ of_commits entry commits is = ap (λ (e : Entry). records_in (e ∷ [])) is ∙ 
 pub of_others : (entry : Entry) → ((commits : Commits) → entry ≡ Group commits → ⊥) → records_in (entry ∷ []) ≡ []
 of_others (Header header) other = refl
 of_others (Group commits) other = absurd (other commits refl)
+of_others (Rows part) other = refl
+of_others (Sealed count) other = refl
 of_others (Closed number) other = refl

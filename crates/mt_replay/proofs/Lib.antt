@@ -1,3 +1,7 @@
 pub mod EntryLemmas
+pub mod FollowLemmas
 pub mod NumberedLemmas
+pub mod ReadingLemmas
+pub mod RedoLemmas
 pub mod ReplayLemmas
+pub mod SettledLemmas

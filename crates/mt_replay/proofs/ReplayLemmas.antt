@@ -28,7 +28,7 @@ passes i j column sets (old ∷ olds) less =
     ap (λ (b : Bool). (if b then column else new_bytes sets j old) ∷ new_columns ((i, column) ∷ sets) (j + 1) olds) (unequal i j less)
     ∙ ap (λ (columns : List (List ℕ)). new_bytes sets j old ∷ columns) (passes i (j + 1) column sets olds (omega (arith, less)))
 
-all_new : (i : ℕ) (columns olds : List (List ℕ)) → length columns ≡ length olds → new_columns (numbered i columns) i olds ≡ columns
+pub all_new : (i : ℕ) (columns olds : List (List ℕ)) → length columns ≡ length olds → new_columns (numbered i columns) i olds ≡ columns
 all_new i [] [] same = refl
 all_new i [] (old ∷ olds) same = absurd (omega (arith, same))
 all_new i (column ∷ columns) [] same = absurd (omega (arith, same))

@@ -7,7 +7,7 @@ use Rattle.mt_types.specs.declared.row.Delta.{Delta}
 use Rattle.mt_types.specs.declared.row.Row.{Row}
 use Rattle.mt_commit.specs.Logged.{deltas_of}
 use Rattle.mt_frame.specs.declared.entry.Entry.{Entry}
-use Rattle.mt_frame.specs.declared.entry.Entry.TheVariants.{Header, Commits as Group, Closed}
+use Rattle.mt_frame.specs.declared.entry.Entry.TheVariants.{Header, Commits as Group, Rows, Sealed, Closed}
 use Rattle.mt_frame.specs.declared.entry.Record.{Record}
 use Rattle.mt_frame.specs.declared.entry.Record.TheVariants.{Row as RowOf, Removed}
 
@@ -38,6 +38,8 @@ abbrev pub records_in : List Entry → List Record
 records_in [] = []
 records_in (Header header ∷ entries) = records_in entries
 records_in (Group commits ∷ entries) = commits.records ++ records_in entries
+records_in (Rows part ∷ entries) = records_in entries
+records_in (Sealed count ∷ entries) = records_in entries
 records_in (Closed number ∷ entries) = records_in entries
 
 -- THE FIRST m COMMITS, MADE AGAIN, make the rows that they made, with their versions

@@ -15,7 +15,7 @@ use mt_types::refusal::{NoMemory, Refusal};
 use mt_types::row::{Change, Pairs, Row, Sets};
 use std::alloc::Global;
 use std::collections::BTreeMap;
-use std::collections::btree_map::Range;
+use std::collections::btree_map::{Iter, Range};
 use std::marker::Model;
 
 /// The rows, each under its key, in a B-tree in the order of the keys.
@@ -69,6 +69,13 @@ impl Rows {
         ensures { option_copied result ≡ map.get self.now key.now }
     {
         self.rows.get(key)
+    }
+
+    /// Returns the rows, each with its key, in the order of the keys. Allocates nothing and copies nothing.
+    pub fn iter(&self) -> Iter<'_, Key, Row>
+        ensures { result ≡ map.entries self.now }
+    {
+        self.rows.iter()
     }
 
     /// Returns the rows whose keys are at or after `start`, each with its key, in the order of the keys. Allocates

@@ -1,4 +1,5 @@
 mod Examples
+pub mod BaseLemmas
 pub mod FinishLemmas
 pub mod JoinLemmas
 pub mod LineLemmas

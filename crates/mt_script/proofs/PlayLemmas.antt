@@ -5,13 +5,13 @@ use Rattle.std.proofs.KnownBytes.{Appends-nil, Appends-trans}
 use Rattle.mt_promise.specs.History.{History}
 use Rattle.mt_promise.specs.Legal.{Legal}
 use Rattle.mt_promise.proofs.KeepLemmas.{keeps_promise}
-use Rattle.mt_index.specs.Stands.{MachineView, Stands}
+use Rattle.mt_index.specs.Stands.{MachineView}
 use Rattle.mt_script.specs.declared.fault.ScriptFault.{ScriptFault}
 use Rattle.mt_script.specs.declared.fault.ScriptFault.TheVariants.{Read, Write, NoMemory}
 use Rattle.mt_script.specs.Lines.{lines_of, line_text, HasNoFeed, LosesLine, LosesNoLine, ReadsLines}
 use Rattle.mt_script.proofs.LineLemmas.{first_line}
 use Rattle.mt_script.specs.Commands.{command_of}
-use Rattle.mt_script.specs.Machine.{Leads, IsAsBefore}
+use Rattle.mt_script.specs.Machine.{Leads, IsAsBefore, IsAt}
 use Rattle.mt_script.specs.declared.command.Reply.{Reply}
 use Rattle.mt_types.specs.declared.refusal.Refusal.{Refusal}
 use Rattle.mt_types.specs.declared.refusal.Refusal.TheVariants.{NoMemory as WantOfMemory}
@@ -138,16 +138,16 @@ pub record Playing (C keep : ℕ) (input old : Option (List ℕ)) (bad : ℕ) (s
   pub h : History
   pub read : Goes input now lines
   pub answered : AnswersAll C keep [] lines replies h
-  pub stands : Stands s h
+  pub stands : IsAt s h
   pub columns : s.columns ≡ C
   pub keeps : s.log.retention ≡ keep
   pub written : Appends old new (output_of replies)
   pub counted : bad ≡ bad_lines replies
 
 legal_of : {C keep : ℕ} {input old : Option (List ℕ)} {bad : ℕ} {s : MachineView} {now new : Option (List ℕ)} → (p : Playing C keep input old bad s now new) → Legal C p.h
-legal_of p = subst (λ n. Legal n p.h) p.columns p.stands.legal
+legal_of p = subst (λ n. Legal n p.h) p.columns p.stands.0.legal
 
-pub Playing-none : (s : MachineView) (input old : Option (List ℕ)) → Stands s [] → Playing s.columns s.log.retention input old 0 s input old
+pub Playing-none : (s : MachineView) (input old : Option (List ℕ)) → IsAt s [] → Playing s.columns s.log.retention input old 0 s input old
 Playing-none s input old stands = record {
   lines = [];
   replies = [];
@@ -164,12 +164,12 @@ Playing-none s input old stands = record {
 -- a line more is read and answered
 answered_more : {C keep : ℕ} {input old : Option (List ℕ)} {bad : ℕ} {s : MachineView} {now new : Option (List ℕ)} (t : MachineView) (next : Option (List ℕ)) (line : List ℕ) (reply : Reply) → (p : Playing C keep input old bad s now new)
     → Leads s (λ past h. Answers s.columns s.log.retention (command_of line) past reply h) t → IsAsBefore s t
-    → (h : History) × AnswersAll C keep [] (p.lines ++ line ∷ []) (p.replies ++ reply ∷ []) h × Stands t h × Legal C h
+    → (h : History) × AnswersAll C keep [] (p.lines ++ line ∷ []) (p.replies ++ reply ∷ []) h × IsAt t h × Legal C h
 answered_more {C} {keep} {input} {old} {bad} {s} t next line reply p leads as_before =
     let led = leads p.h p.stands in
     let one : Answers C keep (command_of line) p.h reply led.0 =
     subst (λ (k : ℕ). Answers C k (command_of line) p.h reply led.0) p.keeps (subst (λ (n : ℕ). Answers n s.log.retention (command_of line) p.h reply led.0) p.columns led.1) in
-    (led.0, AnswersAll-push C keep [] p.h led.0 p.lines p.replies line reply p.answered one, led.2, subst (λ n. Legal n led.0) (as_before.0 ∙ p.columns) led.2.legal)
+    (led.0, AnswersAll-push C keep [] p.h led.0 p.lines p.replies line reply p.answered one, led.2, subst (λ n. Legal n led.0) (as_before.0 ∙ p.columns) led.2.0.legal)
 
 pub Playing-more : {C keep : ℕ} {input old : Option (List ℕ)} {bad : ℕ} {s : MachineView} {now new : Option (List ℕ)} (t : MachineView) (next out : Option (List ℕ)) (more : ℕ) (line : List ℕ) (reply : Reply) → (p : Playing C keep input old bad s now new)
     → IfSome now (λ xs. LosesLine xs next (Some line)) → Leads s (λ past h. Answers s.columns s.log.retention (command_of line) past reply h) t → IsAsBefore s t

@@ -8,7 +8,7 @@ ghost use Rattle.mt_types.specs.declared.event.Event.TheVariants.{Step};
 ghost use Rattle.mt_promise.specs.History.{History};
 ghost use Rattle.mt_index.specs.Stands.{Stands};
 ghost use Rattle.mt_script.specs.Commands.{command_of};
-ghost use Rattle.mt_script.specs.Machine.{Leads, IsAsBefore};
+ghost use Rattle.mt_script.specs.Machine.{Leads, IsAsBefore, IsAt};
 ghost use Rattle.mt_script.specs.Script.{goes_on, reply_lines, bad_lines, start_fault, Happens, Finishes, DoesAlone, Asks, Feeds, ReadsOnce, Answers, Played, Broke};
 ghost use Rattle.mt_streams.specs.Sinks.{sink_writer, write_failed};
 ghost use Rattle.mt_script.specs.Source.{source_rest, source_unread, read_failed};
@@ -85,7 +85,7 @@ fn alone(machine: &mut Machine, alloc: Global, request: Request) -> Reply
 
 // The deltas of the commits after a number. No event happens.
 fn feed(machine: &Machine, alloc: Global, from: u64, limit: u16) -> Reply
-    ensures { (h : History) → Stands machine.now h
+    ensures { (h : History) → IsAt machine.now h
         → Feeds machine.now.columns machine.now.log.retention from limit h result }
 {
     match machine.feed(alloc, from, limit) {
@@ -159,7 +159,7 @@ fn play<R: Read, W: Write>(
     reader: &mut Source<R>,
     writer: &mut Sink<W>,
 ) -> Result<u64, ScriptFault>
-    requires { Stands machine.old [] }
+    requires { IsAt machine.old [] }
     ensures ok { IfOk result (λ bad. Played machine.old.columns machine.old.log.retention
         (source_rest R.remaining reader.old)
         (W.contents (sink_writer writer.old)) bad (W.contents (sink_writer writer.new))) }

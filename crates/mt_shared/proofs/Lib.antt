@@ -1,5 +1,6 @@
 pub mod HappeningLemmas
 pub mod InnerLemmas
+pub mod LoadLemmas
 pub mod TidiedLemmas
 pub mod ToldLemmas
 pub mod DriveLemmas

@@ -13,3 +13,4 @@ pub mod Changes
 pub mod Moments
 pub mod Pages
 pub mod Clients
+pub mod Loads

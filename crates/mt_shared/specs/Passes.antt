@@ -1,5 +1,5 @@
 -- A pass as contracts see it, and what an event adds to it.
-use Rattle.std.specs.Prelude.{ℕ, ◌+◌, ◌≡◌, ◌≤◌, ◌⊎◌, Bool, List, [], ◌∷◌, length, max, sum_by}
+use Rattle.std.specs.Prelude.{ℕ, ◌+◌, ◌*◌, ◌≡◌, ◌≤◌, ◌⊎◌, Bool, false, List, [], ◌∷◌, length, max, sum_by}
 use Rattle.mt_types.specs.declared.numbers.PassNo.{PassNo}
 use Rattle.mt_types.specs.declared.event.Event.{Event}
 use Rattle.mt_types.specs.declared.event.Event.TheVariants.{Begin, Step, Apply, ViewRead, ViewDrop}
@@ -95,6 +95,25 @@ pub record IsNewPass (traced : Bool) (n : ℕ) (p : PassView) : Type 0 where
 abbrev pub AreNewFrom : Bool → ℕ → List PassView → Type 0
 AreNewFrom traced n [] = Unit {0}
 AreNewFrom traced n (p ∷ passes) = IsNewPass traced n p × AreNewFrom traced (n + 1) passes
+
+-- the first pass of an index into which rows were loaded that n commits led to: as if it had made each by a call of three
+-- events
+pub record IsPastPass (n : ℕ) (p : PassView) : Type 0 where
+  pub number : p.number.0 ≡ 1
+  pub seen : p.seen ≡ n
+  pub events : p.events ≡ 3 * n
+  pub commits : p.commits ≡ n
+  pub trace : IsNewTrace false p.trace
+
+-- it comes first, and the others have done nothing
+abbrev pub ComesFirst : ℕ → List PassView → Type 0
+ComesFirst n [] = ⊥
+ComesFirst n (p ∷ passes) = IsPastPass n p × AreNewFrom false 2 passes
+
+-- this many passes of such an index
+pub record ArePassesAfter (n many : ℕ) (passes : List PassView) : Type 0 where
+  pub count : length passes ≡ many
+  pub each : ComesFirst n passes
 
 -- this many passes that have done nothing, numbered from 1
 pub record AreNewPasses (traced : Bool) (many : ℕ) (passes : List PassView) : Type 0 where

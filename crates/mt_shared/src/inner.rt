@@ -178,7 +178,7 @@ impl Inner {
 }
 
 // Returns the counters of `passes` passes that have made no event.
-fn blank_counters(alloc: Global, passes: u16) -> Result<Vec<Counters>, AllocError>
+pub(crate) fn blank_counters(alloc: Global, passes: u16) -> Result<Vec<Counters>, AllocError>
     ensures count { IfOk result (λ counters. length counters.items ≡ passes) }
     ensures events { IfOk result (λ counters. counted_events counters.items ≡ 0) }
     ensures commits { IfOk result (λ counters. counted_commits counters.items ≡ 0) }

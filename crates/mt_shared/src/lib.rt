@@ -12,6 +12,7 @@ pub mod door;
 pub mod driving;
 pub mod holding;
 pub mod inner;
+pub mod loading;
 pub mod lone;
 pub mod map;
 pub mod moment;

@@ -20,7 +20,7 @@ use std::sync::RwLock;
 /// An ordered map that many threads share: each has a pass, and a [`crate::client::Client`] over a
 /// [`crate::door::Door`]. Contracts see it as the number of its columns.
 pub struct SharedMap {
-    columns: u8,
+    pub(crate) columns: u8,
     // (a thread takes the turn before it asks for the lock alone)
     pub(crate) turn: Turn,
     pub(crate) kept: RwLock<Inner>,
@@ -163,7 +163,7 @@ impl SharedMap {
 }
 
 // Returns the first limit that these options, or this number of passes, break, if they break one.
-fn start_fault(options: Options, passes: u64) -> Option<Refusal>
+pub(crate) fn start_fault(options: Options, passes: u64) -> Option<Refusal>
     ensures { result ≡ start_fault options passes }
 {
     open_fault(options.columns, options.log_capacity, options.log_retention).or_else(

@@ -1,7 +1,7 @@
 //! Passes: a pass is the right of one caller to make events on an index, with what the caller has done and seen.
 
-ghost use Rattle.std.specs.Prelude.{◌≡◌, ◌+◌, ◌<◌, ◌≤◌, ◌^◌};
-ghost use Rattle.mt_shared.specs.Passes.{Counts, IsNewPass, pass_after};
+ghost use Rattle.std.specs.Prelude.{◌≡◌, ◌+◌, ◌*◌, ◌<◌, ◌≤◌, ◌^◌};
+ghost use Rattle.mt_shared.specs.Passes.{Counts, IsNewPass, IsPastPass, pass_after};
 
 use crate::counters::{commits_in, seen_in};
 use crate::trace::Trace;
@@ -45,6 +45,21 @@ impl Pass {
             events: 0,
             commits: 0,
             trace: Trace::new(alloc, traced),
+        }
+    }
+
+    // Returns the first pass of an index into which rows were loaded that `commits` commits led to: as if it had made each by
+    // a call of three events.
+    pub(crate) fn of_past(alloc: Global, commits: u64) -> Pass
+        requires { 3 * commits < 2 ^ 64 }
+        ensures { IsPastPass commits result }
+    {
+        Pass {
+            number: PassNo(1),
+            seen: commits,
+            events: 3 * commits,
+            commits,
+            trace: Trace::new(alloc, false),
         }
     }
 

@@ -165,9 +165,9 @@ Blocks log blocked (Refused refusal) then = blocked ≡ blocked_by refusal
 Blocks log blocked (Answered answer) then = Unit {0}
 Blocks log blocked _ then = (then ≡ blocked) ⊎ (then ≡ Some (slowest log))
 
--- who holds the log, how many deltas it may hold for the slowest, and how many it keeps for nobody
-abbrev pub bounds : LogView → List ℕ × ℕ × ℕ
-bounds log = (log.holders, log.capacity, log.retention)
+-- who holds the log, how many deltas it may hold for the slowest, how many it keeps for nobody, and after what it began
+abbrev pub bounds : LogView → List ℕ × ℕ × ℕ × ℕ
+bounds log = (log.holders, log.capacity, log.retention, log.base)
 
 -- what a step does to the rows and the log, by what it comes to
 abbrev pub Does : ℕ → List Arena → ArenaView → ArenaView → LogView → LogView → Request → Option ℕ → Progress → Option ℕ

@@ -7,7 +7,7 @@ use Rattle.mt_commit.specs.Logged.{deltas_of}
 use Rattle.mt_commit.proofs.DeltaLemmas.{deltas_of-length}
 use Rattle.mt_types.specs.declared.row.Delta.{Delta}
 use Rattle.mt_frame.specs.declared.entry.Entry.{Entry}
-use Rattle.mt_frame.specs.declared.entry.Entry.TheVariants.{Header, Commits as Group, Closed}
+use Rattle.mt_frame.specs.declared.entry.Entry.TheVariants.{Header, Commits as Group, Rows as Listed, Sealed, Closed}
 use Rattle.mt_frame.specs.declared.entry.LogHeader.{LogHeader}
 use Rattle.mt_frame.specs.declared.entry.Record.{Record}
 use Rattle.mt_journal.specs.declared.position.Position.{Position}
@@ -55,6 +55,8 @@ last_counts n (Group commits ∷ entries) =
     let rest = last_counts (n + length commits.records) entries in
     let all = length-append commits.records (records_in entries) in
     omega (arith, rest, all)
+last_counts n (Listed part ∷ entries) = last_counts n entries
+last_counts n (Sealed count ∷ entries) = last_counts n entries
 last_counts n (Closed number ∷ entries) = last_counts n entries
 
 -- those of the first entries are the first

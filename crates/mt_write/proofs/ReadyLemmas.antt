@@ -1,5 +1,5 @@
 -- What a put makes ready at its border, or at the half to which its key belongs.
-use Rattle.std.proofs.Common.{ℕ, ◌≡◌, ◌<◌, inl, inr, List, [], ◌∷◌, length, Option, Some, None, true, false, refl, sym, ap, subst, ◌∙◌, arith}
+use Rattle.std.proofs.Common.{ℕ, ◌≡◌, ◌<◌, inl, inr, List, [], ◌∷◌, length, Option, Some, None, true, false, refl, sym, ap, subst, ◌∙◌, arith, IsSomeAnd}
 use Rattle.mt_types.specs.declared.row.Row.{Row}
 use Rattle.mt_types.specs.declared.event.Request.TheVariants.{Put as PutRequest}
 use Rattle.mt_types.specs.declared.refusal.Refusal.{Refusal}
@@ -10,6 +10,9 @@ use Rattle.mt_border.specs.Order.{IsBorder}
 use Rattle.mt_border.specs.declared.entry.Entry.{Entry}
 use Rattle.mt_border.specs.declared.found.Found.{Found}
 use Rattle.mt_border.proofs.BorderLemmas.{inserting_deleted}
+use Rattle.mt_border.specs.declared.unwritten.Unwritten.TheVariants.{Nothing}
+use Rattle.mt_tree.specs.BorderSteps.{MayWriteKey}
+use Rattle.mt_border.specs.Keys.{key_seen, IsKey}
 use Rattle.mt_arena.specs.Node.{border_at}
 use Rattle.mt_steps.proofs.LayerLemmas.{goes_given_back}
 use Rattle.mt_write.proofs.SpareLemmas.{has_locked_back, half_goes, spares_go}
@@ -39,12 +42,23 @@ use Rattle.mt_write.proofs.EntryLemmas.{is_marked, marked_locked}
 use Rattle.mt_write.proofs.InsertLemmas.{goes_marked}
 use Rattle.mt_tree.proofs.AgeLemmas.{ages_inserting}
 use Rattle.mt_steps.proofs.BorderLemmas.{now_named}
-use Rattle.mt_steps.proofs.FoundLemmas.{some_at}
+use Rattle.mt_steps.proofs.FoundLemmas.{some_and, some_at}
 use Rattle.mt_write.proofs.WriteLemmas.{alone, as_put, fails_at, has_changed, owned_at-changed, written_at, no_get, otherwise_tells, own_agrees, put_otherwise, quiet_step}
 
 -- no entry of the upper half is copied yet
 none_copied : (b : BorderView) (cut : ℕ) (entries : List Entry) → entries ≡ [] → cut < SLOTS → AreCopied (with_splitting b) cut entries
 none_copied b cut entries empty last = subst (λ (es : List Entry). AreCopied (with_splitting b) cut es) (sym empty) (record { first = refl; some = omega (arith, last) })
+
+-- a key may be written into the first unused slot of a border that was marked for it
+pub may_write_marked : (a after : ArenaView) (n : ℕ) (slot_key : SlotKey) → IsSomeAnd (border_at a.nodes n) (λ b. length b.live < SLOTS) → IsSomeAnd (border_at a.nodes n) (λ b. b.version.locked ≡ true) → IsSomeAnd (border_at a.nodes n) (λ b. b.unwritten ≡ Nothing)
+    → after ≡ with_border_changed a n with_inserting → IsKey (key_seen slot_key) → IsSomeAnd (border_at after.nodes n) (λ b. MayWriteKey b slot_key)
+may_write_marked a after n slot_key rooms locked written is whole =
+    let (b, named, room) = some_and _ (border_at a.nodes n) rooms in
+    let own_lock = some_at (λ (x : BorderView). x.version.locked ≡ true) (border_at a.nodes n) b locked named in
+    let own_written = some_at (λ (x : BorderView). x.unwritten ≡ Nothing) (border_at a.nodes n) b written named in
+    let here : border_at after.nodes n ≡ Some (with_inserting b) = subst (λ (x : ArenaView). border_at x.nodes n ≡ Some (with_inserting b)) (sym is) (now_named a n b with_inserting named) in
+    subst (λ (o : Option BorderView). IsSomeAnd o (λ x. MayWriteKey x slot_key)) (sym here)
+    (record { room = room; locked = marked_locked (first_held b.unused) b.version ∙ own_lock; written = own_written; marked = λ was. is_marked (first_held b.unused) b.version was; whole = whole })
 
 -- ---- ready
 module _ (C : ℕ) (a : ArenaView) (log : LogView) (key : List ℕ) (sets : List (ℕ × List ℕ)) (only : Option ℕ) (way : Way) where

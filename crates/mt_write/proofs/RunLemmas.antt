@@ -1,12 +1,12 @@
 -- Runs of a put or remove: what a step leaves for the next one, and runs that grow.
-use Rattle.std.proofs.Common.{ℕ, ◌≡◌, ◌≤◌, ◌+◌, ◌-◌, ◌∙◌, min, List, [], ◌∷◌, ◌++◌, length, drop, refl, sym, ap, subst, arith}
+use Rattle.std.proofs.Common.{ℕ, ◌≡◌, ◌≤◌, ◌+◌, ◌-◌, ◌∙◌, min, max, List, [], ◌∷◌, ◌++◌, length, drop, refl, sym, ap, subst, arith}
 use Rattle.std.specs.Prelude.{sum_by}
 use Rattle.std.proofs.lemmas.List.{length-append}
 use Rattle.std.proofs.lemmas.List.Elements.{All-append, All-nil, All-push}
 use Rattle.std.proofs.lemmas.List.Sums.{sum_by-append}
 use Rattle.mt_types.specs.declared.row.Delta.{Delta}
 use Rattle.mt_types.specs.declared.event.Request.{Request}
-use Rattle.mt_commit.specs.Log.{LogView, IsLog, newest, trimmed}
+use Rattle.mt_commit.specs.Log.{LogView, IsLog, newest, trimmed, kept_after}
 use Rattle.mt_types.specs.Numbers.{least}
 use Rattle.mt_arena.specs.Arena.{ArenaView, IsArena}
 use Rattle.mt_chart.specs.Tree.{Arena}
@@ -25,7 +25,7 @@ use Rattle.mt_write.specs.Runs.{Advances, HasRun, IsTrimmed, MayRun, RunStep, Ru
 -- ---- the log
 -- what trimming leaves is trimmed
 pub twice_trimmed : (log : LogView) → newest (trimmed log) ≡ newest log → IsTrimmed (trimmed log)
-twice_trimmed log same = ap (λ (n : ℕ). min (least n log.holders) (n - log.retention)) same
+twice_trimmed log same = ap (λ (n : ℕ). min (least n log.holders) (kept_after log n)) same
 
 -- a log that is trimmed is what trimming it leaves
 pub stays_trimmed : (log : LogView) → IsTrimmed log → log ≡ trimmed log
@@ -37,9 +37,9 @@ stays_trimmed log is =
 -- and so is one that has the same deltas, and that the same readers hold
 same_trimmed : (log left : LogView) → left.held_after ≡ log.held_after → left.deltas ≡ log.deltas → bounds left ≡ bounds log → IsTrimmed log → IsTrimmed left
 same_trimmed log left held deltas same is =
-    ap (λ (h : ℕ). min (least (h + length left.deltas) left.holders) (h + length left.deltas - left.retention)) held
-    ∙ ap (λ (ds : List Delta). min (least (log.held_after + length ds) left.holders) (log.held_after + length ds - left.retention)) deltas
-    ∙ ap (λ (b : List ℕ × ℕ × ℕ). min (least (newest log) b.0) (newest log - b.2)) same ∙ is ∙ sym held
+    ap (λ (h : ℕ). min (least (h + length left.deltas) left.holders) (kept_after left (h + length left.deltas))) held
+    ∙ ap (λ (ds : List Delta). min (least (log.held_after + length ds) left.holders) (kept_after left (log.held_after + length ds))) deltas
+    ∙ ap (λ (b : List ℕ × ℕ × ℕ × ℕ). min (least (newest log) b.0) (max b.3 (newest log - b.2))) same ∙ is ∙ sym held
 
 -- ---- a step
 quiet_unless : (C : ℕ) (past : List Arena) (a after : ArenaView) (log left : LogView) (request : Request) (held then : Held) (p : Progress) → Does C past a after log left request held.committed p then.committed → commits_in p ≡ 0 → IsQuiet a after log left

@@ -4,7 +4,7 @@ use Rattle.mt_types.specs.declared.refusal.Refusal.{Refusal}
 use Rattle.mt_border.specs.declared.found.Found.{Found}
 use Rattle.mt_border.specs.declared.found.Found.TheVariants.{Absent as AbsentFound}
 use Rattle.mt_border.specs.declared.entry.Entry.{Entry}
-use Rattle.mt_commit.specs.Log.{LogView, IsLog, newest, slowest, trimmed}
+use Rattle.mt_commit.specs.Log.{LogView, IsLog, newest, slowest, trimmed, kept_after}
 use Rattle.mt_arena.specs.Arena.{ArenaView, IsArena}
 use Rattle.mt_chart.specs.Tree.{Arena}
 use Rattle.mt_tree.specs.declared.visit.Visit.{Visit}
@@ -33,7 +33,7 @@ use Rattle.mt_write.specs.Follows.{FindsNone, TreeStep, WriteStep}
 
 -- the log holds no delta that is to be trimmed
 abbrev pub IsTrimmed : LogView → Type 0
-IsTrimmed log = min (slowest log) (newest log - log.retention) ≡ log.held_after
+IsTrimmed log = min (slowest log) (kept_after log (newest log)) ≡ log.held_after
 
 -- a put or remove on its way, with the tree and the log
 pub record WriteState : Type 0 where

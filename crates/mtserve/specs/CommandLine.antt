@@ -41,7 +41,12 @@ with_access_rules app =
 
 -- the options of rows that survive
 abbrev pub with_data_rules : App → App
-with_data_rules app = with_rule (with_rule app (text_rule (codes "data"))) (text_rule (codes "sync"))
+with_data_rules app =
+    with_rule
+    (with_rule
+    (with_rule app (text_rule (codes "data")))
+    (text_rule (codes "sync")))
+    (number_rule (codes "checkpoint") 0 1099511627776)
 
 -- the limits of time
 abbrev pub with_limit_rules : App → App
@@ -84,6 +89,7 @@ pub record AreFound (matches : ArgMatches) (settings : Settings) : Type 0 where
   pub token_file : option_map (λ text. text.now) settings.token_file ≡ first_value (found_of matches) (codes "token-file")
   pub folder : option_map (λ text. text.now) settings.folder ≡ first_value (found_of matches) (codes "data")
   pub sync : option_map (λ text. text.now) settings.sync ≡ first_value (found_of matches) (codes "sync")
+  pub checkpoint : IsNumber 64 (one_text (found_of matches) (codes "checkpoint")) 67108864 settings.checkpoint
   pub log : option_map (λ text. text.now) settings.log ≡ first_value (found_of matches) (codes "log")
   pub buffers : IsNumber 64 (one_text (found_of matches) (codes "buffers")) 1073741824 settings.buffers
   pub memory : IsNumber 64 (one_text (found_of matches) (codes "memory")) 0 settings.memory

@@ -46,6 +46,8 @@ pub struct Settings<'a> {
     pub folder: Option<&'a str>,
     /// When its log is synced, if that is said.
     pub sync: Option<&'a str>,
+    /// How many bytes more a log has before its rows are copied into the next one; 0: none is made.
+    pub checkpoint: u64,
     /// How the lines on standard error are, if that is said.
     pub log: Option<&'a str>,
     /// The most bytes that are kept for all connections together; 0 is no limit.
@@ -133,9 +135,13 @@ fn data_options<'a>(command: Command<'a>, alloc: Global) -> Result<Command<'a>, 
     let sync = "\
 When commits are made durable, with --data: always (a change is answered after that), a number of milliseconds (at least so
 often), or never (at the end alone) [default: always]";
+    let checkpoint = "\
+How many bytes of commits the log of --data has before it is shortened: the rows are then copied into a new one, while they
+change; 0 is never [default: 67108864]";
     command
         .arg(text_option(alloc, "data", "FOLDER", data))?
-        .arg(text_option(alloc, "sync", "WHEN", sync))
+        .arg(text_option(alloc, "sync", "WHEN", sync))?
+        .arg(number_option(alloc, "checkpoint", 0, 1_099_511_627_776, checkpoint))
 }
 
 // The limits of time, in seconds.
@@ -222,6 +228,7 @@ fn settings_of<'a>(matches: &ArgMatches<'a>) -> Settings<'a>
         token_file: matches.get_str("token-file"),
         folder: matches.get_str("data"),
         sync: matches.get_str("sync"),
+        checkpoint: number(matches, "checkpoint", 67_108_864),
         log: matches.get_str("log"),
         buffers: number(matches, "buffers", 1_073_741_824),
         memory: number(matches, "memory", 0),

@@ -1,31 +1,29 @@
-//! The folder in which a server's rows survive: its log is opened, and the log's commits are made again.
+//! The folder in which a server's rows survive: its logs are opened, and their rows are read.
 
-use crate::looking::look;
+use crate::looking::{frame_without_header, header_of, look, look_for_nothing};
 use mt_frame::entry::{Entry, LogHeader};
-use mt_journal::error::{Damage, JournalError};
+use mt_journal::error::JournalError;
 use mt_journal::journal::Journal;
-use mt_journal::opening::{create, open};
-use mt_logger::error::ReplayError;
-use mt_logger::replaying::replay;
+use mt_journal::opening::{Opened, create, open};
+use mt_journal::position::Position;
+use mt_load::error::LoadError;
+use mt_loop::checkpointing::Checkpoints;
 use mt_loop::durability::Syncing;
-use mt_loop::logging::Log;
-use mt_shared::client::Client;
-use mt_shared::door::Door;
-use mt_shared::map::SharedMap;
-use mt_shared::pass::Pass;
+use mt_replay::reading::read_rows;
+use mt_replay::redoing::is_sealed;
+use mt_rows::rows::Rows;
+use mt_types::refusal::Refusal;
 use sqlite_disk::Disk;
 use sqlite_std_file::{FileFrom, OpenError, Unknown};
 use std::alloc::{AllocError, Global};
 use std::io::ErrorKind;
-use std::sync::Wait;
 use std::{fs, io};
 use thiserror::Error;
 
-// The name of the first generation of files in the folder.
-const FILE: &str = "even";
+// The names of the files of even generations, and of odd ones.
+const EVEN: &str = "even";
 
-// How many events of a call are made in one holding of the lock while commits are made again.
-const EVENTS: u32 = 1024;
+const ODD: &str = "odd";
 
 // The most milliseconds between two syncs.
 const LONGEST: u64 = 86_400_000;
@@ -39,23 +37,39 @@ pub enum DataError {
     /// Another process has it.
     #[error("the data folder is in use by another process")]
     Busy,
-    /// The log was not opened.
-    #[error("the data folder: even-wal: {0}")]
-    Journal(JournalError),
-    /// A commit of the log was not made again.
-    #[error("the data folder: even-wal: {0}")]
-    Replay(#[from] ReplayError),
+    /// A log was not opened.
+    #[error("the data folder: {file}-wal: {error}")]
+    Journal {
+        file: &'static str,
+        error: JournalError,
+    },
     /// Commits that were durable are missing.
-    #[error("the data folder: even-wal: commits after {commit} are missing that were durable: the frame at byte {place} says so")]
-    Lost { commit: u64, place: usize },
-    /// The log begins after this commit.
-    #[error("the data folder: even-wal: the log begins after commit {0}, and no checkpoint is read")]
-    Base(u64),
+    #[error("the data folder: {file}-wal: commits after {commit} are missing that were durable: the frame at byte {place} says so")]
+    Lost {
+        file: &'static str,
+        commit: u64,
+        place: usize,
+    },
+    /// The log begins after this commit, and has no rows of before.
+    #[error("the data folder: {file}-wal: the log begins after commit {commit}, and what came before is missing")]
+    Begins {
+        file: &'static str,
+        commit: u64,
+    },
+    /// No index can have the rows.
+    #[error("the data folder: {0}")]
+    Load(LoadError),
 }
 
 impl From<AllocError> for DataError {
     fn from(_: AllocError) -> DataError {
         DataError::Io(ErrorKind::OutOfMemory.into())
+    }
+}
+
+impl From<Refusal> for DataError {
+    fn from(refusal: Refusal) -> DataError {
+        DataError::Load(LoadError::Refused(refusal))
     }
 }
 
@@ -83,9 +97,11 @@ fn make_folder(rt: &HostRuntime, folder: &str) -> io::Result<()> {
     }
 }
 
-// The file of the log, locked.
-fn open_file(rt: &HostRuntime, folder: &str) -> Result<FileFrom<Unknown>, DataError> {
-    let path = format!(in rt.alloc(); "{folder}/{FILE}")?;
+type FileDisk = FileFrom<Unknown>;
+
+// A file of a log, locked.
+fn open_file(rt: &HostRuntime, folder: &str, name: &str) -> Result<FileDisk, DataError> {
+    let path = format!(in rt.alloc(); "{folder}/{name}")?;
     match sqlite_std_file::open(rt, path.as_str(), Unknown) {
         Ok(files) => Ok(files.log),
         Err(OpenError::Busy) => Err(DataError::Busy),
@@ -95,12 +111,101 @@ fn open_file(rt: &HostRuntime, folder: &str) -> Result<FileFrom<Unknown>, DataEr
     }
 }
 
-// Makes a log in a file that has none.
+// A file of a log, and the header of the log that it has, if it has one.
+#[derive(Drop)]
+struct Side {
+    name: &'static str,
+    file: FileDisk,
+    header: Option<LogHeader>,
+}
+
+impl Side {
+    // Opens a file, and looks at its header.
+    fn open(
+        rt: &HostRuntime,
+        folder: &str,
+        name: &'static str,
+        columns: u8,
+    ) -> Result<Side, DataError> {
+        let mut file = open_file(rt, folder, name)?;
+        if !file.may_be_used() {
+            let error = JournalError::GivenUp;
+            return Err(DataError::Journal { file: name, error });
+        }
+        let header = header_of(rt.alloc(), &mut file, name, columns)?;
+        Ok(Side { name, file, header })
+    }
+
+    // Looks whether it has lost the header of a log that continued the one of this position.
+    fn look_for_later(&mut self, alloc: Global, at: &Position) -> Result<(), DataError> {
+        if self.header.is_some() || !self.file.may_be_used() {
+            return Ok(());
+        }
+        let generation = at.generation.saturating_add(1);
+        match frame_without_header(alloc, &mut self.file, generation)? {
+            Some(place) => Err(DataError::Lost {
+                file: self.name,
+                commit: at.newest,
+                place,
+            }),
+            None => Ok(()),
+        }
+    }
+
+    // Looks whether it has nothing.
+    fn look_for_nothing(&mut self, alloc: Global) -> Result<(), DataError> {
+        if self.file.may_be_used() {
+            look_for_nothing(alloc, &mut self.file, self.name)?;
+        }
+        Ok(())
+    }
+
+    // The generation after that of its log, or 0 if it has none.
+    fn next_generation(&self) -> u64 {
+        match self.header {
+            Some(header) => header.generation.saturating_add(1),
+            None => 0,
+        }
+    }
+
+    // Opens its log, of which no commit may be missing that was durable.
+    fn read(self, alloc: Global, columns: u8) -> Result<Opened<FileDisk>, DataError> {
+        let Side { name, file, .. } = self;
+        let mut file = file;
+        if file.may_be_used() {
+            look(alloc, &mut file, name, columns)?;
+        }
+        match open(alloc, file, columns) {
+            Ok(opened) => Ok(opened),
+            Err(error) => Err(DataError::Journal { file: name, error }),
+        }
+    }
+}
+
+/// The log of a folder that was opened, with the rows that it has.
+#[derive(Drop)]
+pub struct OpenedLog {
+    pub journal: Journal<FileDisk>,
+    pub rows: Rows,
+    /// How many commits led to the rows.
+    pub commits: u64,
+    /// What shortens the log.
+    pub checkpoints: Checkpoints<FileDisk>,
+}
+
+// Makes a log in a folder that has none.
 fn make_log(
     alloc: Global,
-    file: FileFrom<Unknown>,
+    side: Side,
+    other: Side,
     columns: u8,
-) -> Result<Journal<FileFrom<Unknown>>, DataError> {
+    least: usize,
+) -> Result<OpenedLog, DataError> {
+    let mut side = side;
+    let mut other = other;
+    side.look_for_nothing(alloc)?;
+    other.look_for_nothing(alloc)?;
+    let Side { name, file, .. } = side;
     let header = LogHeader {
         columns,
         generation: 0,
@@ -108,70 +213,147 @@ fn make_log(
         run: 0,
     };
     match create(alloc, file, header) {
-        Ok(journal) => Ok(journal),
-        Err(error) => Err(DataError::Journal(error)),
+        Ok(journal) => Ok(OpenedLog {
+            checkpoints: Checkpoints::new(alloc, other.file, least, 0),
+            journal,
+            rows: Rows::open(alloc),
+            commits: 0,
+        }),
+        Err(error) => Err(DataError::Journal { file: name, error }),
     }
 }
 
-/// A log that was opened, and its entries, whose commits are to be made again.
-#[derive(Drop)]
-pub struct OpenedLog {
-    journal: Journal<FileFrom<Unknown>>,
-    entries: Vec<Entry>,
+// Whether a log has all rows itself: it begins with the first commit, or with a checkpoint.
+fn is_whole(header: &LogHeader, entries: &[Entry]) -> bool {
+    header.base == 0 || is_sealed(entries)
 }
 
-/// Opens the log of a folder for an index with `columns` columns, or makes it if there is none.
+// About how many bytes a frame takes, and a row besides the bytes of its key and of its columns.
+const BESIDES: usize = 32;
+
+// About how many bytes of a log the rows take.
+fn size_of(rows: &Rows) -> usize {
+    rows.iter().fold(BESIDES, |size: usize, (key, row)| {
+        let columns = row
+            .columns
+            .iter()
+            .fold(0, |sum: usize, column| sum.saturating_add(column.len()));
+        size.saturating_add(key.as_slice().len())
+            .saturating_add(columns)
+            .saturating_add(BESIDES)
+    })
+}
+
+// The rows of a log that has them all.
+fn whole_log(
+    alloc: Global,
+    opened: Opened<FileDisk>,
+    spare: FileDisk,
+    least: usize,
+) -> Result<OpenedLog, DataError> {
+    let Opened {
+        journal,
+        header,
+        entries,
+    } = opened;
+    let mut rows = Rows::open(alloc);
+    let commits = read_rows(alloc, &mut rows, header.base, &entries)?;
+    // (a log from the first commit on was never shortened)
+    let size = if header.base == 0 { 0 } else { size_of(&rows) };
+    Ok(OpenedLog {
+        checkpoints: Checkpoints::new(alloc, spare, least, size),
+        journal,
+        rows,
+        commits,
+    })
+}
+
+// The rows of a log whose checkpoint isn't complete: those of the log before, and its commits.
+fn later_log(
+    alloc: Global,
+    later: (&'static str, Opened<FileDisk>),
+    earlier: Opened<FileDisk>,
+    least: usize,
+) -> Result<OpenedLog, DataError> {
+    let (file, opened) = later;
+    let Opened {
+        journal,
+        header,
+        entries,
+    } = opened;
+    let mut rows = Rows::open(alloc);
+    let base = read_rows(alloc, &mut rows, earlier.header.base, &earlier.entries)?;
+    let follows = header.base == base
+        && header.generation == earlier.header.generation.saturating_add(1)
+        && is_whole(&earlier.header, &earlier.entries);
+    if !follows {
+        let commit = header.base;
+        return Err(DataError::Begins { file, commit });
+    }
+    let commits = read_rows(alloc, &mut rows, base, &entries)?;
+    let mut journal = journal;
+    // (what was copied of rows before may have been made by commits that a crash has undone)
+    if let Err(error) = journal.append_end(alloc) {
+        return Err(DataError::Journal { file, error });
+    }
+    let Ok(checkpoints) = Checkpoints::resumed(alloc, earlier.journal.into_disk(), least) else {
+        return Err(DataError::from(AllocError));
+    };
+    Ok(OpenedLog {
+        checkpoints,
+        journal,
+        rows,
+        commits,
+    })
+}
+
+// Whether the log went on in its file after a later one was made, which has no commits.
+fn is_unused(later: &Opened<FileDisk>, earlier: &Opened<FileDisk>) -> bool {
+    let is_empty = later.journal.position().newest == later.header.base;
+    let has_more = earlier.journal.position().newest > later.header.base;
+    is_empty && has_more && is_whole(&earlier.header, &earlier.entries)
+}
+
+/// Opens the log of a folder for an index with `columns` columns, or makes it if there is none. It is shortened when it has
+/// `least` bytes more, and as many more as it has now; never if `least` is 0.
 ///
 /// # Errors
 ///
-/// If the folder can't be made or its files not be opened, if another process has it, or if they are no log of such an
-/// index, or one of which synced commits are missing. Then nothing was written.
-pub fn open_log(rt: &HostRuntime, folder: &str, columns: u8) -> Result<OpenedLog, DataError> {
+/// If the folder can't be made or its files not be opened, if another process has it, or if they are no logs of such an
+/// index, or logs of which synced commits are missing. Then nothing was written, but zeros over a torn frame at the end of
+/// a log.
+pub fn open_log(
+    rt: &HostRuntime,
+    folder: &str,
+    columns: u8,
+    least: usize,
+) -> Result<OpenedLog, DataError> {
     let alloc = rt.alloc();
     make_folder(rt, folder)?;
-    let mut file = open_file(rt, folder)?;
-    if !file.may_be_used() {
-        return Err(DataError::Journal(JournalError::GivenUp));
+    let even = Side::open(rt, folder, EVEN, columns)?;
+    let odd = Side::open(rt, folder, ODD, columns)?;
+    let (newer, older) = if odd.next_generation() > even.next_generation() {
+        (odd, even)
+    } else {
+        (even, odd)
+    };
+    let file = newer.name;
+    let Some(header) = newer.header else {
+        return make_log(alloc, newer, older, columns, least);
+    };
+    let opened = newer.read(alloc, columns)?;
+    let mut older = older;
+    if is_whole(&header, &opened.entries) {
+        older.look_for_later(alloc, &opened.journal.position())?;
+        return whole_log(alloc, opened, older.file, least);
     }
-    if !look(alloc, &mut file, columns)? {
-        return Ok(OpenedLog {
-            journal: make_log(alloc, file, columns)?,
-            entries: Vec::new(alloc),
-        });
+    if older.header.is_none() {
+        let commit = header.base;
+        return Err(DataError::Begins { file, commit });
     }
-    match open(alloc, file, columns) {
-        Ok(opened) if opened.header.base == 0 => Ok(OpenedLog {
-            journal: opened.journal,
-            entries: opened.entries,
-        }),
-        Ok(opened) => Err(DataError::Base(opened.header.base)),
-        Err(error) => Err(DataError::Journal(error)),
+    let earlier = older.read(alloc, columns)?;
+    if is_unused(&opened, &earlier) {
+        return whole_log(alloc, earlier, opened.journal.into_disk(), least);
     }
-}
-
-impl OpenedLog {
-    /// Makes the commits of the log again in an empty index, by this pass. Returns the pass, and the log to which the next
-    /// commits go.
-    ///
-    /// # Errors
-    ///
-    /// If a commit can't be made again.
-    pub fn restore<R: Wait>(
-        self,
-        rt: &R,
-        alloc: Global,
-        index: &SharedMap,
-        pass: Pass,
-        syncing: Syncing,
-    ) -> Result<(Pass, Log<FileFrom<Unknown>>), DataError> {
-        let OpenedLog { journal, entries } = self;
-        let mut client = Client::new(alloc, Door::new(index, rt, EVENTS), pass);
-        let newest = replay(alloc, &mut client, &entries, 0)?;
-        let place = journal.position().end;
-        if newest != journal.position().newest {
-            let damage = Damage::Order;
-            return Err(DataError::Journal(JournalError::Damaged { place, damage }));
-        }
-        Ok((client.pass, Log::new(alloc, journal, syncing)))
-    }
+    later_log(alloc, (file, opened), earlier, least)
 }

@@ -4,11 +4,11 @@ ghost use Rattle.std.specs.Prelude.{IsTrue};
 
 use crate::data::DataError;
 use mt_frame::decode::decode;
-use mt_frame::entry::Entry;
+use mt_frame::entry::{Entry, LogHeader};
 use mt_frame::fault::DecodeError;
 use mt_journal::error::JournalError;
 use mt_journal::position::Position;
-use mt_journal::recovery::read_log;
+use mt_journal::recovery::{read_header, read_log};
 use sqlite_disk::Disk;
 use std::alloc::{AllocError, Global};
 use std::io;
@@ -19,17 +19,102 @@ const HEADER: usize = 128;
 // The least first byte of a frame.
 const FIRST: u8 = 0x80;
 
-// All bytes of a file.
-fn bytes_of<D: Disk>(alloc: Global, disk: &mut D) -> io::Result<Vec<u8>>
+// The first bytes of a file, at most `most`.
+fn bytes_of<D: Disk>(alloc: Global, disk: &mut D, most: usize) -> io::Result<Vec<u8>>
     requires { IsTrue (D.Disk.is_usable disk.old) }
     ensures { IsTrue (D.Disk.is_usable disk.new) }
 {
-    let len = disk.len()?;
+    let len = disk.len()?.min(most);
     let mut bytes = Vec::from_elem(alloc, 0u8, len)?;
     if len > 0 {
         disk.read_at(0, bytes.as_mut_slice())?;
     }
     Ok(bytes)
+}
+
+/// Returns the header of the log that a file has. `None` if it has none: no byte, or what is left if the making of a log was
+/// cut short. Reads the first bytes alone.
+///
+/// # Errors
+///
+/// If the file has something else, or the log of an index with another number of columns.
+pub fn header_of<D: Disk>(
+    alloc: Global,
+    disk: &mut D,
+    file: &'static str,
+    columns: u8,
+) -> Result<Option<LogHeader>, DataError>
+    requires { IsTrue (D.Disk.is_usable disk.old) }
+    ensures { IsTrue (D.Disk.is_usable disk.new) }
+{
+    let bytes = bytes_of(alloc, disk, HEADER)?;
+    if bytes.is_empty() {
+        return Ok(None);
+    }
+    match read_header(alloc, &bytes, columns) {
+        Ok((header, _)) => Ok(Some(header)),
+        Err(JournalError::NoLog) => Ok(None),
+        Err(error) => Err(DataError::Journal { file, error }),
+    }
+}
+
+/// Succeeds if a file without a log has nothing else: no byte but zeros after what a header takes.
+///
+/// # Errors
+///
+/// If it has something else.
+pub fn look_for_nothing<D: Disk>(
+    alloc: Global,
+    disk: &mut D,
+    file: &'static str,
+) -> Result<(), DataError>
+    requires { IsTrue (D.Disk.is_usable disk.old) }
+    ensures { IsTrue (D.Disk.is_usable disk.new) }
+{
+    let bytes = bytes_of(alloc, disk, usize::MAX)?;
+    if bytes.iter().skip(HEADER).all(|byte| *byte == 0) {
+        return Ok(());
+    }
+    let error = JournalError::NotALog;
+    Err(DataError::Journal { file, error })
+}
+
+// Whether the bytes at the front are a whole frame of a log of this generation.
+fn is_frame(
+    alloc: Global,
+    generation: u64,
+    bytes: &[u8],
+    place: usize,
+) -> Result<bool, AllocError> {
+    match decode(alloc, generation, place as u64, bytes) {
+        Ok(Some(_)) => Ok(true),
+        Ok(None) | Err(DecodeError::Faulty(_)) => Ok(false),
+        Err(DecodeError::NoMemory) => Err(AllocError),
+    }
+}
+
+/// Returns the place of a whole frame of a log of this generation in a file that has no header. A crash never leaves one.
+/// Reads the file once.
+///
+/// # Errors
+///
+/// If the file can't be read.
+pub fn frame_without_header<D: Disk>(
+    alloc: Global,
+    disk: &mut D,
+    generation: u64,
+) -> Result<Option<usize>, DataError>
+    requires { IsTrue (D.Disk.is_usable disk.old) }
+    ensures { IsTrue (D.Disk.is_usable disk.new) }
+{
+    let bytes = bytes_of(alloc, disk, usize::MAX)?;
+    for place in 0..bytes.len() {
+        let rest = &bytes[place..];
+        if rest[0] >= FIRST && is_frame(alloc, generation, rest, place)? {
+            return Ok(Some(place));
+        }
+    }
+    Ok(None)
 }
 
 // Whether the bytes at the front are a whole frame of commits that says that more were durable than `newest`.
@@ -41,7 +126,7 @@ fn says_more(alloc: Global, bytes: &[u8], at: &Position, place: usize) -> Result
     }
 }
 
-// The place of a frame behind the end of a log by which synced commits are missing. A crash never leaves one. O(n) in the
+// The place of a frame after the end of a log by which synced commits are missing. A crash never leaves one. O(n) in the
 // bytes that aren't zero.
 fn lost_frame(alloc: Global, bytes: &[u8], at: &Position) -> Result<Option<usize>, AllocError> {
     for place in at.end..bytes.len() {
@@ -53,30 +138,30 @@ fn lost_frame(alloc: Global, bytes: &[u8], at: &Position) -> Result<Option<usize
     Ok(None)
 }
 
-/// Returns whether a file has a log for an index with `columns` columns, or nothing: no byte, or what is left if the making
-/// of a log was cut short. Reads the file once.
+/// Looks at the log of a file. Reads the file once.
 ///
 /// # Errors
 ///
-/// If the file has something else, or a log of which commits are missing that were durable.
-pub fn look<D: Disk>(alloc: Global, disk: &mut D, columns: u8) -> Result<bool, DataError>
+/// If the file has no log for an index with `columns` columns, or one of which commits are missing that were durable.
+pub fn look<D: Disk>(
+    alloc: Global,
+    disk: &mut D,
+    file: &'static str,
+    columns: u8,
+) -> Result<(), DataError>
     requires { IsTrue (D.Disk.is_usable disk.old) }
     ensures { IsTrue (D.Disk.is_usable disk.new) }
 {
-    let bytes = bytes_of(alloc, disk)?;
-    if bytes.is_empty() {
-        return Ok(false);
-    }
+    let bytes = bytes_of(alloc, disk, usize::MAX)?;
     match read_log(alloc, &bytes, columns) {
         Ok(read) => match lost_frame(alloc, &bytes, &read.at)? {
             Some(place) => Err(DataError::Lost {
+                file,
                 commit: read.at.newest,
                 place,
             }),
-            None => Ok(true),
+            None => Ok(()),
         },
-        Err(JournalError::NoLog) if bytes.iter().skip(HEADER).all(|byte| *byte == 0) => Ok(false),
-        Err(JournalError::NoLog) => Err(DataError::Journal(JournalError::NotALog)),
-        Err(error) => Err(DataError::Journal(error)),
+        Err(error) => Err(DataError::Journal { file, error }),
     }
 }

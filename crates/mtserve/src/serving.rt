@@ -3,9 +3,10 @@
 ghost use Rattle.std.specs.Prelude.{◌≡◌, ◌||◌};
 
 use crate::command_line::{Settings, WITHOUT_END};
-use crate::data::{DataError, open_log};
+use crate::data::{DataError, OpenedLog, open_log};
 use crate::tokens::{TokenError, read_tokens};
 use mt_index::options::Options;
+use mt_load::error::LoadError;
 use mt_loop::address::Address;
 use mt_loop::durability::Syncing;
 use mt_loop::limits::Limits;
@@ -15,7 +16,7 @@ use mt_loop::serving::{Access, Ended, Plan, serve};
 use mt_shared::map::SharedMap;
 use mt_shared::pass::Pass;
 use mt_shared::settling::Totals;
-use mt_types::limits::MAX_LOG_RETENTION;
+use mt_types::limits::{MAX_LOG_RETENTION, open_fault};
 use mt_types::refusal::Refusal;
 use sqlite_std_file::{FileFrom, Unknown};
 use std::alloc::Global;
@@ -160,15 +161,27 @@ fn open_index<R: Threads + Wait>(
         let (index, passes) = SharedMap::start(alloc, settings.options, passes)?;
         return Ok((index, passes, None));
     };
-    let (index, passes) = SharedMap::start(alloc, logged_options(settings.options), passes)?;
-    let opened = open_log(host, folder, index.columns())?;
-    let mut passes = passes;
-    let Some(pass) = passes.pop() else {
-        return Ok((index, passes, None));
-    };
-    let (pass, log) = opened.restore(rt, alloc, &index, pass, syncing)?;
-    passes.push(pass).map_err(io::Error::from)?;
-    Ok((index, passes, Some(log)))
+    let options = logged_options(settings.options);
+    if let Some(refusal) = open_fault(
+        options.columns,
+        options.log_capacity,
+        options.log_retention,
+    ) {
+        return Err(ServeError::Index(refusal));
+    }
+    let least = settings.checkpoint as usize;
+    let OpenedLog {
+        journal,
+        rows,
+        commits,
+        checkpoints,
+    } = open_log(host, folder, options.columns as u8, least)?;
+    let log = Log::new(alloc, journal, syncing, checkpoints);
+    match SharedMap::load(alloc, options, rows, commits, passes) {
+        Ok((index, passes)) => Ok((index, passes, Some(log))),
+        Err(LoadError::Refused(refusal)) => Err(ServeError::Index(refusal)),
+        Err(error) => Err(ServeError::Data(DataError::Load(error))),
+    }
 }
 
 /// Opens an index, with the rows of a folder if there is one, and serves it as the settings ask. Returns how many events and

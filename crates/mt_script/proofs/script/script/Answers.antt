@@ -6,7 +6,7 @@ use Rattle.mt_script.proofs.PlayLemmas.{Broke-none, start_not_read}
 use Rattle.mt_script.proofs.script.script.Goals as goal
 
 pub play-requires : goal.play-requires
-play-requires g c = c.in-Ok.ensures.opened.2
+play-requires g c = (c.in-Ok.ensures.opened.2, c.in-Ok.ensures.base)
 
 pub returns-in-Ok-clause-answered : goal.returns-in-Ok-clause-answered
 returns-in-Ok-clause-answered g c =

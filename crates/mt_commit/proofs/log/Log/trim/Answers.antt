@@ -1,4 +1,4 @@
-use Rattle.std.proofs.Common.{◌-◌, ap, ◌∙◌, arith, min, length, length-drop}
+use Rattle.std.proofs.Common.{◌-◌, ap, ◌∙◌, arith, length, length-drop}
 use Rattle.mt_commit.specs.Log.{newest}
 use Rattle.mt_commit.specs.LogFields.{log_of}
 use Rattle.mt_commit.proofs.LogLemmas.{trim_rises, newest-trimmed, trimmed_log, bound_is}
@@ -7,11 +7,11 @@ use Rattle.mt_commit.proofs.log.Log.trim.Goals as goal
 pub overflow_sub-bound : goal.overflow_sub-bound
 overflow_sub-bound c =
     trim_rises (log_of c.self.inside) _ c.self.invariant.sound
-    (bound_is _ _ _ _ _ c.self.view_is c.slowest.ensures.value c.number-number.ensures.value (c.min-bound.ensures ∙ ap (min c.slowest.result) c.saturating_sub.ensures))
+    (bound_is _ _ _ _ _ c.self.view_is c.slowest.ensures.value c.kept_after.ensures c.min-bound.ensures)
 
 pub invariant_of-self : goal.invariant_of-self
 invariant_of-self c =
-    let bound = bound_is _ _ _ _ c.min-bound.result c.self.view_is c.slowest.ensures.value c.number-number.ensures.value (c.min-bound.ensures ∙ ap (min c.slowest.result) c.saturating_sub.ensures) in
+    let bound = bound_is _ _ _ _ c.min-bound.result c.self.view_is c.slowest.ensures.value c.kept_after.ensures c.min-bound.ensures in
     let fewer = ap length c.drop_front.ensures.items ∙ length-drop (c.min-bound.result - c.self.inside.held_after) c.self.inside.deltas.items in
     let room = c.self.invariant.room in
     let was = c.self.inside.deltas.ok.0 in
@@ -26,10 +26,10 @@ invariant_of-self c =
 
 pub returns-clause-newest_stays : goal.returns-clause-newest_stays
 returns-clause-newest_stays c =
-    let bound = bound_is _ _ _ _ c.min-bound.result c.self.view_is c.slowest.ensures.value c.number-number.ensures.value (c.min-bound.ensures ∙ ap (min c.slowest.result) c.saturating_sub.ensures) in
+    let bound = bound_is _ _ _ _ c.min-bound.result c.self.view_is c.slowest.ensures.value c.kept_after.ensures c.min-bound.ensures in
     newest-trimmed (log_of c.self.inside) _ _ c.self.invariant.sound bound c.drop_front.ensures.items ∙ ap newest c.self.view_is
 
 pub returns-clause-sound : goal.returns-clause-sound
 returns-clause-sound c =
-    let bound = bound_is _ _ _ _ c.min-bound.result c.self.view_is c.slowest.ensures.value c.number-number.ensures.value (c.min-bound.ensures ∙ ap (min c.slowest.result) c.saturating_sub.ensures) in
+    let bound = bound_is _ _ _ _ c.min-bound.result c.self.view_is c.slowest.ensures.value c.kept_after.ensures c.min-bound.ensures in
     trimmed_log (log_of c.self.inside) _ _ c.self.invariant.sound bound c.drop_front.ensures.items

@@ -19,6 +19,7 @@ invariant_of-result c = (
 
 pub returns : goal.returns
 returns c = record {
+  base = ap (λ (l : LogView). l.base) c.open-2.ensures.empty;
   fault = rw (sym c.in_default.ensures) tt;
   idle = ap (λ (k : CallsView). k.calls) c.in_ok-new.ensures;
   opened = (

@@ -32,4 +32,4 @@ returns-clause-bounds c =
     let same = step_bounds (seen c.self.inside.columns c.self.inside.epoch c.self.inside.tree c.self.inside.log c.self.inside.calls c.self.inside.views) h c.args.number c.step.new.self c.step.new.tree c.step.new.log c.in-Stepped.stepped.pass c.in-Stepped.stepped.reads c.in-Stepped.stepped.builds c.in-Stepped.stepped.from c.in-Stepped.stepped.progress c.in-Stepped.ensures.1 st in
     subst (λ (s : MachineView). HasBounds s.log.capacity s.log.retention c.trim.new.self) c.self.view_is
     (subst (HasBounds c.self.inside.log.capacity c.self.inside.log.retention) (sym (c.trim.ensures.after ∙ ap trimmed c.settle-outcome.ensures.log))
-    (settled_bounds c.in-Stepped.stepped.reads c.in-Stepped.stepped.from c.in-Stepped.stepped.progress c.step.new.log _ _ (ap (λ (b : List ℕ × ℕ × ℕ). b.1) same, ap (λ (b : List ℕ × ℕ × ℕ). b.2) same)))
+    (settled_bounds c.in-Stepped.stepped.reads c.in-Stepped.stepped.from c.in-Stepped.stepped.progress c.step.new.log _ _ (ap (λ (b : List ℕ × ℕ × ℕ × ℕ). b.1) same, ap (λ (b : List ℕ × ℕ × ℕ × ℕ). b.2) same)))

@@ -1,0 +1,3 @@
+-- What it is that rows are loaded into an index.
+pub mod Loaded
+pub mod Loading
