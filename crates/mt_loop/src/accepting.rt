@@ -1,13 +1,13 @@
 //! The thread that accepts: it hands each connection to the worker that has the fewest.
 
-use crate::address::{Address, Listener};
 use crate::desk::{Arrival, Desk};
 use crate::gauge::{Gauge, open};
-use crate::report::{Asker, Origin, Report, unserved};
 use crate::stop::Stop;
-use crate::stream::Stream;
 use mio::unix::SourceFd;
 use mio::{Events, Interest, Poll, Token};
+use mt_host::address::{Address, Listener};
+use mt_host::report::{Asker, Origin, Report, unserved};
+use mt_host::stream::Stream;
 use std::alloc::Global;
 use std::io::ErrorKind;
 use std::net::SocketAddr;

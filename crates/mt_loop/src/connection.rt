@@ -1,13 +1,12 @@
 //! One connection: its stream, and its session.
 
-use crate::buffers::Buffers;
-use crate::fault::ConnectionFault;
-use crate::parking::Parked;
-use crate::report::Origin;
-use crate::stream::Stream;
-use crate::weight::{LONG, TURN, only_reads, server_query, weight_of};
+use mt_host::buffers::Buffers;
+use mt_host::fault::ConnectionFault;
+use mt_host::parking::Parked;
+use mt_host::report::Origin;
+use mt_host::stream::Stream;
+use mt_host::weight::{LONG, TURN, only_reads, server_query, weight_of};
 use mt_serve::answerer::Answerer;
-use mt_serve::fault::SessionFault;
 use mt_shared::driving::Shared;
 use mt_shared::pass::Pass;
 use mt_talk::server::changes_rows;
@@ -173,7 +172,7 @@ impl Connection {
     fn take(&mut self, piece: &[u8], is_all: bool) {
         self.is_unread = !is_all || self.is_hung_up;
         if self.talk.feed(piece).is_err() {
-            self.fail(ConnectionFault::from(SessionFault::NoMemory));
+            self.fail(ConnectionFault::NoMemory);
         }
     }
 
@@ -194,7 +193,7 @@ impl Connection {
             }
             Err(error) if error.kind() == ErrorKind::WouldBlock => self.is_unread = false,
             Err(error) if error.kind() == ErrorKind::Interrupted => {}
-            Err(_) => self.fail(ConnectionFault::from(SessionFault::Read)),
+            Err(_) => self.fail(ConnectionFault::Read),
         }
     }
 
@@ -236,7 +235,7 @@ impl Connection {
             Ok(true) => self.look(),
             Ok(false) => {
                 if self.has_ended && !self.talk.is_between_frames() {
-                    self.fail(ConnectionFault::from(SessionFault::Cut));
+                    self.fail(ConnectionFault::Cut);
                 }
             }
             Err(fault) => self.fail(ConnectionFault::from(fault)),
@@ -301,7 +300,7 @@ impl Connection {
     }
 
     // Writes what is to go, as much as the system takes. Returns how much that was.
-    fn write_some(&mut self) -> Result<usize, SessionFault> {
+    fn write_some(&mut self) -> Result<usize, ConnectionFault> {
         let mut sent = 0usize;
         let len = self.talk.output().len();
         for _ in 0..=len {
@@ -310,11 +309,11 @@ impl Connection {
                 break;
             }
             match self.stream.write(&output[sent..]) {
-                Ok(0) => return Err(SessionFault::Write),
+                Ok(0) => return Err(ConnectionFault::Write),
                 Ok(taken) => sent = sent.saturating_add(taken),
                 Err(error) if error.kind() == ErrorKind::WouldBlock => break,
                 Err(error) if error.kind() == ErrorKind::Interrupted => {}
-                Err(_) => return Err(SessionFault::Write),
+                Err(_) => return Err(ConnectionFault::Write),
             }
         }
         Ok(sent)
@@ -330,12 +329,12 @@ impl Connection {
                     self.moved.1 = self.moved.1.saturating_add(count);
                 }
                 if self.talk.sent(count).is_err() {
-                    self.fail(ConnectionFault::from(SessionFault::NoMemory));
+                    self.fail(ConnectionFault::NoMemory);
                     self.talk.clear_output();
                 }
             }
             Err(fault) => {
-                self.fail(ConnectionFault::from(fault));
+                self.fail(fault);
                 self.talk.clear_output();
             }
         }

@@ -1,8 +1,8 @@
 //! What a connection waits for: the frame at its front for commits, or its answers until commits are durable.
 
 use crate::connection::{Connection, Front};
-use crate::fault::ConnectionFault;
-use crate::parking::{DURABLE, LATER, Parked};
+use mt_host::fault::ConnectionFault;
+use mt_host::parking::{DURABLE, LATER, Parked};
 use mt_talk::facts::Facts;
 use mt_wire::server::{Awaited, ServerQuery};
 use std::mem;

@@ -1,9 +1,9 @@
 //! Where connections are left for a worker: by the thread that accepts, and by other workers.
 
 use crate::connection::Connection;
-use crate::report::Origin;
-use crate::stream::Stream;
 use mio::{Poll, Token, Waker};
+use mt_host::report::Origin;
+use mt_host::stream::Stream;
 use std::alloc::Global;
 use std::sync::atomic::{AtomicUsize, Ordering};
 use std::sync::{Mutex, Wait};

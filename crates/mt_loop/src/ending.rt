@@ -1,10 +1,9 @@
 //! When a connection ends, and why.
 
 use crate::connection::Connection;
-use crate::fault::ConnectionFault;
-use crate::limits::{Limits, is_over};
-use crate::report::Report;
-use mt_serve::fault::SessionFault;
+use mt_host::fault::ConnectionFault;
+use mt_host::limits::{Limits, is_over};
+use mt_host::report::Report;
 
 impl Connection {
     /// Begins its times at this second: its frame has waited for others.
@@ -38,7 +37,7 @@ impl Connection {
         }
         if self.has_output() {
             if is_over(limits.write, self.went, now) {
-                self.fail(ConnectionFault::from(SessionFault::Write));
+                self.fail(ConnectionFault::Write);
                 return true;
             }
             return false;
@@ -53,7 +52,7 @@ impl Connection {
         }
         match self.began {
             Some(began) if is_over(limits.frame, began, now) => {
-                self.fail(ConnectionFault::from(SessionFault::Cut));
+                self.fail(ConnectionFault::Cut);
                 true
             }
             Some(_) => false,

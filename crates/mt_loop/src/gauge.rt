@@ -4,12 +4,12 @@ ghost use Rattle.std.specs.Prelude.{◌≡◌, IfOk, IfSome, None, map};
 ghost use Rattle.mt_shared.specs.Moments.{machine_of};
 ghost use Rattle.mt_loop.specs.Listing.{listed, ListsSomewhere};
 
-use crate::buffers::Buffers;
 use crate::desk::Desk;
-use crate::durability::{DiskState, Durability};
-use crate::memory::Memory;
-use crate::parking::{DURABLE, LATER, Parking};
-use crate::reporting::Reporter;
+use mt_host::buffers::Buffers;
+use mt_host::durability::{DiskState, Durability};
+use mt_host::memory::Memory;
+use mt_host::parking::{DURABLE, LATER, Parking};
+use mt_host::reporting::Reporter;
 use mt_shared::door::Door;
 use mt_shared::map::SharedMap;
 use mt_shared::moment::Moment;

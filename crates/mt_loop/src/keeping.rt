@@ -1,8 +1,8 @@
 //! How many bytes are kept for a connection, of those that are kept for all.
 
-use crate::buffers::{Buffers, SHARE};
 use crate::connection::Connection;
-use crate::fault::ConnectionFault;
+use mt_host::buffers::{Buffers, SHARE};
+use mt_host::fault::ConnectionFault;
 
 impl Connection {
     /// Returns whether bytes are to go.

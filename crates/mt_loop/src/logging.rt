@@ -1,10 +1,10 @@
 //! The thread of the log: it writes the commits of all workers, and syncs them in groups.
 
 use crate::checkpointing::{Checkpoints, Round, may_pass};
-use crate::durability::{DiskState, Durability, Syncing};
 use crate::gauge::Gauge;
-use crate::memory::Watch;
-use crate::report::Report;
+use crate::watching::Watch;
+use mt_host::durability::{DiskState, Durability, Syncing};
+use mt_host::report::{LogCause, Report};
 use mt_journal::error::JournalError;
 use mt_journal::journal::Journal;
 use mt_logger::error::LoggerError;
@@ -54,6 +54,14 @@ impl<D: Disk + Drop> Log<D> {
     }
 }
 
+// What is said of an error of the log.
+fn cause_of(error: &LoggerError) -> LogCause<'_> {
+    match error {
+        LoggerError::Fed(refusal) => LogCause::Fed(*refusal),
+        LoggerError::Journal(error) => LogCause::Journal(error),
+    }
+}
+
 // The result of an attempt to write.
 enum Written {
     // All commits are written, or as many as one sync is for.
@@ -82,7 +90,9 @@ fn judge<R: Wait + Clock + Eprint>(
             Written::Later
         }
         _ => {
-            gauge.reporter.say(gauge.rt, &Report::LogFailed(error));
+            gauge
+                .reporter
+                .say(gauge.rt, &Report::LogFailed(cause_of(error)));
             Written::Never
         }
     }
@@ -143,7 +153,9 @@ fn sync<R: Wait + Clock + Eprint, D: Disk + Drop>(
         }
         Err(error) => {
             let error = LoggerError::Journal(error);
-            gauge.reporter.say(gauge.rt, &Report::LogFailed(&error));
+            gauge
+                .reporter
+                .say(gauge.rt, &Report::LogFailed(cause_of(&error)));
             false
         }
     }
@@ -218,11 +230,15 @@ fn shorten<R: Wait + Clock + Eprint, D: Disk + Drop>(
             if may_pass(&error) {
                 return Some(false);
             }
-            gauge.reporter.say(gauge.rt, &Report::LogFailed(&error));
+            gauge
+                .reporter
+                .say(gauge.rt, &Report::LogFailed(cause_of(&error)));
             None
         }
         Err(error) => {
-            gauge.reporter.say(gauge.rt, &Report::NotShortened(&error));
+            gauge
+                .reporter
+                .say(gauge.rt, &Report::NotShortened(cause_of(&error)));
             Some(false)
         }
     }

@@ -6,9 +6,9 @@ ghost use Rattle.std.specs.Prelude.{◌≡◌, ◌≢◌, ◌<◌, ◌≤◌, �
 use crate::connection::Connection;
 use crate::desk::{Arrival, Desk};
 use crate::gauge::Gauge;
-use crate::report::unserved;
 use crate::worker::Worker;
 use mio::Token;
+use mt_host::report::unserved;
 use std::alloc::AllocError;
 use std::io;
 use std::io::ErrorKind;

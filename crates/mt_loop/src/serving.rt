@@ -1,20 +1,21 @@
 //! The threads of a server: one that accepts, and the workers.
 
 use crate::accepting::Acceptor;
-use crate::address::{Address, Listener, remove_sockets};
-use crate::buffers::Buffers;
 use crate::desk::Desk;
-use crate::durability::Durability;
 use crate::gauge::{Gauge, Tally};
-use crate::limits::Limits;
 use crate::logging::{Log, keep_log};
-use crate::memory::{Memory, Watch};
 use crate::moving::{Share, share_of};
 use crate::patient::PatientDoor;
-use crate::reporting::Reporter;
 use crate::stop::Stop;
+use crate::watching::Watch;
 use crate::worker::{Worker, work};
 use mio::Poll;
+use mt_host::address::{Address, Listener, remove_sockets};
+use mt_host::buffers::Buffers;
+use mt_host::durability::Durability;
+use mt_host::limits::Limits;
+use mt_host::memory::Memory;
+use mt_host::reporting::Reporter;
 use mt_shared::holding::HoldingDoor;
 use mt_shared::map::SharedMap;
 use mt_shared::pass::Pass;

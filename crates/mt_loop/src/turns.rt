@@ -4,8 +4,8 @@ ghost use Rattle.std.specs.Prelude.{◌≡◌, ◌≢◌};
 
 use crate::connection::{Connection, Front};
 use crate::gauge::Gauge;
-use crate::report::{Origin, Report};
-use crate::weight::TURN;
+use mt_host::report::{Origin, Report};
+use mt_host::weight::TURN;
 use mt_serve::answerer::{Answerer, Keeping};
 use mt_shared::driving::{Hold, Shared};
 use mt_shared::pass::Pass;

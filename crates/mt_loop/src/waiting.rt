@@ -2,8 +2,8 @@
 
 use crate::desk::Desk;
 use crate::gauge::Gauge;
-use crate::parking::{DURABLE, LATER, Parked};
 use crate::worker::Worker;
+use mt_host::parking::{DURABLE, LATER, Parked};
 use std::sync::Wait;
 use std::time::Clock;
 

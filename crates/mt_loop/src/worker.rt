@@ -3,13 +3,13 @@
 use crate::connection::Connection;
 use crate::desk::{Desk, WAKER};
 use crate::gauge::Gauge;
-use crate::limits::Limits;
 use crate::moving::{Share, destination};
-use crate::parking::Parking;
-use crate::report::{Asker, Report};
 use crate::stop::Stop;
 use crate::turns::Turns;
 use mio::{Events, Poll, Token};
+use mt_host::limits::Limits;
+use mt_host::parking::Parking;
+use mt_host::report::{Asker, Report};
 use mt_shared::driving::Shared;
 use mt_shared::pass::Pass;
 use mt_talk::tokens::Token as Secret;

@@ -2,13 +2,13 @@
 
 use crate::looking::{frame_without_header, header_of, look, look_for_nothing};
 use mt_frame::entry::{Entry, LogHeader};
+use mt_host::durability::Syncing;
 use mt_journal::error::JournalError;
 use mt_journal::journal::Journal;
 use mt_journal::opening::{Opened, create, open};
 use mt_journal::position::Position;
 use mt_load::error::LoadError;
 use mt_loop::checkpointing::Checkpoints;
-use mt_loop::durability::Syncing;
 use mt_replay::reading::read_rows;
 use mt_replay::redoing::is_sealed;
 use mt_rows::rows::Rows;

@@ -1,5 +1,5 @@
 use Rattle.std.proofs.Common.{◌≤◌}
-use Rattle.mt_loop.proofs.weight.weight_of.Given as goal
+use Rattle.mt_host.proofs.weight.weight_of.Given as goal
 
 abbrev pub invariant-loop-query : goal.invariant-loop-query
 invariant-loop-query l = 1 ≤ l.weight

@@ -156,8 +156,8 @@ fn say_plainly<R: Eprint>(rt: &R, report: &Report<'_>) {
         Report::MemoryFull { resident, most } => eprintln!(rt;
             "memory: {resident} bytes are resident, more than {most}: no rows and no views are added"
         ),
-        Report::NotShortened(error) => eprintln!(rt; "checkpoint: {error}"),
-        Report::LogFailed(error) => eprintln!(rt; "log: {error}"),
+        Report::NotShortened(cause) => eprintln!(rt; "checkpoint: {cause}"),
+        Report::LogFailed(cause) => eprintln!(rt; "log: {cause}"),
         Report::Unwritten => eprintln!(rt; "log: the last commits could not be written"),
         Report::Listening(_)
         | Report::WrongSecret { .. }

@@ -3,8 +3,8 @@
 use crate::address::Address;
 use crate::fault::ConnectionFault;
 use crate::quoting::Quoted;
-use mt_logger::error::LoggerError;
-use mt_serve::fault::SessionFault;
+use mt_journal::error::JournalError;
+use mt_types::refusal::Refusal;
 use std::net::SocketAddr;
 use std::{fmt, io};
 
@@ -24,6 +24,24 @@ pub enum Asker {
     Query(Origin),
     /// The end of standard input.
     EndOfInput,
+}
+
+/// Why commits or rows are not in the log.
+#[derive(Clone, Copy)]
+pub enum LogCause<'a> {
+    /// The index refused to say which come next.
+    Fed(Refusal),
+    /// A call of the log failed.
+    Journal(&'a JournalError),
+}
+
+impl fmt::Display for LogCause<'_> {
+    fn fmt<W: fmt::Write>(&self, f: &mut fmt::Formatter<W>) -> fmt::Result {
+        match self {
+            LogCause::Fed(refusal) => write!(f, "the next commits could not be read: {refusal}"),
+            LogCause::Journal(error) => write!(f, "{error}"),
+        }
+    }
 }
 
 /// What is said.
@@ -68,9 +86,9 @@ pub enum Report<'a> {
         commits: u64,
     },
     /// A checkpoint failed.
-    NotShortened(&'a LoggerError),
+    NotShortened(LogCause<'a>),
     /// The log failed.
-    LogFailed(&'a LoggerError),
+    LogFailed(LogCause<'a>),
     /// The last commits are not in the log.
     Unwritten,
     /// The server is to stop.
@@ -197,7 +215,7 @@ impl Report<'_> {
 pub fn unserved(origin: Origin) -> Report<'static> {
     Report::Ended {
         origin,
-        fault: ConnectionFault::from(SessionFault::NoMemory),
+        fault: ConnectionFault::NoMemory,
         queries: 0,
     }
 }
@@ -257,8 +275,8 @@ impl fmt::Display for Report<'_> {
                 f,
                 "{kind} rows={rows} commits={commits}"
             ),
-            Report::LogFailed(error) | Report::NotShortened(error) => {
-                write!(f, "{kind} reason={}", Quoted(*error))
+            Report::LogFailed(cause) | Report::NotShortened(cause) => {
+                write!(f, "{kind} reason={}", Quoted(cause))
             }
             Report::Failed(reason) => write!(f, "{kind} reason={}", Quoted(reason)),
             Report::Stopping(Asker::Query(origin)) => {

@@ -4,7 +4,7 @@ ghost use Rattle.std.specs.Option.{option_copied};
 ghost use Rattle.std.specs.Prelude.{◌≡◌, ◌≤◌, not};
 ghost use Rattle.std.specs.List.{list_any};
 ghost use Rattle.mt_talk.specs.Serving.{alone};
-ghost use Rattle.mt_loop.specs.Weights.{is_other};
+ghost use Rattle.mt_host.specs.Weights.{is_other};
 
 use mt_types::event::Request;
 use mt_wire::frame::Frame;

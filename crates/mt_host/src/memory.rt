@@ -1,14 +1,13 @@
-//! How much memory the process uses, and whether that is more than it may: the server's first thread reads it a few times a second.
+//! How much memory the process uses, and whether that is more than it may.
 
 ghost use Rattle.std.specs.Prelude.{◌≡◌, ◌&&◌, nat_lt};
 
-use crate::gauge::Gauge;
 use crate::report::Report;
 use std::io::{ErrorKind, Read};
 use std::rt::Files;
 use std::sync::atomic::{AtomicBool, AtomicUsize, Ordering};
 use std::sync::{Condvar, Mutex, Wait};
-use std::time::{Clock, Duration, Instant};
+use std::time::{Clock, Duration};
 use std::{fs, io};
 
 // The file in which the system says how many pages the process uses, and how many of them are resident.
@@ -95,8 +94,8 @@ impl Memory {
         self.is_full.load(Ordering::Relaxed)
     }
 
-    // Reads how much memory is used. What can't be read is as it was.
-    fn look<R: Files>(&self, rt: &R) {
+    /// Reads how much memory is used. What can't be read is as it was.
+    pub fn look<R: Files>(&self, rt: &R) {
         if let Ok(resident) = read_resident(rt) {
             self.resident.store(resident as usize, Ordering::Relaxed);
             self.is_full
@@ -109,8 +108,8 @@ impl Memory {
         if self.most > 0 { LIMITED } else { UNLIMITED }
     }
 
-    // Waits until the next reading. Returns whether there is to be none.
-    fn wait<R: Wait + Clock>(&self, rt: &R) -> bool {
+    /// Waits until the next reading. Returns whether there is to be none.
+    pub fn wait<R: Wait + Clock>(&self, rt: &R) -> bool {
         let longest = Duration::from_millis(self.interval());
         let mut has_ended = self.has_ended.lock(rt);
         if !*has_ended {
@@ -119,8 +118,8 @@ impl Memory {
         *has_ended
     }
 
-    // What is said of the memory when it has become full, or isn't full any longer.
-    fn report(&self, is_full: bool) -> Report<'static> {
+    /// Returns what is said of the memory when it has become full, or isn't full any longer.
+    pub fn report(&self, is_full: bool) -> Report<'static> {
         let (resident, most) = (self.resident(), self.most);
         if is_full {
             Report::MemoryFull { resident, most }
@@ -133,55 +132,5 @@ impl Memory {
     pub fn end<R: Wait>(&self, rt: &R) {
         *self.has_ended.lock(rt) = true;
         self.end.notify_one();
-    }
-}
-
-/// The readings of the memory, and what was last said of them.
-#[derive(Drop)]
-pub struct Watch {
-    last: Instant,
-    was_full: bool,
-}
-
-impl Watch {
-    /// Returns readings of which the first is due an interval after this time.
-    pub fn new(start: Instant) -> Watch {
-        Watch {
-            last: start,
-            was_full: false,
-        }
-    }
-
-    // Reports when the memory has become full, and when it isn't any longer.
-    fn report<R: Wait + Clock + Eprint>(&mut self, gauge: &Gauge<'_, R>) {
-        let is_full = gauge.memory.is_full();
-        if is_full != self.was_full {
-            gauge.reporter.say(gauge.rt, &gauge.memory.report(is_full));
-        }
-        self.was_full = is_full;
-    }
-
-    /// Reads how much memory the process uses, if an interval has passed since it was read.
-    pub fn look_if_due<R: Wait + Clock + Files + Eprint>(&mut self, gauge: &Gauge<'_, R>) {
-        let interval = Duration::from_millis(gauge.memory.interval());
-        let Ok(now) = Instant::now(gauge.rt) else {
-            return;
-        };
-        if now.saturating_duration_since(self.last) >= interval {
-            self.last = now;
-            gauge.memory.look(gauge.rt);
-            self.report(gauge);
-        }
-    }
-
-    /// Reads how much memory the process uses until nobody is to.
-    pub fn look_to_end<R: Wait + Clock + Files + Eprint>(&mut self, gauge: &Gauge<'_, R>) {
-        for _ in gauge.rt.forever() {
-            self.report(gauge);
-            if gauge.memory.wait(gauge.rt) {
-                break;
-            }
-            gauge.memory.look(gauge.rt);
-        }
     }
 }
