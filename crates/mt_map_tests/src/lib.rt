@@ -5,6 +5,8 @@
 #[cfg(test)]
 mod builds;
 #[cfg(test)]
+mod loaded;
+#[cfg(test)]
 mod maps;
 #[cfg(test)]
 mod runs;
