@@ -175,7 +175,7 @@ fn judge<R: Wait>(
 fn four_threads(rt: HostRuntime) -> Result<(), Fail> {
     let alloc = rt.alloc();
     let (index, passes) = SharedMap::record(alloc, OPTIONS, THREADS)?;
-    let done = run(&rt, alloc, &index, passes, 400, 1)?;
+    let done = run(&rt, alloc, &index, passes, 250, 1)?;
     let (fault, _) = judge(&rt, alloc, &index, &done.receipts)?;
     assert_eq!(rt; (fault, done.at_once), ((0, 0), 0));
     let trace = index.close_record(done.passes)?;
@@ -185,7 +185,7 @@ fn four_threads(rt: HostRuntime) -> Result<(), Fail> {
 
 // How many rounds each thread makes, the most events in a holding of the lock, and whether all gets and ranges are read
 // at once: not if they may meet an open change.
-const PLANS: [(u64, u32, bool); 2] = [(500, WHOLE, true), (100, 3, false)];
+const PLANS: [(u64, u32, bool); 2] = [(400, WHOLE, true), (100, 3, false)];
 
 #[test]
 fn reads_by_threads(rt: HostRuntime) -> Result<(), Fail> {
