@@ -46,6 +46,7 @@ fn commits_that_the_index_has_left_out(rt: HostRuntime) -> Result<(), Fail> {
     let mut logger = new_logger(rt.alloc(), Memory::new(rt.alloc()))?;
     let written = logger.write(&Door::new(&index, &rt, 1));
     assert!(rt; matches!(written, Err(LoggerError::Fed(Refusal::Behind(1)))));
+    assert!(rt; logger.give_up_rows().is_ok());
     Ok(())
 }
 

@@ -64,10 +64,8 @@ fn reads_of_a_map(rt: HostRuntime) -> Result<(), Fail> {
     assert_eq!(rt; ends(&map), Ok((5, 4)));
     let bounds = (Bound::Excluded(KEYS[0]), Bound::Included(KEYS[2]));
     assert_eq!(rt; walked_back(&map, bounds), Ok((2, 4)));
-    let pairs = map.pairs(b"apr", 2, &[0]);
-    assert_eq!(rt; pairs.map(|pairs| pairs.len()), Ok(2));
-    let pairs = map.pairs_back(Some(b"b"), 9, &[0]);
-    assert_eq!(rt; pairs.map(|pairs| pairs.len()), Ok(4));
+    assert_eq!(rt; map.pairs(b"apr", 2, &[0])?.len(), 2);
+    assert_eq!(rt; map.pairs_back(Some(b"b"), 9, &[0])?.len(), 4);
     Ok(())
 }
 

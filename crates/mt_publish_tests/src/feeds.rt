@@ -62,14 +62,22 @@ fn shown(reader: &mut ViewReader) -> Result<(u64, u64, u128, u64), Refusal> {
     ))
 }
 
+fn append_all<W: Wait + Drop>(
+    publisher: &mut Publisher<W>,
+    deltas: &[Delta],
+) -> Result<(), Refusal> {
+    for delta in deltas {
+        publisher.append(delta)?;
+    }
+    Ok(())
+}
+
 #[test]
 fn published_view(rt: HostRuntime) -> Result<(), Fail> {
     let alloc = rt.alloc();
     let (mut publisher, mut readers) = Publisher::start(alloc, &rt, everything(alloc)?, 1)?;
     let mut reader = readers.pop().ok_or("reader")?;
-    for delta in two_deltas(&rt, alloc)? {
-        publisher.append(&delta)?;
-    }
+    append_all(&mut publisher, &two_deltas(&rt, alloc)?)?;
     assert_eq!(rt; shown(&mut reader), Ok((0, 0, 0, 0)));
     publisher.publish()?;
     assert_eq!(rt; shown(&mut reader), Ok((2, 2, 3, 1)));

@@ -134,13 +134,10 @@ fn run<R: Wait + Threads + Sync>(
 ) -> Result<Done, Fail> {
     let (key, test) = (Bytes::new(), RowTest::Any);
     let spec = ViewSpec::Prefix { key, test };
-    let first = passes.get_mut(0).ok_or("first")?;
-    let _ = ask(
-        alloc,
-        &mut Door::new(index, rt, 1),
-        first,
-        Request::Build { spec },
-    )?;
+    let mut last = passes.pop().ok_or("pass")?;
+    let build = Request::Build { spec };
+    let _ = ask(alloc, &mut Door::new(index, rt, 1), &mut last, build)?;
+    passes.push(last)?;
     let worked = thread::map_vec(
         rt,
         passes,

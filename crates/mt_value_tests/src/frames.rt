@@ -135,8 +135,8 @@ fn are_answered(alloc: Global, responses: &[Response], frame: &[u8]) -> Result<b
 #[test]
 fn wire_session(rt: HostRuntime) -> Result<(), Fail> {
     let queries = asked(rt.alloc())?;
-    let read = read(rt.alloc(), ASKED)?;
-    assert!(rt; read.is_some_and(|frame| frame.messages.as_slice() == queries.as_slice()));
+    let frame = read(rt.alloc(), ASKED)?.ok_or("frame")?;
+    assert!(rt; frame.messages.as_slice() == queries.as_slice());
     assert!(rt; are_written(rt.alloc(), WireVersion::One, &queries, ASKED)?);
     assert!(rt; are_answered(rt.alloc(), &answered(rt.alloc())?, ANSWERED)?);
     Ok(())
