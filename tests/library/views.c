@@ -280,6 +280,67 @@ static void window(void) {
     ends("window");
 }
 
+/* The key of a number: eight bytes, or sixteen, of which the first eight are those of fifteen other numbers. */
+static size_t key_of(unsigned number, int is_long, unsigned char *key) {
+    unsigned first = is_long ? number / 16 : number;
+    memset(key, 0, 16);
+    key[6] = (unsigned char)(first >> 8);
+    key[7] = (unsigned char)first;
+    key[14] = (unsigned char)(number >> 8);
+    key[15] = (unsigned char)number;
+    return is_long ? 16 : 8;
+}
+
+/* Puts a row for each number below `many`, and then removes each of them, `step` on from the last one. */
+static void put_and_remove(rowanspan *index, int is_long, unsigned many, unsigned step) {
+    unsigned char key[16];
+    unsigned count;
+    for (count = 0; count < many; count++) {
+        WANT_SAME(rowanspan_put(index, key, key_of(count, is_long, key), NULL, 0, NULL), ROWANSPAN_OK);
+    }
+    for (count = 0; count < many; count++) {
+        size_t length = key_of(count * step % many, is_long, key);
+        WANT_SAME(rowanspan_remove(index, key, length, NULL), ROWANSPAN_OK);
+    }
+}
+
+/* All nodes but the first two come back if the rows are removed in the order of their keys, against it, or in steps that
+ * have no common divisor with their number. */
+static void removed_in_any_order(void) {
+    static const unsigned steps[] = {1, 600, 7, 331};
+    unsigned at;
+    begins();
+    for (at = 0; at < 8; at++) {
+        rowanspan *index = opened(1, 16, 0);
+        put_and_remove(index, at % 2, 601, steps[at / 2]);
+        WANT_SAME(rowanspan_nodes(index), 2);
+        rowanspan_close(index);
+    }
+    ends("removed in any order");
+}
+
+/* A stretch of rows is removed. After each remove a tidy may find an interior with one child, and no empty node. */
+static void removed_stretch(void) {
+    rowanspan *index = opened(1, 16, 0);
+    unsigned char key[16];
+    unsigned number;
+    begins();
+    for (number = 0; number < 200; number++) {
+        WANT_SAME(rowanspan_put(index, key, key_of(number, 1, key), NULL, 0, NULL), ROWANSPAN_OK);
+    }
+    for (number = 40; number < 160; number++) {
+        uint64_t tidied = 99;
+        size_t length = key_of(number, 1, key);
+        WANT_SAME(rowanspan_remove(index, key, length, NULL), ROWANSPAN_OK);
+        WANT_SAME(rowanspan_tidy(index, key, length, &tidied), ROWANSPAN_OK);
+        WANT(tidied == ROWANSPAN_TIDIED_NOTHING || tidied == ROWANSPAN_TIDIED_LONE_CHILD ||
+             tidied == ROWANSPAN_TIDIED_LONE_ROOT_CHILD);
+    }
+    WANT_SAME(rowanspan_len(index), 80);
+    rowanspan_close(index);
+    ends("removed stretch");
+}
+
 int main(void) {
     views();
     builds();
@@ -290,5 +351,7 @@ int main(void) {
     feeds();
     tidies();
     window();
+    removed_in_any_order();
+    removed_stretch();
     return all_told();
 }

@@ -1,7 +1,6 @@
-//! Tests of the logger, and of rows that are loaded, by the public surfaces of `mt_logger` and `mt_load`. There is nothing else here.
+//! Tests of `mt_logger` by its public surface. There is nothing else here: a crate of its own, so that `mt_logger` is
+//! proved once.
 #![tactic(auto)]
 
-#[cfg(test)]
-mod loaded;
 #[cfg(test)]
 mod logged;

@@ -1,27 +1,23 @@
-//! Published views of an index: its feed, appended and published; and publishers that start from a copy of a view.
+//! Published views of an index: its feed, appended and published, and a publisher that starts from a copy of a view.
 
-ghost use Rattle.mt_index.specs.Alone.{IsIdle};
-
-use crate::plain::{Changes, everything, first_key};
-use crate::threads::{CHANGES, Seen, read_beside};
 use bytes::Bytes;
-use mt_index::machine::Machine;
+use mt_asked::borrowed::{Set, Spec, Test};
 use mt_index::options::Options;
 use mt_publish::follow::follow;
 use mt_publish::publisher::{Publisher, ViewReader};
-use mt_shared::asking::ask;
+use mt_shared::client::Client;
 use mt_shared::door::Door;
 use mt_shared::map::SharedMap;
-use mt_shared::pass::Pass;
-use mt_types::event::{Answer, Request};
-use mt_types::items::Items;
+use mt_types::key::Key;
 use mt_types::refusal::Refusal;
-use mt_types::row::{Delta, Sets};
-use mt_types::view::{Page, RowTest, ViewSpec};
+use mt_types::row::Delta;
+use mt_types::view::{RowTest, ViewSpec};
 use mt_view::state::ViewState;
 use std::alloc::Global;
 use std::sync::Wait;
 use std::test::Fail;
+
+type Guest<'a, W> = Client<Door<'a, W>>;
 
 const OPTIONS: Options = Options {
     columns: 1,
@@ -30,43 +26,44 @@ const OPTIONS: Options = Options {
     tidies: true,
 };
 
-// The keys and columns of the first two of `Changes::OfNewKeys`.
-const ONE: &[u8] = b"\0\0\0\0\0\0\0\x01";
-
-const TWO: &[u8] = b"\0\0\0\0\0\0\0\x02";
-
-fn sets_of(alloc: Global, value: &'static [u8]) -> Result<Sets, Refusal> {
-    Ok(Items::from_vec(Vec::from_array(alloc, [(0, Bytes::from_static(value))])?))
+// A view of all rows, of which there are none yet.
+fn everything(alloc: Global) -> Result<ViewState, Refusal> {
+    let (key, test) = (Bytes::new(), RowTest::Any);
+    Ok(ViewState::open(alloc, 1, ViewSpec::Prefix { key, test })?)
 }
 
-// A put of column 0.
-fn put_alone(
-    alloc: Global,
-    machine: &mut Machine,
-    key: &'static [u8],
-    value: &'static [u8],
-) -> Result<(), Refusal>
-    requires { IsIdle machine.old }
-    ensures { IsIdle machine.new }
-{
-    let put = Request::Put {
-        key: Bytes::from_static(key),
-        sets: sets_of(alloc, value)?,
-    };
-    let _ = machine.do_alone(alloc, put)?;
+// Puts two rows, whose column is their key.
+fn put_two<W: Wait>(client: &mut Guest<'_, W>) -> Result<(), Refusal> {
+    for key in [b"\x01", b"\x02"] {
+        let _ = client.put(key, &[Set::new(0, key)])?;
+    }
     Ok(())
 }
 
 // The deltas of two puts.
-fn two_deltas(alloc: Global) -> Result<Vec<Delta>, Refusal> {
-    let mut machine = Machine::open(alloc, OPTIONS)?;
-    put_alone(alloc, &mut machine, b"\x01", b"\x01")?;
-    put_alone(alloc, &mut machine, b"\x02", b"\x02")?;
-    machine.feed(alloc, 0, 10)
+fn two_deltas<W: Wait>(rt: &W, alloc: Global) -> Result<Vec<Delta>, Fail> {
+    let (map, mut passes) = SharedMap::start(alloc, OPTIONS, 1)?;
+    let pass = passes.pop().ok_or("pass")?;
+    let mut client = Client::new(alloc, Door::new(&map, rt, 1), pass);
+    put_two(&mut client)?;
+    Ok(client.feed(0, 10)?)
 }
 
-fn append_all<R: Wait + Drop>(
-    publisher: &mut Publisher<R>,
+// What a page shows: the number of commits, how many rows there are, their sum, and the version of the first.
+fn shown(reader: &mut ViewReader) -> Result<(u64, u64, u128, u64), Refusal> {
+    let page = reader.read(&Key::new(Bytes::new())?, 1000)?;
+    let sum = page.sums.as_slice().first().copied().unwrap_or(0);
+    let first = page.rows.as_slice().first();
+    Ok((
+        page.at,
+        page.count,
+        sum,
+        first.map_or(0, |(_, row)| row.version),
+    ))
+}
+
+fn append_all<W: Wait + Drop>(
+    publisher: &mut Publisher<W>,
     deltas: &[Delta],
 ) -> Result<(), Refusal> {
     for delta in deltas {
@@ -75,121 +72,62 @@ fn append_all<R: Wait + Drop>(
     Ok(())
 }
 
-fn read_all(reader: &mut ViewReader) -> Result<Page, Refusal> {
-    reader.read(&first_key()?, 1000)
-}
-
-// Whether the page has at this place a row of this key, version and column.
-fn has_row(page: &Page, place: usize, key: &[u8], version: u64, column: &[u8]) -> bool {
-    match page.rows.as_slice().get(place) {
-        Some((at, row)) => {
-            at.as_slice() == key
-                && row.version == version
-                && row.columns.len() == 1
-                && row.columns.get_or_empty(0) == column
-        }
-        None => false,
-    }
-}
-
-// Whether the page is at the number `at`, and has `count` rows and this sum.
-fn comes_to(page: &Page, at: u64, count: u64, sum: u128) -> bool {
-    page.at == at && page.count == count && page.sums.as_slice() == [sum].as_slice()
-}
-
 #[test]
 fn published_view(rt: HostRuntime) -> Result<(), Fail> {
     let alloc = rt.alloc();
-    let deltas = two_deltas(alloc)?;
     let (mut publisher, mut readers) = Publisher::start(alloc, &rt, everything(alloc)?, 1)?;
-    let mut reader = readers.pop().expect(&rt, "one reader");
-    append_all(&mut publisher, deltas.as_slice())?;
-    assert!(rt; comes_to(&read_all(&mut reader)?, 0, 0, 0));
+    let mut reader = readers.pop().ok_or("reader")?;
+    append_all(&mut publisher, &two_deltas(&rt, alloc)?)?;
+    assert_eq!(rt; shown(&mut reader), Ok((0, 0, 0, 0)));
     publisher.publish()?;
-    let page = read_all(&mut reader)?;
-    assert!(rt; comes_to(&page, 2, 2, 3));
-    assert!(rt; has_row(&page, 0, b"\x01", 1, b"\x01") && has_row(&page, 1, b"\x02", 2, b"\x02"));
+    assert_eq!(rt; shown(&mut reader), Ok((2, 2, 3, 1)));
+    drop(publisher);
+    assert_eq!(rt; shown(&mut reader), Err(Refusal::NoSuchView));
     Ok(())
 }
 
-// Puts column 0 of the row under a key.
-fn put_one<R: Wait>(
-    alloc: Global,
-    door: &mut Door<'_, R>,
-    pass: &mut Pass,
-    key: &'static [u8],
-    value: &'static [u8],
-) -> Result<(), Refusal> {
-    let (key, sets) = (Bytes::from_static(key), sets_of(alloc, value)?);
-    let _ = ask(alloc, door, pass, Request::Put { key, sets })?;
-    Ok(())
+// Puts two rows, builds a view of all, and copies its state.
+fn copy_of_two<W: Wait>(alloc: Global, client: &mut Guest<'_, W>) -> Result<ViewState, Refusal> {
+    put_two(client)?;
+    let (key, test) = (b"", Test::Any);
+    let view = client.build(&Spec::Prefix { key, test })?.value;
+    Ok(client.shared.view_copy(alloc, view)?.1)
 }
 
-// Puts two rows, builds a view of everything, and copies its state.
-fn copy_of_two<R: Wait>(
-    alloc: Global,
-    door: &mut Door<'_, R>,
-    pass: &mut Pass,
-) -> Result<ViewState, Refusal> {
-    put_one(alloc, door, pass, ONE, ONE)?;
-    put_one(alloc, door, pass, TWO, TWO)?;
-    let spec = ViewSpec::Range {
-        lo: Bytes::new(),
-        hi: None,
-        test: RowTest::Any,
-    };
-    let Answer::Built(view) = ask(alloc, door, pass, Request::Build { spec })?.answer else {
-        return Err(Refusal::NoSuchView);
-    };
-    let (_, state) = door.view_copy(alloc, view)?;
-    Ok(state)
+// Puts a third row, and removes the first.
+fn change<W: Wait>(client: &mut Guest<'_, W>) -> Result<(), Refusal> {
+    let _ = client.put(b"\x03", &[Set::new(0, b"\x05")])?;
+    let _ = client.remove(b"\x01")?;
+    Ok(())
 }
 
 #[test]
 fn follows_from_a_copy(rt: HostRuntime) -> Result<(), Fail> {
     let alloc = rt.alloc();
-    let (index, mut passes) = SharedMap::start(alloc, OPTIONS, 1)?;
-    let mut pass = passes.pop().expect(&rt, "one pass");
-    let mut door = Door::new(&index, &rt, 1);
-    let state = copy_of_two(alloc, &mut door, &mut pass)?;
+    let (map, mut passes) = SharedMap::start(alloc, OPTIONS, 1)?;
+    let pass = passes.pop().ok_or("pass")?;
+    let mut client = Client::new(alloc, Door::new(&map, &rt, 1), pass);
+    let state = copy_of_two(alloc, &mut client)?;
     let (mut publisher, mut readers) = Publisher::start(alloc, &rt, state, 1)?;
-    let mut reader = readers.pop().expect(&rt, "one reader");
-    put_one(alloc, &mut door, &mut pass, b"\x03", b"\x05")?;
-    let key = Bytes::from_static(ONE);
-    let _ = ask(alloc, &mut door, &mut pass, Request::Remove { key })?;
-    assert!(rt; comes_to(&read_all(&mut reader)?, 2, 2, 3));
-    assert_eq!(rt; follow(alloc, &door, &mut publisher, 1000)?, 2);
-    let page = read_all(&mut reader)?;
-    assert!(rt; comes_to(&page, 4, 2, 7));
-    assert!(rt; has_row(&page, 0, TWO, 2, TWO) && has_row(&page, 1, b"\x03", 3, b"\x05"));
-    assert_eq!(rt; follow(alloc, &door, &mut publisher, 1000)?, 0);
-    assert_eq!(rt; publisher.at(), 4);
-    Ok(())
-}
-
-#[test]
-fn counts_never_fall_from_a_copy(rt: HostRuntime) -> Result<(), Fail> {
-    let alloc = rt.alloc();
-    let (index, mut passes) = SharedMap::start(alloc, OPTIONS, 1)?;
-    let mut pass = passes.pop().expect(&rt, "one pass");
-    let mut door = Door::new(&index, &rt, 1);
-    let state = copy_of_two(alloc, &mut door, &mut pass)?;
-    let seen = read_beside(&rt, alloc, state, Changes::OfNewKeys, 1)?;
-    assert_eq!(rt; seen, Seen::of_new_keys(CHANGES + 2));
+    let mut reader = readers.pop().ok_or("reader")?;
+    change(&mut client)?;
+    assert_eq!(rt; shown(&mut reader), Ok((2, 2, 3, 1)));
+    assert_eq!(rt; follow(alloc, &client.shared, &mut publisher, 1000), Ok(2));
+    assert_eq!(rt; shown(&mut reader), Ok((4, 2, 7, 2)));
+    assert_eq!(rt; follow(alloc, &client.shared, &mut publisher, 1000), Ok(0));
     Ok(())
 }
 
 #[test]
 fn a_gap_is_refused(rt: HostRuntime) -> Result<(), Fail> {
     let alloc = rt.alloc();
-    let (index, mut passes) = SharedMap::start(alloc, OPTIONS, 1)?;
-    let mut pass = passes.pop().expect(&rt, "one pass");
-    let mut door = Door::new(&index, &rt, 1);
-    for _ in 0..4 {
-        put_one(alloc, &mut door, &mut pass, b"\x01", b"\x01")?;
-    }
+    let (map, mut passes) = SharedMap::start(alloc, OPTIONS, 1)?;
+    let pass = passes.pop().ok_or("pass")?;
+    let mut client = Client::new(alloc, Door::new(&map, &rt, 1), pass);
+    put_two(&mut client)?;
+    put_two(&mut client)?;
     let (mut publisher, _readers) = Publisher::start(alloc, &rt, everything(alloc)?, 1)?;
-    let followed = follow(alloc, &door, &mut publisher, 1000);
+    let followed = follow(alloc, &client.shared, &mut publisher, 1000);
     assert_eq!(rt; followed, Err(Refusal::Behind(2)));
     Ok(())
 }

@@ -1,5 +1,5 @@
-//! Tests of the machine by its own calls, of passes, and of a door that two threads share. There is nothing else here: a
-//! crate of its own, so that `mt_shared` is proved once.
+//! Tests of clients, doors and moments of `mt_shared` by its public surface. There is nothing else here: a crate of its
+//! own, so that `mt_shared` is proved once.
 #![tactic(auto)]
 
 #[cfg(test)]
@@ -9,8 +9,4 @@ mod doors;
 #[cfg(test)]
 mod holding;
 #[cfg(test)]
-mod machines;
-#[cfg(test)]
 mod moments;
-#[cfg(test)]
-mod passes;

@@ -1,4 +1,4 @@
-//! The arena by example: every number taken, and numbers freed and given again.
+//! The arena by example: every number is taken, and a number that is freed is taken again.
 
 use mt_arena::{Arena, Node};
 use mt_interior::Head;
@@ -17,9 +17,7 @@ fn every_number_is_taken(rt: HostRuntime) -> Result<(), Fail> {
     for _ in 1..MAX_NODES {
         let _ = arena.spare(head())?;
     }
-    assert_eq!(rt; arena.free_numbers(), 0);
     assert_eq!(rt; arena.spare(head()), Err(Refusal::ArenaFull));
-    assert_eq!(rt; arena.free_numbers(), 0);
     Ok(())
 }
 
@@ -28,9 +26,6 @@ fn spare_after_a_retire(rt: HostRuntime) -> Result<(), Fail> {
     let mut arena = Arena::open(rt.alloc(), head())?;
     let gone = arena.spare(head())?;
     arena.retire(gone, 3);
-    let other = arena.spare(head())?;
-    assert!(rt; other != gone);
-    assert_eq!(rt; arena.free_numbers(), 1_048_573);
     arena.free_first_retired();
     assert_eq!(rt; arena.spare(head()), Ok(gone));
     Ok(())

@@ -5,17 +5,9 @@
 #[cfg(test)]
 mod arenas;
 #[cfg(test)]
-mod columns;
-#[cfg(test)]
 mod frames;
 #[cfg(test)]
-mod interiors;
-#[cfg(test)]
 mod places;
-#[cfg(test)]
-mod reads;
-#[cfg(test)]
-mod served;
 #[cfg(test)]
 mod values;
 #[cfg(test)]

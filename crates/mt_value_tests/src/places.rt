@@ -1,12 +1,11 @@
-//! Keys whose slices and order were worked out by hand.
+//! Keys whose slices were worked out by hand.
 
 ghost use Rattle.std.specs.Prelude.{◌≡◌, IfOk};
 
 use bytes::Bytes;
-use mt_slice::{SLICE_BYTES, compare, rest_after, slice_at};
+use mt_slice::{SLICE_BYTES, rest_after, slice_at};
 use mt_types::key::Key;
 use mt_types::refusal::Refusal;
-use std::cmp::Ordering;
 use std::test::Fail;
 
 // The bytes of a key, a layer, and there its slice, the number of its class, and what follows.
@@ -20,15 +19,6 @@ const CUTS: [Cut; 7] = [
     (b"01234567", 0, 0x3031_3233_3435_3637, 8, b""),
     (b"01234567AB", 0, 0x3031_3233_3435_3637, 9, b"AB"),
     (b"01234567AB", 1, 0x4142_0000_0000_0000, 2, b""),
-];
-
-// Two keys, and how they compare.
-const ORDERED: [(&'static [u8], &'static [u8], Ordering); 5] = [
-    (b"", b"\x00", Ordering::Less),
-    (b"a", b"a\x00", Ordering::Less),
-    (b"01234567", b"01234567A", Ordering::Less),
-    (b"01234567B", b"01234567AB", Ordering::Greater),
-    (b"01234567AB", b"01234567AB", Ordering::Equal),
 ];
 
 fn key(bytes: &'static [u8]) -> Result<Key, Refusal>
@@ -52,14 +42,6 @@ fn is_cut_so(cut: &Cut) -> Result<bool, Refusal> {
 fn keys_are_cut(rt: HostRuntime) -> Result<(), Fail> {
     for cut in &CUTS {
         assert!(rt; is_cut_so(cut)?);
-    }
-    Ok(())
-}
-
-#[test]
-fn keys_are_ordered(rt: HostRuntime) -> Result<(), Fail> {
-    for (a, b, order) in &ORDERED {
-        assert!(rt; compare(&key(*a)?, &key(*b)?) == *order);
     }
     Ok(())
 }
