@@ -68,7 +68,8 @@ fn version(alloc: Global, machine: &Machine) -> Result<u64, Refusal> {
 #[test]
 fn run_and_reads(rt: HostRuntime) -> Result<(), Fail> {
     let alloc = rt.alloc();
-    let (machine, outcomes) = Machine::run(alloc, Options::default(), &events(alloc)?)?;
+    let events = events(alloc)?;
+    let (machine, outcomes) = Machine::run(alloc, Options::default(), &events)?;
     assert_eq!(rt; outcomes.get(8), Some(&Outcome::Commit(1)));
     assert_eq!(rt; version(alloc, &machine), Ok(1));
     Ok(())

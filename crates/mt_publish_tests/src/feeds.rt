@@ -75,9 +75,10 @@ fn append_all<W: Wait + Drop>(
 #[test]
 fn published_view(rt: HostRuntime) -> Result<(), Fail> {
     let alloc = rt.alloc();
+    let deltas = two_deltas(&rt, alloc)?;
     let (mut publisher, mut readers) = Publisher::start(alloc, &rt, everything(alloc)?, 1)?;
     let mut reader = readers.pop().ok_or("reader")?;
-    append_all(&mut publisher, &two_deltas(&rt, alloc)?)?;
+    append_all(&mut publisher, &deltas)?;
     assert_eq!(rt; shown(&mut reader), Ok((0, 0, 0, 0)));
     publisher.publish()?;
     assert_eq!(rt; shown(&mut reader), Ok((2, 2, 3, 1)));

@@ -30,12 +30,15 @@ fn after_b(alloc: Global, moment: &Moment<'_>) -> Result<u64, Refusal> {
     };
     let start = Key::new(Bytes::from_static(b"b"))?;
     let mut walk = Rows::of(alloc, machine, &start)?;
-    Ok(walk.next()?.map_or(0, |row| row.version))
+    Ok(match walk.next()? {
+        Some(row) => row.version,
+        None => 0,
+    })
 }
 
 // The first column of the row of a key, borrowed.
-fn column<'m>(moment: &'m Moment<'_>, key: &[u8]) -> Option<&'m [u8]> {
-    let row = moment.machine()?.row(key)?;
+fn column<'m>(moment: &'m Moment<'_>, key: &Key) -> Option<&'m [u8]> {
+    let row = moment.machine()?.row(key.as_slice())?;
     Some(row.columns.get_or_empty(0))
 }
 
@@ -47,7 +50,8 @@ fn a_moment_of_rows(rt: HostRuntime) -> Result<(), Fail> {
     fill(&mut client)?;
     let moment = client.shared.moment();
     assert_eq!(rt; after_b(rt.alloc(), &moment), Ok(2));
-    assert_eq!(rt; column(&moment, b"apple"), Some(b"red".as_slice()));
+    let key = Key::new(Bytes::from_static(b"apple"))?;
+    assert_eq!(rt; column(&moment, &key), Some(b"red".as_slice()));
     let views = moment.views().count();
     assert_eq!(rt; (moment.commits(), moment.len(), views), (2, 2, 1));
     Ok(())

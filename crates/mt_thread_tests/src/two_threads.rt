@@ -59,9 +59,15 @@ fn get_slowly<R: Wait + Clock>(
     rt: &R,
     alloc: Global,
     index: &SharedMap,
-    mut gate: Meets<'_, R>,
+    flags: (&AtomicBool, &AtomicBool),
     mut pass: Pass,
 ) -> Result<(Pass, Got), Refusal> {
+    let mut gate = Meets {
+        clock: rt,
+        begun: flags.0,
+        put: flags.1,
+        seen: false,
+    };
     let (key, columns) = (Bytes::from_static(KEY), Items::new(alloc));
     let mut door = Door::new(index, rt, 1);
     let get = Request::Get { key, columns };
@@ -99,15 +105,9 @@ fn meet<R: Wait + Threads + Clock + Sync>(
     let two = passes.pop().ok_or("two")?;
     let one = passes.pop().ok_or("one")?;
     let (begun, put) = (AtomicBool::new(false), AtomicBool::new(false));
-    let gate = Meets {
-        clock: rt,
-        begun: &begun,
-        put: &put,
-        seen: false,
-    };
     let (gotten, told) = join(
         rt,
-        || get_slowly(rt, alloc, index, gate, one),
+        || get_slowly(rt, alloc, index, (&begun, &put), one),
         || put_and_tell(rt, alloc, index, (&begun, &put), two),
     );
     let (one, got) = gotten?;
@@ -166,18 +166,28 @@ fn get_then_tell<R: Wait + Clock>(
     matches!(&got, Ok(at) if at.value.is_some())
 }
 
+// Whether the putter saw that the getter had got, and whether that found the row.
+fn stay_and_get<R: Wait + Threads + Clock + Sync>(
+    rt: &R,
+    alloc: Global,
+    index: &SharedMap,
+    one: Pass,
+    two: Pass,
+) -> (bool, bool) {
+    let (put, got) = (AtomicBool::new(false), AtomicBool::new(false));
+    join(
+        rt,
+        || put_and_stay(rt, alloc, index, (&put, &got), one),
+        || get_then_tell(rt, alloc, index, (&put, &got), two),
+    )
+}
+
 #[test]
 fn door_lets_go(rt: HostRuntime) -> Result<(), Fail> {
     let alloc = rt.alloc();
     let (index, mut passes) = SharedMap::start(alloc, Options::default(), 2)?;
     let two = passes.pop().ok_or("two")?;
     let one = passes.pop().ok_or("one")?;
-    let (put, got) = (AtomicBool::new(false), AtomicBool::new(false));
-    let met = join(
-        &rt,
-        || put_and_stay(&rt, alloc, &index, (&put, &got), one),
-        || get_then_tell(&rt, alloc, &index, (&put, &got), two),
-    );
-    assert_eq!(rt; met, (true, true));
+    assert_eq!(rt; stay_and_get(&rt, alloc, &index, one, two), (true, true));
     Ok(())
 }

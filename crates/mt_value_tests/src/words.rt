@@ -62,7 +62,21 @@ fn version_words(rt: HostRuntime) {
     assert_eq!(rt; words, wanted);
 }
 
-// Bits 5 to 7 of a word are zero. One flag raises its counter, and a counter that has its last number is spent.
+#[test]
+fn one_flag_raises_its_counter(rt: HostRuntime) {
+    let mut version = Version::new_border();
+    version.lock();
+    assert_eq!(rt; version.set_inserting(), Ok(()));
+    version.unlock_changed();
+    let inserted = version.to_u128();
+    version.lock();
+    assert_eq!(rt; version.set_splitting(), Ok(()));
+    version.unlock_changed();
+    let words = [inserted, version.to_u128()];
+    assert_eq!(rt; words, [0x110, 0x1_0000_0000_0000_0110]);
+}
+
+// Bits 5 to 7 of a word are zero. Both counters have their last number but one, and then their last.
 #[test]
 fn words_of_versions(rt: HostRuntime) {
     for word in [0x20, 0x40, 0x80] {
@@ -71,13 +85,10 @@ fn words_of_versions(rt: HostRuntime) {
     let last = Version::from_u128(0xffff_ffff_ffff_fffe_ffff_ffff_ffff_fe11);
     let mut version = last.expect(&rt, "bits 5 to 7 are zero");
     assert_eq!(rt; version.set_inserting(), Ok(()));
-    version.unlock_changed();
-    let inserted = version.to_u128();
-    assert_eq!(rt; inserted, 0xffff_ffff_ffff_fffe_ffff_ffff_ffff_ff10);
-    version.lock();
-    assert_eq!(rt; version.set_inserting(), Err(SpentCounter));
     assert_eq!(rt; version.set_splitting(), Ok(()));
     version.unlock_changed();
-    let split = version.to_u128();
-    assert_eq!(rt; split, 0xffff_ffff_ffff_ffff_ffff_ffff_ffff_ff10);
+    assert_eq!(rt; version.set_inserting(), Err(SpentCounter));
+    assert_eq!(rt; version.set_splitting(), Err(SpentCounter));
+    let word = version.to_u128();
+    assert_eq!(rt; word, 0xffff_ffff_ffff_ffff_ffff_ffff_ffff_ff10);
 }
