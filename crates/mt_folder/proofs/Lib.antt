@@ -1,0 +1,3 @@
+-- The rows of logs without a seal, and those of the files of a folder.
+mod FolderLemmas
+mod SourceLemmas

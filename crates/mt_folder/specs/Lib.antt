@@ -1,0 +1,5 @@
+-- What the logs of a folder say, which of them have its rows, and which rows.
+pub mod Logs
+pub mod Files
+pub mod Sides
+pub mod Laws

@@ -1,0 +1,80 @@
+//! Why the rows of a folder can't be read.
+
+use mt_journal::error::JournalError;
+use mt_types::refusal::Refusal;
+use std::alloc::AllocError;
+use std::io::ErrorKind;
+use std::{fmt, io};
+use thiserror::Error;
+
+/// A file of a folder. The logs of generations 0, 2, 4 and so on are in the first, the others in the second.
+#[derive(Clone, Copy, Debug, PartialEq, Eq)]
+pub enum LogFile {
+    /// `even-wal`.
+    Even,
+    /// `odd-wal`.
+    Odd,
+}
+
+impl LogFile {
+    /// Returns the other file of the folder.
+    pub fn other(self) -> LogFile {
+        match self {
+            LogFile::Even => LogFile::Odd,
+            LogFile::Odd => LogFile::Even,
+        }
+    }
+
+    /// Returns the name of the file without `-wal`, which is the name of the file with its lock.
+    pub fn stem(self) -> &'static str {
+        match self {
+            LogFile::Even => "even",
+            LogFile::Odd => "odd",
+        }
+    }
+}
+
+impl fmt::Display for LogFile {
+    fn fmt<W: fmt::Write>(&self, f: &mut fmt::Formatter<W>) -> fmt::Result {
+        write!(f, "{}-wal", self.stem())
+    }
+}
+
+/// Why the rows of a folder can't be read.
+#[derive(Debug, Error, Drop)]
+pub enum FolderError {
+    /// The folder or its files can't be made, opened or read.
+    #[error("the data folder: {0}")]
+    Io(#[from] io::Error),
+    /// Another process has it.
+    #[error("the data folder is in use by another process")]
+    Busy,
+    /// A log was not opened.
+    #[error("the data folder: {file}: {error}")]
+    Journal {
+        file: LogFile,
+        error: JournalError,
+    },
+    /// Commits that were durable are missing.
+    #[error("the data folder: {file}: commits after {commit} are missing that were durable: the frame at byte {place} says so")]
+    Lost {
+        file: LogFile,
+        commit: u64,
+        place: usize,
+    },
+    /// The log begins after this commit, and has no rows of before.
+    #[error("the data folder: {file}: the log begins after commit {commit}, and what came before is missing")]
+    Begins {
+        file: LogFile,
+        commit: u64,
+    },
+    /// The rows can't be made.
+    #[error("the data folder: {0}")]
+    Refused(#[from] Refusal),
+}
+
+impl From<AllocError> for FolderError {
+    fn from(_: AllocError) -> FolderError {
+        FolderError::Io(ErrorKind::OutOfMemory.into())
+    }
+}
