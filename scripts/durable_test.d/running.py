@@ -62,6 +62,7 @@ class Setting:
 
     serve: str
     check: Optional[str]
+    reads: Optional[str]
     folder: Path
     kills: int
     seed: int

@@ -21,7 +21,7 @@ VERSION = (TOP / "VERSION").read_text(encoding="utf-8").strip()
 NAME = f"rowanspan-{VERSION}"
 TARBALL = DIST / f"{NAME}-x86_64-linux.tar.gz"
 WHEEL = TOP / "scripts" / "wheel"
-PROGRAMS = ("mtserve", "mtdrive", "mtcheck")
+PROGRAMS = ("mtserve", "mtfolder", "mtdrive", "mtcheck")
 # what others' code is linked into
 LINKED = (*PROGRAMS, notices.LIBRARY)
 LICENCES = ("LICENSE-MIT", "LICENSE-APACHE")

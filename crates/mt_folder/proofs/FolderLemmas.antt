@@ -1,17 +1,15 @@
 -- The rows that logs without a seal leave: those of their commits alone.
-use Rattle.std.proofs.Common.{◌≡◌, ◌∙◌, ◌∷◌, ◌+◌, ◌||◌, ℕ, Bool, true, false, List, [], ap, refl, rules, arith, sym, subst, IsTrue, if◌then◌else◌, take}
+use Rattle.std.proofs.Common.{◌≡◌, ◌∙◌, ◌∷◌, ◌+◌, ◌||◌, ℕ, Bool, true, false, List, [], ap, refl, rules, arith, sym, IsTrue, if◌then◌else◌, take}
 use Rattle.std.specs.List.{list_any}
 use Rattle.std.specs.FinMap.{empty}
 use Rattle.mt_types.specs.Rows.{Rows, after}
-use Rattle.mt_types.specs.declared.row.Change.{Change}
 use Rattle.mt_frame.specs.declared.entry.Entry.{Entry}
 use Rattle.mt_frame.specs.declared.entry.Entry.TheVariants.{Header, Commits as Group, Rows as Listed, Sealed, Closed}
 use Rattle.mt_replay.specs.Redo.{entries_redone, is_seal, number_after, records_redone}
 use Rattle.mt_replay.specs.Reading.{counted, seals_next}
 use Rattle.mt_replay.specs.RedoLaws.{CommitsAreRedone}
-use Rattle.mt_folder.specs.declared.log.LogRead.{LogRead}
-use Rattle.mt_folder.specs.Logs.{is_whole, last_number, rows_left, Continues}
-use Rattle.mt_folder.specs.Laws.{FirstLogsHaveTheRows, HasCommits, LaterLogsHaveTheRows}
+use Rattle.mt_folder.specs.Logs.{rows_left}
+use Rattle.mt_folder.specs.Laws.{FirstLogsHaveTheRows, LaterLogsHaveTheRows}
 
 -- no seal comes next if there is none
 unsealed_next : (entries : List Entry) → list_any is_seal entries ≡ false → seals_next entries ≡ false

@@ -1,5 +1,5 @@
 -- The rows of logs that were read are those of the files that spell these logs.
-use Rattle.std.proofs.Common.{◌≡◌, ℕ, List, Option, Some, None, IsTrue, refl, sym, subst}
+use Rattle.std.proofs.Common.{◌≡◌, ℕ, List, Option, Some, None, IsTrue, sym, subst}
 use Rattle.mt_folder.specs.declared.log.LogRead.{LogRead}
 use Rattle.mt_folder.specs.declared.reading.RowsRead.{RowsRead}
 use Rattle.mt_folder.specs.declared.source.Source.{Source}

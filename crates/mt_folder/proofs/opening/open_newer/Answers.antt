@@ -1,6 +1,6 @@
 use Rattle.std.proofs.Common.{rules, ◌≡◌, IsTrue, IfOk, Ok, Err, Some}
 use Rattle.mt_folder.specs.declared.source.Source.TheVariants.{Newer}
-use Rattle.mt_folder.specs.Files.{AreRows, IsHonest}
+use Rattle.mt_folder.specs.Files.{AreRows}
 use Rattle.mt_folder.specs.Logs.{is_whole, AreOfSource, HasRows}
 use Rattle.mt_folder.proofs.SourceLemmas as lemmas
 use Rattle.mt_folder.proofs.opening.open_newer.Goals as goal

@@ -1,0 +1,2 @@
+-- How the program ends.
+pub mod Statuses
