@@ -1,4 +1,4 @@
-"""Tests of `rowan info`, `views`, `ping` and `stop`, and of --token-file. test_rowanspan.py runs them."""
+"""Tests of `rowan info`, `views`, `ping`, `stop` and `folder`, and of --token-file. test_rowanspan.py runs them."""
 from __future__ import annotations
 
 import os
@@ -175,6 +175,19 @@ class CommandTest(unittest.TestCase):
             done = subprocess.run([sys.executable, str(SHELL), "ping", "-p", str(server.port)], stdout=full,
                                   stderr=subprocess.PIPE, timeout=SECONDS, check=False)
         self.assertEqual((done.returncode, done.stderr.count(b"\n")), (3, 1))
+
+    def test_the_folder(self) -> None:
+        """`rowan folder` is the program mtfolder, with its words, output and status."""
+        program = self.folder() / "mtfolder"
+        program.write_text('#!/bin/sh\necho "$@"\necho why >&2\nexit 1\n', encoding="ascii")
+        for mode in (0o755, 0o644):
+            program.chmod(mode)
+            with mock.patch.dict(os.environ, {"ROWANSPAN_MTFOLDER": str(program)}):
+                self.assertEqual(run("folder", "verify", "a folder"), (1, "verify a folder\n", "why\n"))
+        with mock.patch.dict(os.environ, {"ROWANSPAN_MTFOLDER": str(program) + "s"}):
+            self.assertEqual(run("folder", "show", "a"),
+                             (3, "", f"rowan: there is no program mtfolder at {program}s\n"))
+        self.assertIn("rowan folder show | verify | rows FOLDER", run("--help")[1])
 
     def test_the_board(self) -> None:
         server = self.stand_in(tokens=TOKENS)

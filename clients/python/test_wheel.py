@@ -23,7 +23,8 @@ import rowanspan
 HERE = Path(__file__).resolve().parent
 TOP = HERE.parents[1]
 VERSION = (TOP / "VERSION").read_text(encoding="ascii").strip()
-LIBRARY, MTSERVE = TOP / "dist" / "librowanspan.so", TOP / "crates" / "mtserve" / "out" / "mtserve"
+LIBRARY = TOP / "dist" / "librowanspan.so"
+MTSERVE, MTFOLDER = (TOP / "crates" / name / "out" / name for name in ("mtserve", "mtfolder"))
 SECONDS = 300.0
 # says with which words it was run, and which signals it ignores: those that this process was started with
 STAND_IN = "#!/bin/sh\necho \"$@\"\ngrep SigIgn: /proc/self/status\n"
@@ -77,12 +78,14 @@ class Folder(unittest.TestCase):
         self.library.write_bytes(b"\x7fELF")
         self.server = self.room / "mtserve"
         self.server.write_text(STAND_IN)
+        self.reader = self.room / "mtfolder"
+        self.reader.write_text('#!/bin/sh\necho "reads $@"\n')
         self.third_party = self.room / "THIRD-PARTY"
         self.third_party.write_text(NOTICES, encoding="utf-8")
 
     def command(self) -> List[str]:
         return [sys.executable, str(TOP / "scripts" / "wheel"), "--library", str(self.library), "--mtserve",
-                str(self.server), "--third-party", str(self.third_party)]
+                str(self.server), "--mtfolder", str(self.reader), "--third-party", str(self.third_party)]
 
     def wheel(self, *words: str) -> Ended:
         return run([*self.command(), *words])
@@ -110,12 +113,13 @@ class WheelTest(Folder):
                                              "line.js", "notation.js")}
         info = f"rowanspan-{VERSION}.dist-info"
         self.assertEqual(set(names), sources | {
-            "rowanspan/py.typed", "rowanspan/librowanspan.so", "rowanspan/bin/mtserve", f"{info}/METADATA",
-            f"{info}/WHEEL", f"{info}/RECORD", f"{info}/entry_points.txt", "rowanspan/THIRD-PARTY",
+            "rowanspan/py.typed", "rowanspan/librowanspan.so", "rowanspan/bin/mtserve", "rowanspan/bin/mtfolder",
+            f"{info}/METADATA", f"{info}/WHEEL", f"{info}/RECORD", f"{info}/entry_points.txt", "rowanspan/THIRD-PARTY",
             f"{info}/licenses/LICENSE-MIT", f"{info}/licenses/LICENSE-APACHE"})
         self.assertEqual(packed["rowanspan/core.py"], (HERE / "rowanspan" / "core.py").read_bytes())
         self.assertEqual(packed["rowanspan/librowanspan.so"], b"\x7fELF")
-        self.assertEqual({modes["rowanspan/bin/mtserve"], modes["rowanspan/core.py"]}, {0o100755, 0o100644})
+        self.assertEqual([modes[f"rowanspan/{name}"] for name in ("bin/mtserve", "bin/mtfolder", "core.py")],
+                         [0o100755, 0o100755, 0o100644])
         self.assertIn(f"\nVersion: {VERSION}\n".encode(), packed[f"{info}/METADATA"])
         self.assertIn(b"\nRequires-Python: >=3.9\n", packed[f"{info}/METADATA"])
         self.assertIn(b'\nProvides-Extra: postgres\nRequires-Dist: psycopg2 >=2.9; extra == "postgres"\n',
@@ -218,6 +222,7 @@ class InstalledTest(Folder):
         self.assertIn("--build SPEC", output)
         self.check_mirror()
         self.assertEqual(run([self.rowan, "serve", "--port", "7"])[:2], (0, f"--port 7 {STOPS}\n{IGNORED}\n"))
+        self.assertEqual(run([self.rowan, "folder", "rows", "7"])[:2], (0, "reads rows 7\n"))
         # an installer that drops the mode
         (package / "bin" / "mtserve").chmod(0o644)
         self.assertEqual(run([self.rowan, "serve", "a b"])[:2], (0, f"a b {STOPS}\n{IGNORED}\n"))
@@ -244,10 +249,10 @@ class InstalledTest(Folder):
         self.assertIn("rowan mirror: the source: ", errors)
 
     def test_the_built_files(self) -> None:
-        missing = [str(file) for file in (LIBRARY, MTSERVE) if not file.exists()]
+        missing = [str(file) for file in (LIBRARY, MTSERVE, MTFOLDER) if not file.exists()]
         if missing:
             self.skipTest(f"not built: {', '.join(missing)}")
-        self.library, self.server = LIBRARY, MTSERVE
+        self.library, self.server, self.reader = LIBRARY, MTSERVE, MTFOLDER
         self.install()
         self.assertEqual(run([self.rowan, "--embedded", "put", "61", "0=76"]), (0, "done 0 1 put 1\n", ""))
         self.assertEqual(run([self.rowan, "serve", "--sessions", "0"])[:2], (0, "events 0 commits 0\n"))

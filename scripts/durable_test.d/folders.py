@@ -93,7 +93,7 @@ def read(word: str) -> bytes:
 
 
 def want_faults(setting: Setting, what: str, *parts: str) -> None:
-    """The folder isn't opened: `verify` and `rows` say so, each with a status of 1, and `verify` has a line with each part."""
+    """The folder isn't opened: `verify` and `rows` say so by the status 1, and `verify` has a line with each part."""
     verified = said(setting, "verify")
     want_same(f"{what}: verify: the status, and {verified}", verified.status, 1)
     want_same(f"{what}: verify: how many lines, {verified.lines}", len(verified.lines), len(parts))
@@ -162,7 +162,8 @@ def checkpoints_that_are_shown(setting: Setting) -> str:
         want_shown(setting, f"reads {other} {current}")
     # (the log before may continue, if the later one has no commits)
     more = Commits(folder.earlier.commits + 1, folder.earlier.commits, ((b"more", (b"a", b"")),))
-    folder.write(other, padded(bytes_of(folder.earlier.header, [*(frame.entry for frame in folder.earlier.frames), more])))
+    entries = [*(frame.entry for frame in folder.earlier.frames), more]
+    folder.write(other, padded(bytes_of(folder.earlier.header, entries)))
     folder.set_current(())
     history = folder.history.front(folder.earlier.commits)
     history.leave(b"more", Row(more.last, (b"a", b"")))
@@ -200,7 +201,7 @@ def faults_that_are_named(setting: Setting) -> str:
 
 
 def greatest_generations(setting: Setting) -> None:
-    """No log continues one of the greatest generation."""
+    """No log continues one of the greatest generation, which is the newer one."""
     with setting.server() as server, server.index():
         server.kill()
     generation = LAST_GENERATION
@@ -240,11 +241,13 @@ def folders_that_are_missing(setting: Setting) -> None:
     """What is no folder is said, and nothing is made. A folder without a log has no rows."""
     for task in ("show", "verify", "rows"):
         run = said(setting, task)
-        want(run.status == 3 and run.lines == [] and run.errors.startswith("mtfolder: the data folder: "), f"{task}: {run}")
+        is_said = run.errors.startswith("mtfolder: the data folder: ")
+        want(run.status == 3 and run.lines == [] and is_said, f"{task}: {run}")
         want(not setting.data.exists(), f"{task} has made the folder")
     setting.data.mkdir()
     want_opened(setting, History(57))
-    want_same("show", said(setting, "show").lines, [f"{LOG} no log", f"{OTHER} no log", "reads no log", "rows 0 commits 0"])
+    want_same("show", said(setting, "show").lines,
+              [f"{LOG} no log", f"{OTHER} no log", "reads no log", "rows 0 commits 0"])
     (setting.data / LOG).write_bytes(bytes(range(1, 200)))
     want_faults(setting, "a file that is no log", f"{LOG}: the file is not a log")
     run = said(setting, "show", setting.data / LOG)

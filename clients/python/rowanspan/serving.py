@@ -1,4 +1,5 @@
-"""The server of the package: the file of the program mtserve, and how it is run so that a signal ends it gracefully."""
+"""The programs of the package: the server mtserve, which is run so that a signal ends it gracefully, and mtfolder,
+which reads the folder of a server."""
 from __future__ import annotations
 
 import os
@@ -10,7 +11,7 @@ from typing import List, NoReturn, Optional, Sequence, Tuple, Union
 from .core import RowanspanError
 from .places import PACKAGE, checkout, none_at
 
-__all__ = ["NoServer", "server_paths", "serve"]
+__all__ = ["NoServer", "server_paths", "serve", "read_folder"]
 
 # with it the server finishes what has come and ends, when its standard input ends
 STOPS = "--stop-at-end-of-input"
@@ -19,17 +20,22 @@ ALONE = {"-h", "--help", "-V", "--version", STOPS}
 
 
 class NoServer(RowanspanError):
-    """The program mtserve isn't there, or can't be run."""
+    """The program mtserve, or mtfolder, isn't there, or can't be run."""
 
 
 def server_paths() -> List[Path]:
     """Where mtserve may be: the path that ROWANSPAN_MTSERVE names, or else the package's own folder bin and the place
     where a checkout builds it."""
-    named = os.environ.get("ROWANSPAN_MTSERVE")
+    return program_paths("mtserve")
+
+
+def program_paths(name: str) -> List[Path]:
+    """The same of a program: ROWANSPAN_NAME is the variable that names its path."""
+    named = os.environ.get(f"ROWANSPAN_{name.upper()}")
     if named:
         return [Path(named)]
-    own, top = PACKAGE / "bin" / "mtserve", checkout()
-    return [own] if top is None else [own, top / "crates" / "mtserve" / "out" / "mtserve"]
+    own, top = PACKAGE / "bin" / name, checkout()
+    return [own] if top is None else [own, top / "crates" / name / "out" / name]
 
 
 def serve(options: Sequence[str]) -> int:
@@ -37,8 +43,8 @@ def serve(options: Sequence[str]) -> int:
     what has come, and ends; at a second one it is killed. If this process is killed, the server ends too. Raises
     `NoServer` if there is none, or it can't run."""
     if ALONE.intersection(options):
-        become_server(options)
-    program, stop = find_server(), Stop()
+        become("mtserve", options)
+    program, stop = find_program("mtserve"), Stop()
     for number in (signal.SIGTERM, signal.SIGINT):
         signal.signal(number, stop)
     try:
@@ -78,24 +84,29 @@ class Stop:
             self._server.stdin.close()
 
 
-def become_server(options: Sequence[str]) -> NoReturn:
-    """Runs mtserve with these options instead of this process. Raises `NoServer` if there is none, or it can't run."""
-    program = find_server()
+def read_folder(words: Sequence[str]) -> NoReturn:
+    """Runs mtfolder with these words instead of this process. Raises `NoServer` if there is none, or it can't run."""
+    become("mtfolder", words)
+
+
+def become(name: str, words: Sequence[str]) -> NoReturn:
+    """Runs a program with these words instead of this process. Raises `NoServer` if there is none, or it can't run."""
+    program = find_program(name)
     # Python ignores these signals, and a program that it becomes would ignore them too
     signal.signal(signal.SIGPIPE, signal.SIG_DFL)
     signal.signal(signal.SIGXFSZ, signal.SIG_DFL)
     try:
-        os.execv(runnable(program)[0], ["mtserve", *options])
+        os.execv(runnable(program)[0], [name, *words])
     except (OSError, ValueError) as fault:
         raise NoServer(f"{program} can't be run: {fault}") from fault
 
 
-def find_server() -> Path:
-    """The program mtserve. Raises `NoServer` if there is none."""
-    tried = server_paths()
+def find_program(name: str) -> Path:
+    """The program of this name. Raises `NoServer` if there is none."""
+    tried = program_paths(name)
     program = next((path for path in tried if path.is_file()), None)
     if program is None:
-        raise NoServer(none_at("server", tried))
+        raise NoServer(none_at("server" if name == "mtserve" else f"program {name}", tried))
     return program
 
 

@@ -12,7 +12,7 @@ from .places import third_party, version
 from .reads import CountRange, GetMany, GetRangeBack, RowsAt
 from .server_command import COMMANDS
 from .server_command import main as ask_server
-from .serving import NoServer, serve
+from .serving import NoServer, read_folder, serve
 from .text import HEX, TEXT, BadLine, Notation, outcome_line, read_query
 from .wire import (Build, Get, GetRange, Outcome, Put, PutIf, Query, Remove, Reply, Tidy, ViewDrop, ViewRead,
                    spelled_query)
@@ -23,16 +23,18 @@ if TYPE_CHECKING:
 USES = """\
 rowan [-p PORT [OPTION ..] | --embedded [--columns N]] [--text] [WORD ..]
        rowan serve [OPTION ..]
+       rowan folder show | verify | rows FOLDER
        rowan info | views [--text] | ping [--wait SECONDS] | stop [--now] -p PORT [OPTION ..]
        rowan board -p PORT [OPTION ..]
        rowan mirror postgres | etcd -p PORT [OPTION ..]
        rowan --version | --licenses"""
 
 LINES = """\
-`rowan serve` runs the server mtserve, with the options of mtserve (`rowan serve --help`). `rowan info` prints what a
-server counts, `rowan views` its views, `rowan ping` whether it answers, and `rowan stop` ends it (`rowan info --help`,
-..). `rowan board` shows the views of a server in a browser (`rowan board --help`). `rowan mirror` keeps rows of a
-server as another system has them (`rowan mirror --help`).
+`rowan serve` runs the server mtserve, with the options of mtserve (`rowan serve --help`), and `rowan folder` the program
+mtfolder, which reads a server's data folder (`rowan folder --help`). `rowan info` prints what a server counts, `rowan
+views` its views, `rowan ping` whether it answers, and `rowan stop` ends it (`rowan info --help`, ..). `rowan board` shows
+the views of a server in a browser (`rowan board --help`). `rowan mirror` keeps rows of a server as another system has them
+(`rowan mirror --help`).
 
 Lines, whose words are separated by one space, and their answers:
   get KEY COLS                   done FROM TO row VERSION VALUES, or done FROM TO absent
@@ -231,6 +233,8 @@ def main(arguments: Optional[Sequence[str]] = None) -> int:
     try:
         if given[:1] == ["serve"]:
             return serve(given[1:])
+        if given[:1] == ["folder"]:
+            read_folder(given[1:])
         if given[:1] == ["board"]:
             from .board.command import main as show_board
 

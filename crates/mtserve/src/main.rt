@@ -2,14 +2,13 @@
 #![tactic(auto)]
 
 mod command_line;
-mod data;
-mod looking;
 mod serving;
+mod syncing;
 mod tokens;
 
 use crate::command_line::{Settings, settings_given};
-use crate::data::read_syncing;
 use crate::serving::{Manner, ServeError, serve_all};
+use crate::syncing::read_syncing;
 use mt_command_line::ending::{exit_code, status_without_run, words};
 use mt_host::durability::Syncing;
 use mt_host::report::Report;

@@ -3,14 +3,18 @@
 ghost use Rattle.std.specs.Prelude.{◌≡◌, ◌||◌};
 
 use crate::command_line::{Settings, WITHOUT_END};
-use crate::data::{DataError, OpenedLog, open_log};
 use crate::tokens::{TokenError, read_tokens};
+use mt_folder::error::FolderError;
+use mt_folder::files::{FileDisk, open_folder};
+use mt_folder::opening::{OpenedLog, Spare};
+use mt_folder::reading::RowsRead;
 use mt_host::address::Address;
 use mt_host::durability::Syncing;
 use mt_host::limits::Limits;
 use mt_host::reporting::Reporter;
 use mt_index::options::Options;
 use mt_load::error::LoadError;
+use mt_loop::checkpointing::Checkpoints;
 use mt_loop::logging::Log;
 use mt_loop::serving::{Access, Ended, Plan, serve};
 use mt_shared::map::SharedMap;
@@ -18,8 +22,7 @@ use mt_shared::pass::Pass;
 use mt_shared::settling::Totals;
 use mt_types::limits::{MAX_LOG_RETENTION, open_fault};
 use mt_types::refusal::Refusal;
-use sqlite_std_file::{FileFrom, Unknown};
-use std::alloc::Global;
+use std::alloc::{AllocError, Global};
 use std::net::{Ipv4Addr, Net, SocketAddr};
 use std::random::RandomSource;
 use std::rt::Files;
@@ -47,9 +50,12 @@ pub enum ServeError {
     /// All could do all.
     #[error("an address that others reach wants --token-file, or --open")]
     Open,
-    /// The rows of the folder can't be served.
+    /// The rows of the folder can't be read.
     #[error("{0}")]
-    Data(#[from] DataError),
+    Folder(#[from] FolderError),
+    /// No index can have the rows of the folder.
+    #[error("the data folder: {0}")]
+    Load(LoadError),
     /// The last commits are not in the log.
     #[error("the last commits are not in the log")]
     Unlogged,
@@ -145,7 +151,22 @@ pub struct Manner<'a> {
     pub reporter: &'a Reporter,
 }
 
-type FileLog = Log<FileFrom<Unknown>>;
+type FileLog = Log<FileDisk>;
+
+// What shortens the log: it continues in the spare file when it has `least` bytes more, and as many more as its rows take.
+fn checkpoints_of(
+    alloc: Global,
+    spare: Spare<FileDisk>,
+    least: usize,
+) -> Result<Checkpoints<FileDisk>, FolderError> {
+    match spare {
+        Spare::Free { disk, size } => Ok(Checkpoints::new(alloc, disk, least, size)),
+        Spare::Needed { disk } => match Checkpoints::resumed(alloc, disk, least) {
+            Ok(checkpoints) => Ok(checkpoints),
+            Err(_) => Err(FolderError::from(AllocError)),
+        },
+    }
+}
 
 // Opens the index: with the rows of the folder, and the log to which its commits go, or an empty one.
 fn open_index<R: Threads + Wait>(
@@ -172,15 +193,17 @@ fn open_index<R: Threads + Wait>(
     let least = settings.checkpoint as usize;
     let OpenedLog {
         journal,
-        rows,
-        commits,
-        checkpoints,
-    } = open_log(host, folder, options.columns as u8, least)?;
+        read,
+        spare,
+        ..
+    } = open_folder(host, folder, options.columns as u8)?;
+    let checkpoints = checkpoints_of(alloc, spare, least)?;
     let log = Log::new(alloc, journal, syncing, checkpoints);
+    let RowsRead { rows, commits } = read;
     match SharedMap::load(alloc, options, rows, commits, passes) {
         Ok((index, passes)) => Ok((index, passes, Some(log))),
         Err(LoadError::Refused(refusal)) => Err(ServeError::Index(refusal)),
-        Err(error) => Err(ServeError::Data(DataError::Load(error))),
+        Err(error) => Err(ServeError::Load(error)),
     }
 }
 
