@@ -51,8 +51,8 @@ fn last_of(alloc: Global, bytes: &[u8]) -> Result<u64, Fail> {
     Ok(open(alloc, disk, 1)?.journal.position().newest)
 }
 
-// The number of the last durable commit after a disk has failed, after so many calls, and that of the last in its file.
-// `None` if no journal was made.
+// The number of the last durable commit of a journal whose disk fails after `calls` calls, and that of the last commit in its
+// file. `None` if no journal was made.
 fn left_after(alloc: Global, calls: u64) -> Result<Option<(u64, u64)>, Fail> {
     let header = LogHeader {
         columns: 1,

@@ -50,8 +50,8 @@ fn commits_that_the_index_has_left_out(rt: HostRuntime) -> Result<(), Fail> {
     Ok(())
 }
 
-// Whether a commit is written and synced on a disk that fails after so many calls; no if no log is made. `None` if the log
-// says something else of what is durable.
+// Whether a commit is written and synced on a disk that fails after `calls` calls. It isn't if no log can be made. `None` if
+// what the log says is durable isn't that.
 fn is_durable<W: Wait>(alloc: Global, door: &Door<'_, W>, calls: u64) -> Option<bool> {
     let Ok(mut logger) = new_logger(alloc, Fuse::new(Memory::new(alloc), calls)) else {
         return Some(false);
