@@ -1,5 +1,11 @@
 -- The rows of logs that were read are those of the files that spell these logs.
-use Rattle.std.proofs.Common.{◌≡◌, ℕ, List, Option, Some, None, IsTrue, sym, subst}
+use Rattle.std.proofs.Common.{◌≡◌, ◌∷◌, ◌+◌, ℕ, List, [], length, Option, Some, None, IsTrue, sym, subst, arith}
+use Rattle.std.proofs.lemmas.List.{length-append}
+use Rattle.mt_frame.specs.declared.entry.Entry.{Entry}
+use Rattle.mt_frame.specs.declared.entry.Entry.TheVariants.{Header, Commits as Group, Rows as Listed, Sealed, Closed}
+use Rattle.mt_journal.specs.Log.{last_number}
+use Rattle.mt_replay.specs.Redo.{number_after}
+use Rattle.mt_replay.specs.Replay.{records_in}
 use Rattle.mt_folder.specs.declared.log.LogRead.{LogRead}
 use Rattle.mt_folder.specs.declared.reading.RowsRead.{RowsRead}
 use Rattle.mt_folder.specs.declared.source.Source.{Source}
@@ -19,3 +25,15 @@ rows_of_two C bytes others (Some Older) read newer older says said rows = record
 rows_of_two C bytes others (Some Both) read newer older says said rows = record { newer = newer; older = older; says = says; said = said; rows = rows }
 rows_of_two C bytes others (Some Neither) read newer older says said rows = absurd rows
 rows_of_two C bytes others None read newer older says said rows = absurd rows
+
+-- the number of the last commit, counted one entry at a time
+pub last_is : (n : ℕ) (entries : List Entry) → last_number n entries ≡ number_after n entries
+last_is n [] = let none : n ≡ n + 0 = omega arith in none
+last_is n (Header header ∷ entries) = last_is n entries
+last_is n (Group commits ∷ entries) =
+    let rest = last_is (n + length commits.records) entries in
+    let all = length-append commits.records (records_in entries) in
+    omega (arith, rest, all)
+last_is n (Listed part ∷ entries) = last_is n entries
+last_is n (Sealed count ∷ entries) = last_is n entries
+last_is n (Closed number ∷ entries) = last_is n entries

@@ -3,3 +3,4 @@ pub mod Logs
 pub mod Files
 pub mod Sides
 pub mod Laws
+pub mod Spares

@@ -1,8 +1,9 @@
 //! How the logs of a folder are opened: the current one, with the rows that it has.
 
-ghost use Rattle.std.specs.Prelude.{◌≡◌, ◌⊎◌, IsTrue, IfOk};
+ghost use Rattle.std.specs.Prelude.{◌≡◌, ◌⊎◌, IsTrue, IsFalse, IfOk};
 ghost use Rattle.mt_folder.specs.Files.{AreRows, IsHonest};
-ghost use Rattle.mt_folder.specs.Logs.{AreOfSource, Continues, HasRows, HasRowsOfBoth};
+ghost use Rattle.mt_folder.specs.Logs.{last_number, AreOfSource, Continues, HasRows, HasRowsOfBoth};
+ghost use Rattle.mt_folder.specs.Spares.{is_needed, IsSpareOf};
 
 use crate::error::{FolderError, LogFile};
 use crate::reading::{RowsRead, rows_of, rows_of_both};
@@ -60,8 +61,10 @@ fn make_log<D: Disk + Drop>(
 ) -> Result<OpenedLog<D>, FolderError>
     requires usable { IsTrue (D.Disk.is_usable side.disk) }
     requires other { IsTrue (D.Disk.is_usable other.disk) }
-    ensures { IsHonest D.Disk.is_clean → IfOk result (λ opened.
+    ensures rows { IsHonest D.Disk.is_clean → IfOk result (λ opened.
         AreRows columns (D.Disk.seen side.disk) (D.Disk.seen other.disk) opened.source opened.read) }
+    ensures continues { IfOk result (λ r. r.journal.at.newest ≡ r.read.commits) }
+    ensures spare { IfOk result (λ r. IsSpareOf r.source r.spare) }
 {
     let mut side = side;
     let mut other = other;
@@ -93,6 +96,8 @@ fn whole_log<D: Disk + Drop>(
 ) -> Result<OpenedLog<D>, FolderError>
     ensures rows { IfOk result (λ r. HasRows opened.log r.read) }
     ensures source { IfOk result (λ r. r.source ≡ Some source) }
+    ensures journal { IfOk result (λ r. r.journal ≡ opened.journal) }
+    ensures spare { IfOk result (λ r. IsFalse (is_needed r.spare)) }
 {
     let OpenedSide { file, journal, log } = opened;
     let read = rows_of(alloc, &log)?;
@@ -120,6 +125,8 @@ fn later_log<D: Disk + Drop>(
     requires { Continues newer.log older.log }
     ensures rows { IfOk result (λ r. HasRowsOfBoth newer.log older.log r.read) }
     ensures source { IfOk result (λ r. r.source ≡ Some Source.Both) }
+    ensures newest { IfOk result (λ r. r.journal.at.newest ≡ newer.journal.at.newest) }
+    ensures spare { IfOk result (λ r. IsTrue (is_needed r.spare)) }
 {
     let read = rows_of_both(alloc, &newer.log, &older.log)?;
     let OpenedSide { file, journal, .. } = newer;
@@ -149,7 +156,10 @@ fn open_both<D: Disk + Drop>(
     newer: OpenedSide<D>,
     older: OpenedSide<D>,
 ) -> Result<OpenedLog<D>, FolderError>
-    ensures { IfOk result (λ r. AreOfSource newer.log older.log r.source r.read) }
+    ensures rows { IfOk result (λ r. AreOfSource newer.log older.log r.source r.read) }
+    ensures continues { newer.journal.at.newest ≡ last_number newer.log → older.journal.at.newest ≡ last_number older.log
+        → IfOk result (λ r. r.journal.at.newest ≡ r.read.commits) }
+    ensures spare { IfOk result (λ r. IsSpareOf r.source r.spare) }
 {
     match decide(&newer.log, &older.log) {
         Source::Newer => {
@@ -174,8 +184,10 @@ fn open_newer<D: Disk + Drop>(
 ) -> Result<OpenedLog<D>, FolderError>
     requires usable { IsTrue (D.Disk.is_usable newer.disk) }
     requires other { IsTrue (D.Disk.is_usable older.disk) }
-    ensures { IsHonest D.Disk.is_clean → IfOk result (λ opened.
+    ensures rows { IsHonest D.Disk.is_clean → IfOk result (λ opened.
         AreRows columns (D.Disk.seen newer.disk) (D.Disk.seen older.disk) opened.source opened.read) }
+    ensures continues { IsHonest D.Disk.is_clean → IfOk result (λ r. r.journal.at.newest ≡ r.read.commits) }
+    ensures spare { IfOk result (λ r. IsSpareOf r.source r.spare) }
 {
     if !newer.has_log() {
         return make_log(alloc, newer, older, columns);
@@ -207,9 +219,11 @@ pub fn open_sides<D: Disk + Drop>(
 ) -> Result<OpenedLog<D>, FolderError>
     requires even { IsTrue (D.Disk.is_usable even.disk) }
     requires odd { IsTrue (D.Disk.is_usable odd.disk) }
-    ensures { IsHonest D.Disk.is_clean → IfOk result (λ opened.
+    ensures rows { IsHonest D.Disk.is_clean → IfOk result (λ opened.
         AreRows columns (D.Disk.seen even.disk) (D.Disk.seen odd.disk) opened.source opened.read
         ⊎ AreRows columns (D.Disk.seen odd.disk) (D.Disk.seen even.disk) opened.source opened.read) }
+    ensures continues { IsHonest D.Disk.is_clean → IfOk result (λ r. r.journal.at.newest ≡ r.read.commits) }
+    ensures spare { IfOk result (λ r. IsSpareOf r.source r.spare) }
 {
     if odd.is_newer(&even) {
         open_newer(alloc, odd, even, columns)
@@ -222,7 +236,8 @@ pub fn open_sides<D: Disk + Drop>(
 /// the first file of the folder, `odd` that of the other one. Reads each log that is needed twice, and the header of the
 /// other file.
 ///
-/// If no read of a disk of this type returns a wrong byte, the rows are exactly those that the logs of the files leave.
+/// If no read of a disk of this type returns a wrong byte, the rows are exactly those that the logs of the files leave, and the
+/// next commit in the log is the one after the last that led to them. The other file is needed if its rows are.
 ///
 /// # Errors
 ///
@@ -234,9 +249,11 @@ pub fn open_log<D: Disk + Drop>(
     odd: D,
     columns: u8,
 ) -> Result<OpenedLog<D>, FolderError>
-    ensures { IsHonest D.Disk.is_clean → IfOk result (λ opened.
+    ensures rows { IsHonest D.Disk.is_clean → IfOk result (λ opened.
         AreRows columns (D.Disk.seen even) (D.Disk.seen odd) opened.source opened.read
         ⊎ AreRows columns (D.Disk.seen odd) (D.Disk.seen even) opened.source opened.read) }
+    ensures continues { IsHonest D.Disk.is_clean → IfOk result (λ r. r.journal.at.newest ≡ r.read.commits) }
+    ensures spare { IfOk result (λ r. IsSpareOf r.source r.spare) }
 {
     let even = Side::new(alloc, LogFile::Even, even, columns)?;
     let odd = Side::new(alloc, LogFile::Odd, odd, columns)?;

@@ -2,6 +2,7 @@
 
 ghost use Rattle.std.specs.Prelude.{◌≡◌, ◌↔◌, IsSome, IsTrue, IfOk, OnOk};
 ghost use Rattle.mt_folder.specs.Files.{is_blank, IsHonest, Says};
+ghost use Rattle.mt_folder.specs.Logs.{last_number};
 ghost use Rattle.mt_folder.specs.Sides.{IsNewer};
 
 use crate::error::{FolderError, LogFile};
@@ -132,6 +133,7 @@ impl<D: Disk + Drop> Side<D> {
     pub fn read(self, alloc: Global, columns: u8) -> Result<OpenedSide<D>, FolderError>
         requires { IsTrue (D.Disk.is_usable self.disk) }
         ensures says { IsHonest D.Disk.is_clean → IfOk result (λ opened. Says columns (D.Disk.seen self.disk) opened.log) }
+        ensures newest { IsHonest D.Disk.is_clean → IfOk result (λ opened. opened.journal.at.newest ≡ last_number opened.log) }
     {
         let Side { file, disk, .. } = self;
         let mut disk = disk;
@@ -157,7 +159,9 @@ impl<D: Disk + Drop> Side<D> {
     /// # Errors
     ///
     /// If the disk fails, or out of memory.
-    pub fn make(self, alloc: Global, columns: u8) -> Result<Journal<D>, FolderError> {
+    pub fn make(self, alloc: Global, columns: u8) -> Result<Journal<D>, FolderError>
+        ensures { IfOk result (λ journal. journal.at.newest ≡ 0) }
+    {
         let Side { file, disk, .. } = self;
         let header = LogHeader {
             columns,

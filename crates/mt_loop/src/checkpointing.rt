@@ -123,10 +123,13 @@ impl<D: Disk + Drop> Log<D> {
         if !is_due || self.checkpoints.spare.is_none() {
             return Ok(Round::Waits);
         }
+        let at = self.logger.position();
+        let Some(generation) = at.generation.checked_add(1) else {
+            return Ok(Round::Waits);
+        };
         if let Err(error) = self.logger.sync() {
             return Err(LoggerError::Journal(error));
         }
-        let at = self.logger.position();
         let next = first_key()?;
         let Some(spare) = self.checkpoints.spare.take() else {
             return Ok(Round::Waits);
@@ -135,7 +138,7 @@ impl<D: Disk + Drop> Log<D> {
         let alloc = self.checkpoints.alloc;
         let header = LogHeader {
             columns,
-            generation: at.generation.saturating_add(1),
+            generation,
             base: at.newest,
             run: 0,
         };
