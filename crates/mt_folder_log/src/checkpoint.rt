@@ -1,0 +1,287 @@
+//! How the log of a folder is shortened: it continues in the other file, and the rows are copied there between commits.
+
+ghost use Rattle.std.specs.Prelude.{◌≡◌, List, [], OnOk, OnErr, IfOk, IsTrue};
+ghost use Rattle.mt_frame.specs.declared.entry.Entry.{Entry};
+ghost use Rattle.mt_frame.specs.declared.entry.LogHeader.{LogHeader};
+ghost use Rattle.mt_journal.specs.Appending.{with_part, with_seal};
+ghost use Rattle.mt_journal.specs.Causes.{may_ask};
+ghost use Rattle.mt_journal.specs.Keeping.{AllAreLogs, Keeps};
+ghost use Rattle.mt_journal.specs.Recovery.{Mixes};
+ghost use Rattle.mt_folder_log.specs.Moving.{continued, start_of, IfFree, IfNeeded, IsFree, Needs};
+
+use crate::log::FolderLog;
+use bytes::Bytes;
+use mt_frame::entry::{LogHeader, Part};
+use mt_journal::error::JournalError;
+use mt_journal::opening::create;
+use mt_types::copying::TryCopy;
+use mt_types::key::Key;
+use mt_types::refusal::Refusal;
+use sqlite_disk::Disk;
+use std::mem;
+
+/// How many rows a part of a checkpoint has at most.
+pub const PART: u16 = 256;
+
+/// What a checkpoint needs next.
+#[derive(Clone, Copy, Debug, PartialEq, Eq)]
+pub enum Round {
+    /// Nothing: none is due.
+    Rests,
+    /// The log moves to the other file: [`FolderLog::begin`].
+    Moves,
+    /// The next rows are to be copied: [`FolderLog::copy`].
+    Copies,
+    /// All were copied: [`FolderLog::seal`].
+    Seals,
+}
+
+/// The other file of a folder.
+#[derive(Drop)]
+pub(crate) enum Other<D: Disk + Drop> {
+    // The log has all rows itself. It moves to this file when it has `most` bytes.
+    Free {
+        disk: D,
+        most: usize,
+    },
+    // The log continues that of this file, which has the rows until all are copied. Those up to the key `last` were, `copied`
+    // of them.
+    Needed {
+        disk: D,
+        last: Option<Key>,
+        copied: u64,
+        has_all: bool,
+    },
+    // It has failed, or the log has no number more: the log stays where it is.
+    Gone,
+}
+
+impl<D: Disk + Drop> Other<D> {
+    // The log of rows that took `size` bytes has all of them.
+    pub(crate) fn free(disk: D, size: usize, least: usize) -> Other<D>
+        ensures { IsFree result }
+    {
+        Other::Free {
+            disk,
+            most: size.saturating_add(least.max(size)),
+        }
+    }
+
+    // The file before isn't needed any more, since the log has all rows itself, in `size` bytes.
+    fn freed(self, size: usize, least: usize) -> Other<D>
+        ensures { IfNeeded self (λ _. IsFree result) }
+    {
+        match self {
+            Other::Needed {
+                disk,
+                last: _last,
+                ..
+            } => Other::free(disk, size, least),
+            other => other,
+        }
+    }
+
+    // The other file, unless it has failed.
+    pub(crate) fn into_disk(self) -> Option<D> {
+        match self {
+            Other::Free { disk, .. } => Some(disk),
+            Other::Needed {
+                disk,
+                last: _last,
+                ..
+            } => Some(disk),
+            Other::Gone => None,
+        }
+    }
+
+    // No row was copied.
+    pub(crate) fn needed(disk: D) -> Other<D>
+        ensures { Needs result (λ it. it ≡ disk) }
+    {
+        Other::Needed {
+            disk,
+            last: None,
+            copied: 0,
+            has_all: false,
+        }
+    }
+}
+
+// How many rows of a part are after this key.
+fn rows_after(part: &Part, last: &Option<Key>) -> u64 {
+    let rows = part.rows.len() as u64;
+    match (part.rows.as_slice().first(), last) {
+        (Some((key, _)), Some(last)) if key == last => rows.saturating_sub(1),
+        _ => rows,
+    }
+}
+
+// A file without bytes, so that only as many zeros are written to it as to a new one.
+fn emptied<D: Disk + Drop>(file: D) -> Result<D, JournalError>
+    ensures { IfOk result (λ file. IsTrue (D.Disk.is_usable file)) }
+{
+    let mut file = file;
+    if !file.may_be_used() {
+        return Err(JournalError::GivenUp);
+    }
+    match file.set_len(0) {
+        Ok(()) => Ok(file),
+        Err(error) => Err(JournalError::Disk(error)),
+    }
+}
+
+impl<D: Disk + Drop> FolderLog<D> {
+    /// Makes the log durable, and moves it to the other file: what was written before stays in the file before, which has the
+    /// rows until the checkpoint is sealed. Nothing is done if the other file is needed or has failed. Some ten calls of the
+    /// disks.
+    ///
+    /// # Errors
+    ///
+    /// Those of [`mt_journal::opening::create`] and [`FolderLog::sync`]. If the other file fails, the log stays where it is, and
+    /// no checkpoint is made any more: `GivenUp`. `TooLong` if the log has the last generation.
+    pub fn begin(&mut self) -> Result<(), JournalError>
+        ensures newest { OnOk result (self.new.journal.at.newest ≡ self.old.journal.at.newest) }
+
+        // Whatever a crash leaves of the file before is the whole log before.
+        ensures before { (header : LogHeader) (entries : List Entry)
+            → Keeps self.old.journal.at (D.Disk.seen self.old.journal.disk) (D.Disk.may_leave self.old.journal.disk) header entries
+            → IfFree self.old.other (OnOk result (Needs self.new.other (λ disk. AllAreLogs header entries (D.Disk.may_leave disk)))) }
+        ensures begins { IfFree self.old.other (OnOk result (Keeps self.new.journal.at (D.Disk.seen self.new.journal.disk)
+            (D.Disk.may_leave self.new.journal.disk) (continued self.old.columns self.old.journal.at) [])) }
+    {
+        let at = self.journal.position();
+        let Some(generation) = at.generation.checked_add(1) else {
+            return Err(JournalError::TooLong);
+        };
+        let disk = match mem::replace(&mut self.other, Other::Gone) {
+            Other::Free { disk, .. } => disk,
+            Other::Gone => return Err(JournalError::GivenUp),
+            other => {
+                self.other = other;
+                return Ok(());
+            }
+        };
+        let _durable = self.journal.sync()?;
+        let header = LogHeader {
+            columns: self.columns,
+            generation,
+            base: at.newest,
+            run: 0,
+        };
+        let journal = create(self.alloc, emptied(disk)?, header)?;
+        let before = mem::replace(&mut self.journal, journal);
+        self.other = Other::needed(before.into_disk());
+        Ok(())
+    }
+
+    /// Returns the key from which on the next rows are to be copied: that of the last row that was copied, or the first key.
+    ///
+    /// # Errors
+    ///
+    /// `NoMemory`.
+    pub fn start(&self) -> Result<Key, Refusal>
+        ensures { IfOk result (λ key. key ≡ start_of self.now.other) }
+    {
+        match &self.other {
+            Other::Needed {
+                last: Some(last),
+                ..
+            } => Ok(last.copy(self.alloc)?),
+            _ => Key::new(Bytes::new()),
+        }
+    }
+
+    /// Writes the next rows. `part` has the first [`PART`] rows from the key [`FolderLog::start`] on, as they are after all
+    /// commits of the log, or fewer if these are all. One call of the disk, and two more if zeros are written ahead.
+    ///
+    /// # Errors
+    ///
+    /// Those of [`mt_journal::journal::Journal::append_rows`], and `NoMemory`.
+    pub fn copy(&mut self, part: Part) -> Result<(), JournalError>
+        ensures kept { (header : LogHeader) (entries : List Entry)
+            → Keeps self.old.journal.at (D.Disk.seen self.old.journal.disk) (D.Disk.may_leave self.old.journal.disk) header entries
+            → IsTrue (D.Disk.is_mixing self.new.journal.disk)
+            → OnOk result (Keeps self.new.journal.at (D.Disk.seen self.new.journal.disk) (D.Disk.may_leave self.new.journal.disk) header
+            (with_part part entries)) }
+        ensures stays { (header : LogHeader) (entries : List Entry)
+            → Keeps self.old.journal.at (D.Disk.seen self.old.journal.disk) (D.Disk.may_leave self.old.journal.disk) header entries
+            → IsTrue (may_ask self.new.journal.is_given_up (D.Disk.is_usable self.new.journal.disk))
+            → OnErr result (Keeps self.new.journal.at (D.Disk.seen self.new.journal.disk) (D.Disk.may_leave self.new.journal.disk) header entries) }
+        ensures newest { OnOk result (self.new.journal.at.newest ≡ self.old.journal.at.newest) }
+    {
+        let is_last = part.rows.len() < usize::from(PART);
+        let end = match part.rows.as_slice().last() {
+            Some((key, _)) => match key.copy(self.alloc) {
+                Ok(key) => Some(key),
+                Err(_) => return Err(JournalError::NoMemory),
+            },
+            None => None,
+        };
+        let more = match &self.other {
+            Other::Needed { last, .. } => rows_after(&part, last),
+            _ => 0,
+        };
+        self.journal.append_rows(self.alloc, part)?;
+        if let Other::Needed {
+            last,
+            copied,
+            has_all,
+            ..
+        } = &mut self.other
+        {
+            *copied = copied.saturating_add(more);
+            *has_all = is_last;
+            if end.is_some() {
+                *last = end;
+            }
+        }
+        Ok(())
+    }
+
+    // Writes the seal of a checkpoint of this many rows, and makes it durable.
+    fn write_seal(&mut self, copied: u64) -> Result<(), JournalError>
+        ensures sealed { (header : LogHeader) (entries : List Entry)
+            → Keeps self.old.journal.at (D.Disk.seen self.old.journal.disk) (D.Disk.may_leave self.old.journal.disk) header entries
+            → Mixes D.Disk.is_mixing
+            → OnOk result (AllAreLogs header (with_seal copied entries) (D.Disk.may_leave self.new.journal.disk)) }
+        ensures kept { (header : LogHeader) (entries : List Entry)
+            → Keeps self.old.journal.at (D.Disk.seen self.old.journal.disk) (D.Disk.may_leave self.old.journal.disk) header entries
+            → Mixes D.Disk.is_mixing
+            → OnOk result (Keeps self.new.journal.at (D.Disk.seen self.new.journal.disk) (D.Disk.may_leave self.new.journal.disk) header
+            (with_seal copied entries)) }
+        ensures newest { OnOk result (self.new.journal.at.newest ≡ self.old.journal.at.newest) }
+        ensures other { self.new.other ≡ self.old.other }
+    {
+        self.journal.append_seal(self.alloc, copied)?;
+        self.journal.sync()?;
+        Ok(())
+    }
+
+    /// Writes that the log has all rows, makes it durable, and frees the other file. Two calls of the disk.
+    ///
+    /// # Errors
+    ///
+    /// Those of [`mt_journal::journal::Journal::append_seal`] and [`FolderLog::sync`].
+    pub fn seal(&mut self) -> Result<(), JournalError>
+        ensures newest { OnOk result (self.new.journal.at.newest ≡ self.old.journal.at.newest) }
+
+        // Whatever a crash leaves now is the sealed log, when the other file is free.
+        ensures sealed { (header : LogHeader) (entries : List Entry)
+            → Keeps self.old.journal.at (D.Disk.seen self.old.journal.disk) (D.Disk.may_leave self.old.journal.disk) header entries
+            → Mixes D.Disk.is_mixing
+            → IfNeeded self.old.other (λ copied. OnOk result (IsFree self.new.other
+            × AllAreLogs header (with_seal copied entries) (D.Disk.may_leave self.new.journal.disk)
+            × Keeps self.new.journal.at (D.Disk.seen self.new.journal.disk) (D.Disk.may_leave self.new.journal.disk) header
+            (with_seal copied entries))) }
+    {
+        let copied = match &self.other {
+            Other::Needed { copied, .. } => *copied,
+            _ => return Ok(()),
+        };
+        self.write_seal(copied)?;
+        let size = self.journal.position().end;
+        let other = mem::replace(&mut self.other, Other::Gone);
+        self.other = other.freed(size, self.least);
+        Ok(())
+    }
+}

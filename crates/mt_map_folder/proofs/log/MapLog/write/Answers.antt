@@ -1,0 +1,18 @@
+use Rattle.std.proofs.Common.{subst}
+use Rattle.mt_journal.specs.declared.position.Position.{Position}
+use Rattle.mt_journal.specs.Keeping.{AllSurvive}
+use Rattle.mt_map_folder.proofs.WrittenLemmas.{survive_with}
+use Rattle.mt_map_folder.proofs.log.MapLog.write.Goals as goal
+
+-- nothing was written
+pub returns-in_err-deltas-clause-crash : goal.returns-in_err-deltas-clause-crash
+returns-in_err-deltas-clause-crash g c = λ h header entries stands keeps mixing.
+    let disk = c.args.self.now.log.journal.disk in
+    survive_with c.args.self.now.log.journal.at header entries _ _ _
+    (subst (λ (at : Position). AllSurvive header entries at.durable (g.D.Disk.may_leave disk)) c.position.ensures.value (c.position.ensures.survive header entries keeps))
+
+pub returns-in_err-records_of-clause-crash : goal.returns-in_err-records_of-clause-crash
+returns-in_err-records_of-clause-crash g c = λ h header entries stands keeps mixing.
+    let disk = c.args.self.now.log.journal.disk in
+    survive_with c.args.self.now.log.journal.at header entries _ _ _
+    (subst (λ (at : Position). AllSurvive header entries at.durable (g.D.Disk.may_leave disk)) c.position.ensures.value (c.position.ensures.survive header entries keeps))

@@ -1,0 +1,3 @@
+-- A map whose commits and rows are written to a log.
+pub mod Written
+pub mod Read

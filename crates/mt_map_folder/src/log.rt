@@ -1,0 +1,155 @@
+//! The commits of a map, written to the log of its folder.
+
+ghost use Rattle.std.specs.Prelude.{◌≡◌, ◌-◌, List, OnOk, OnErr, IfOk, IsTrue, IsFalse};
+ghost use Rattle.mt_commit.specs.Log.{newest};
+ghost use Rattle.mt_frame.specs.declared.entry.Entry.{Entry};
+ghost use Rattle.mt_frame.specs.declared.entry.LogHeader.{LogHeader};
+ghost use Rattle.mt_frame.specs.declared.entry.Part.{Part};
+ghost use Rattle.mt_folder_log.specs.Moving.{start_of};
+ghost use Rattle.mt_index.specs.Stands.{Stands};
+ghost use Rattle.mt_journal.specs.Appending.{with_part};
+ghost use Rattle.mt_journal.specs.Causes.{may_ask};
+ghost use Rattle.mt_journal.specs.Keeping.{AllSurvive, Keeps};
+ghost use Rattle.mt_promise.specs.History.{History};
+ghost use Rattle.mt_map_folder.specs.Written.{entries_with, left_after, AreOfMap};
+
+use crate::error::LogError;
+use mt_folder_log::checkpoint::{PART, Round};
+use mt_folder_log::log::FolderLog;
+use mt_frame::entry::Part;
+use mt_journal::error::JournalError;
+use mt_map::map::Map;
+use mt_replay::records::records_of;
+use mt_types::limits::MAX_RANGE;
+use sqlite_disk::Disk;
+use std::alloc::Global;
+
+/// The log of a map. Each commit is made in the map, and then written here.
+#[derive(Drop)]
+pub struct MapLog<D: Disk + Drop> {
+    pub(crate) alloc: Global,
+    pub(crate) log: FolderLog<D>,
+}
+
+impl<D: Disk + Drop> MapLog<D> {
+    /// Returns the number of the last commit that no crash undoes.
+    pub fn durable(&self) -> u64
+        ensures number { result ≡ self.now.log.journal.at.durable }
+        ensures survive { (header : LogHeader) (entries : List Entry)
+            → Keeps self.now.log.journal.at (D.Disk.seen self.now.log.journal.disk) (D.Disk.may_leave self.now.log.journal.disk) header entries
+            → AllSurvive header entries result (D.Disk.may_leave self.now.log.journal.disk) }
+    {
+        self.log.position().durable
+    }
+
+    /// Returns how many of the map's commits the log lacks.
+    pub fn lacking(&self, map: &Map) -> u64
+        ensures { result ≡ newest map.now.machine.log - self.now.log.journal.at.newest }
+    {
+        map.commits().saturating_sub(self.log.position().newest)
+    }
+
+    /// Writes the next commits of the map that the log lacks, at most a thousand. They are not durable before a
+    /// [`MapLog::sync`]. One call of the disk if there are some, and two more if zeros are written ahead.
+    ///
+    ///     let commit = map.put(b"apple", &[Set::new(0, b"red")])?;
+    ///     log.write(&map)?;
+    ///
+    /// # Errors
+    ///
+    /// Those of [`mt_journal::journal::Journal::append`], and `Refused` with those of [`Map::feed`]. Unless the disk failed, the
+    /// log is as before, and the call can be made again.
+    pub fn write(&mut self, map: &Map) -> Result<(), LogError>
+        ensures kept { (h : History) (header : LogHeader) (entries : List Entry) → Stands map.now.machine h
+            → Keeps self.old.log.journal.at (D.Disk.seen self.old.log.journal.disk) (D.Disk.may_leave self.old.log.journal.disk) header entries
+            → IsTrue (D.Disk.is_mixing self.new.log.journal.disk)
+            → OnOk result (Keeps self.new.log.journal.at (D.Disk.seen self.new.log.journal.disk) (D.Disk.may_leave self.new.log.journal.disk) header
+            (entries_with self.old.log.journal.at (left_after map.now.machine.columns self.old.log.journal.at.newest h) entries)) }
+        ensures crash { (h : History) (header : LogHeader) (entries : List Entry) → Stands map.now.machine h
+            → Keeps self.old.log.journal.at (D.Disk.seen self.old.log.journal.disk) (D.Disk.may_leave self.old.log.journal.disk) header entries
+            → IsTrue (D.Disk.is_mixing self.new.log.journal.disk)
+            → AllSurvive header (entries_with self.old.log.journal.at (left_after map.now.machine.columns self.old.log.journal.at.newest h) entries)
+            self.old.log.journal.at.durable (D.Disk.may_leave self.new.log.journal.disk) }
+        ensures stays { (header : LogHeader) (entries : List Entry)
+            → Keeps self.old.log.journal.at (D.Disk.seen self.old.log.journal.disk) (D.Disk.may_leave self.old.log.journal.disk) header entries
+            → IsTrue (may_ask self.new.log.journal.is_given_up (D.Disk.is_usable self.new.log.journal.disk))
+            → OnErr result (Keeps self.new.log.journal.at (D.Disk.seen self.new.log.journal.disk) (D.Disk.may_leave self.new.log.journal.disk) header entries) }
+    {
+        let deltas = map.feed(self.log.position().newest, MAX_RANGE)?;
+        if deltas.is_empty() {
+            return Ok(());
+        }
+        self.log.append(records_of(self.alloc, &deltas)?)?;
+        Ok(())
+    }
+
+    /// Makes all that was written durable, and returns the number of the last commit. One call of the disk.
+    ///
+    /// # Errors
+    ///
+    /// Those of [`mt_journal::journal::Journal::sync`]: then nothing more is written, and the log has each commit that was
+    /// durable.
+    pub fn sync(&mut self) -> Result<u64, JournalError>
+        ensures kept { (header : LogHeader) (entries : List Entry)
+            → Keeps self.old.log.journal.at (D.Disk.seen self.old.log.journal.disk) (D.Disk.may_leave self.old.log.journal.disk) header entries
+            → OnOk result (Keeps self.new.log.journal.at (D.Disk.seen self.new.log.journal.disk) (D.Disk.may_leave self.new.log.journal.disk) header entries) }
+        ensures crash { (header : LogHeader) (entries : List Entry)
+            → Keeps self.old.log.journal.at (D.Disk.seen self.old.log.journal.disk) (D.Disk.may_leave self.old.log.journal.disk) header entries
+            → AllSurvive header entries self.old.log.journal.at.durable (D.Disk.may_leave self.new.log.journal.disk) }
+        ensures number { IfOk result (λ number. number ≡ self.old.log.journal.at.newest) }
+        ensures durable { OnOk result (self.new.log.journal.at.durable ≡ self.old.log.journal.at.newest) }
+        ensures stops { OnErr result (IsFalse (may_ask self.new.log.journal.is_given_up (D.Disk.is_usable self.new.log.journal.disk))) }
+    {
+        self.log.sync()
+    }
+
+    // Copies the next rows of the map into the log.
+    fn copy(&mut self, map: &Map) -> Result<(), LogError>
+        ensures copies { (header : LogHeader) (entries : List Entry)
+            → Keeps self.old.log.journal.at (D.Disk.seen self.old.log.journal.disk) (D.Disk.may_leave self.old.log.journal.disk) header entries
+            → IsTrue (D.Disk.is_mixing self.new.log.journal.disk)
+            → OnOk result ((part : Part) × AreOfMap map.now.machine (start_of self.old.log.other) part
+            × Keeps self.new.log.journal.at (D.Disk.seen self.new.log.journal.disk) (D.Disk.may_leave self.new.log.journal.disk) header
+            (with_part part entries)) }
+        ensures newest { OnOk result (self.new.log.journal.at.newest ≡ self.old.log.journal.at.newest) }
+    {
+        let start = self.log.start()?;
+        let at = map.commits();
+        let rows = map.pairs(start.as_slice(), PART, &[])?;
+        self.log.copy(Part { at, rows })?;
+        Ok(())
+    }
+
+    /// Makes a round of a checkpoint, by which the log stays short: the log moves to the other file of the folder, the next rows
+    /// are copied there, or it is sealed when all were. Begins one if it is due, or `begins` is true. Returns whether it has to
+    /// be continued. Nothing is done while the log lacks a commit. O(n) in the rows that are copied, at most [`PART`].
+    ///
+    ///     while log.advance(&map, true)? {}          // a whole checkpoint
+    ///
+    /// # Errors
+    ///
+    /// Those of [`MapLog::write`]; and if the other file fails: then the log stays where it is.
+    pub fn advance(&mut self, map: &Map, begins: bool) -> Result<bool, LogError>
+        ensures newest { OnOk result (self.new.log.journal.at.newest ≡ self.old.log.journal.at.newest) }
+    {
+        if self.lacking(map) > 0 {
+            return Ok(false);
+        }
+        match self.log.next_round() {
+            Round::Rests if !begins => return Ok(false),
+            Round::Rests | Round::Moves => self.log.begin()?,
+            Round::Copies => self.copy(map)?,
+            Round::Seals => self.log.seal()?,
+        }
+        Ok(self.log.next_round() != Round::Rests)
+    }
+
+    /// Returns the disk of the log, and that of the other file, unless it has failed. Ends the use of the log, which isn't
+    /// synced by that.
+    pub fn into_disks(self) -> (D, Option<D>)
+        ensures { result.0 ≡ self.log.journal.disk }
+    {
+        let MapLog { log, .. } = self;
+        log.into_disks()
+    }
+}
