@@ -11,20 +11,20 @@ use Rattle.mt_folder.specs.declared.reading.RowsRead.{RowsRead}
 use Rattle.mt_folder.specs.declared.source.Source.{Source}
 use Rattle.mt_folder.specs.declared.source.Source.TheVariants.{Newer, Older, Both, Neither}
 use Rattle.mt_folder.specs.Logs.{is_whole, AreOfSource, HasRows}
-use Rattle.mt_folder.specs.Files.{AreRows, Says}
+use Rattle.mt_folder.specs.Files.{AreRows, IsNewest, Says}
 
 -- those of a log that has them all
-pub rows_of_one : (C : ℕ) (bytes others : List ℕ) (source : Option Source) (read : RowsRead) (log : LogRead) → Says C bytes log → IsTrue (is_whole log) → source ≡ Some Newer → HasRows log read → AreRows C bytes others source read
-rows_of_one C bytes others source read log says whole is rows =
-    subst (λ (s : Option Source). AreRows C bytes others s read) (sym is) (record { log = log; says = says; whole = whole; rows = rows })
+pub rows_of_one : (C : ℕ) (bytes others : List ℕ) (source : Option Source) (read : RowsRead) (log : LogRead) → Says C bytes log → IsTrue (is_whole log) → IsNewest C log others → source ≡ Some Newer → HasRows log read → AreRows C bytes others source read
+rows_of_one C bytes others source read log says whole newest is rows =
+    subst (λ (s : Option Source). AreRows C bytes others s read) (sym is) (record { log = log; says = says; whole = whole; newest = newest; rows = rows })
 
 -- those of two logs
-pub rows_of_two : (C : ℕ) (bytes others : List ℕ) (source : Option Source) (read : RowsRead) (newer older : LogRead) → Says C bytes newer → Says C others older → AreOfSource newer older source read → AreRows C bytes others source read
-rows_of_two C bytes others (Some Newer) read newer older says said rows = record { log = newer; says = says; whole = rows.0; rows = rows.1 }
-rows_of_two C bytes others (Some Older) read newer older says said rows = record { newer = newer; older = older; says = says; said = said; rows = rows }
-rows_of_two C bytes others (Some Both) read newer older says said rows = record { newer = newer; older = older; says = says; said = said; rows = rows }
-rows_of_two C bytes others (Some Neither) read newer older says said rows = absurd rows
-rows_of_two C bytes others None read newer older says said rows = absurd rows
+pub rows_of_two : (C : ℕ) (bytes others : List ℕ) (source : Option Source) (read : RowsRead) (newer older : LogRead) → Says C bytes newer → Says C others older → IsNewest C newer others → AreOfSource newer older source read → AreRows C bytes others source read
+rows_of_two C bytes others (Some Newer) read newer older says said newest rows = record { log = newer; says = says; whole = rows.0; newest = newest; rows = rows.1 }
+rows_of_two C bytes others (Some Older) read newer older says said newest rows = record { newer = newer; older = older; says = says; said = said; newest = newest; rows = rows }
+rows_of_two C bytes others (Some Both) read newer older says said newest rows = record { newer = newer; older = older; says = says; said = said; newest = newest; rows = rows }
+rows_of_two C bytes others (Some Neither) read newer older says said newest rows = absurd rows
+rows_of_two C bytes others None read newer older says said newest rows = absurd rows
 
 -- the number of the last commit, counted one entry at a time
 pub last_is : (n : ℕ) (entries : List Entry) → last_number n entries ≡ number_after n entries

@@ -4,3 +4,4 @@ pub mod Files
 pub mod Sides
 pub mod Laws
 pub mod Spares
+pub mod Kept

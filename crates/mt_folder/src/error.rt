@@ -45,7 +45,7 @@ impl fmt::Display for LogFile {
 pub enum FolderError {
     /// The folder or its files can't be made, opened or read.
     #[error("the data folder: {0}")]
-    Io(#[from] io::Error),
+    Io(io::Error),
     /// Another process has it.
     #[error("the data folder is in use by another process")]
     Busy,
@@ -68,13 +68,23 @@ pub enum FolderError {
         file: LogFile,
         commit: u64,
     },
-    /// The rows can't be made.
+    /// Out of memory, or the rows can't be made.
     #[error("the data folder: {0}")]
     Refused(#[from] Refusal),
 }
 
+impl From<io::Error> for FolderError {
+    fn from(error: io::Error) -> FolderError {
+        if error.kind() == ErrorKind::OutOfMemory {
+            FolderError::Refused(Refusal::NoMemory)
+        } else {
+            FolderError::Io(error)
+        }
+    }
+}
+
 impl From<AllocError> for FolderError {
     fn from(_: AllocError) -> FolderError {
-        FolderError::Io(ErrorKind::OutOfMemory.into())
+        FolderError::Refused(Refusal::NoMemory)
     }
 }

@@ -1,13 +1,16 @@
 //! What is looked at in the file of a log before it is opened: whether a crash alone can have left it so.
 
-ghost use Rattle.std.specs.Prelude.{◌≡◌, IsTrue, IfOk, OnOk};
-ghost use Rattle.mt_folder.specs.Files.{is_blank};
+ghost use Rattle.std.specs.Prelude.{◌≡◌, ◌<◌, min, length, IsTrue, IfOk, OnOk};
+ghost use Rattle.sqlite_disk.specs.Disk.{Holds};
+ghost use Rattle.mt_folder.specs.Files.{is_blank, HeaderOf};
+ghost use Rattle.mt_folder.specs.declared.looking.TheConstants.{HEADER as HEADER_BYTES};
 
 use crate::error::{FolderError, LogFile};
 use mt_frame::decode::decode;
 use mt_frame::entry::{Entry, LogHeader};
 use mt_frame::fault::DecodeError;
 use mt_journal::error::JournalError;
+use mt_journal::laws::headers_are_short;
 use mt_journal::position::Position;
 use mt_journal::recovery::{read_header, read_log};
 use sqlite_disk::Disk;
@@ -23,6 +26,11 @@ const FIRST: u8 = 0x80;
 // The first bytes of a file, within which the header lies.
 fn front_of<D: Disk>(alloc: Global, disk: &mut D) -> io::Result<Vec<u8>>
     requires { IsTrue (D.Disk.is_usable disk.old) }
+    ensures length { IfOk result (λ bytes. IsTrue (D.Disk.is_clean disk.new)
+        → length bytes.items ≡ min (length (D.Disk.seen disk.old)) HEADER_BYTES) }
+    ensures front { IfOk result (λ bytes. IsTrue (D.Disk.is_clean disk.new) → 0 < length bytes.items
+        → Holds (D.Disk.seen disk.old) 0 bytes.items) }
+    ensures clean { IsTrue (D.Disk.is_clean disk.new) → IsTrue (D.Disk.is_clean disk.old) }
     ensures seen { D.Disk.seen disk.new ≡ D.Disk.seen disk.old }
     ensures usable { IsTrue (D.Disk.is_usable disk.new) }
 {
@@ -38,6 +46,7 @@ fn front_of<D: Disk>(alloc: Global, disk: &mut D) -> io::Result<Vec<u8>>
 fn bytes_of<D: Disk>(alloc: Global, disk: &mut D) -> io::Result<Vec<u8>>
     requires { IsTrue (D.Disk.is_usable disk.old) }
     ensures bytes { IfOk result (λ bytes. IsTrue (D.Disk.is_clean disk.new) → bytes.items ≡ D.Disk.seen disk.old) }
+    ensures clean { IsTrue (D.Disk.is_clean disk.new) → IsTrue (D.Disk.is_clean disk.old) }
     ensures seen { D.Disk.seen disk.new ≡ D.Disk.seen disk.old }
     ensures usable { IsTrue (D.Disk.is_usable disk.new) }
 {
@@ -49,8 +58,9 @@ fn bytes_of<D: Disk>(alloc: Global, disk: &mut D) -> io::Result<Vec<u8>>
     Ok(bytes)
 }
 
-/// Returns the header of the log that a file has. `None` if it has none: no byte, or what is left if the making of a log was
-/// cut short. Reads the first bytes alone.
+/// Returns the header of the log that a file has: if the read returns no wrong byte, the file has no log of such an index with
+/// another one. `None` if it has none: no byte, or what is left if the making of a log was cut short. Reads the first bytes
+/// alone.
 ///
 /// # Errors
 ///
@@ -62,9 +72,12 @@ pub fn header_of<D: Disk>(
     columns: u8,
 ) -> Result<Option<LogHeader>, FolderError>
     requires { IsTrue (D.Disk.is_usable disk.old) }
+    ensures header { IfOk result (λ found. IsTrue (D.Disk.is_clean disk.new) → HeaderOf columns (D.Disk.seen disk.old) found) }
+    ensures clean { IsTrue (D.Disk.is_clean disk.new) → IsTrue (D.Disk.is_clean disk.old) }
     ensures seen { D.Disk.seen disk.new ≡ D.Disk.seen disk.old }
     ensures usable { IsTrue (D.Disk.is_usable disk.new) }
 {
+    headers_are_short();
     let bytes = front_of(alloc, disk)?;
     if bytes.is_empty() {
         return Ok(None);
@@ -95,6 +108,7 @@ pub fn look_for_nothing<D: Disk>(
 ) -> Result<(), FolderError>
     requires { IsTrue (D.Disk.is_usable disk.old) }
     ensures nothing { OnOk result (IsTrue (D.Disk.is_clean disk.new) → IsTrue (is_blank (D.Disk.seen disk.old))) }
+    ensures clean { IsTrue (D.Disk.is_clean disk.new) → IsTrue (D.Disk.is_clean disk.old) }
     ensures usable { IsTrue (D.Disk.is_usable disk.new) }
 {
     let bytes = bytes_of(alloc, disk)?;
@@ -131,7 +145,8 @@ pub fn frame_without_header<D: Disk>(
     generation: u64,
 ) -> Result<Option<usize>, FolderError>
     requires { IsTrue (D.Disk.is_usable disk.old) }
-    ensures { IsTrue (D.Disk.is_usable disk.new) }
+    ensures clean { IsTrue (D.Disk.is_clean disk.new) → IsTrue (D.Disk.is_clean disk.old) }
+    ensures usable { IsTrue (D.Disk.is_usable disk.new) }
 {
     let bytes = bytes_of(alloc, disk)?;
     for place in 0..bytes.len() {
@@ -176,6 +191,7 @@ pub fn look<D: Disk>(
     columns: u8,
 ) -> Result<(), FolderError>
     requires { IsTrue (D.Disk.is_usable disk.old) }
+    ensures clean { IsTrue (D.Disk.is_clean disk.new) → IsTrue (D.Disk.is_clean disk.old) }
     ensures seen { D.Disk.seen disk.new ≡ D.Disk.seen disk.old }
     ensures usable { IsTrue (D.Disk.is_usable disk.new) }
 {

@@ -1,9 +1,13 @@
 //! How the logs of a folder are opened: the current one, with the rows that it has.
 
-ghost use Rattle.std.specs.Prelude.{◌≡◌, ◌⊎◌, IsTrue, IsFalse, IfOk};
-ghost use Rattle.mt_folder.specs.Files.{AreRows, IsHonest};
+ghost use Rattle.std.specs.Prelude.{◌≡◌, ◌⊎◌, None as NoneOf, IsTrue, IsFalse, IfOk};
+ghost use Rattle.mt_folder.specs.Files.{AreRows, HeaderOf};
+ghost use Rattle.mt_folder.specs.Kept.{KeepsRows};
 ghost use Rattle.mt_folder.specs.Logs.{last_number, AreOfSource, Continues, HasRows, HasRowsOfBoth};
-ghost use Rattle.mt_folder.specs.Spares.{is_needed, IsSpareOf};
+ghost use Rattle.mt_folder.specs.Sides.{IsNoNewer};
+ghost use Rattle.mt_journal.specs.Keeping.{Keeps};
+ghost use Rattle.mt_journal.specs.Recovery.{Mixes};
+ghost use Rattle.mt_folder.specs.Spares.{disk_of, is_needed, AreClean, IsSpareOf};
 
 use crate::error::{FolderError, LogFile};
 use crate::reading::{RowsRead, rows_of, rows_of_both};
@@ -61,10 +65,15 @@ fn make_log<D: Disk + Drop>(
 ) -> Result<OpenedLog<D>, FolderError>
     requires usable { IsTrue (D.Disk.is_usable side.disk) }
     requires other { IsTrue (D.Disk.is_usable other.disk) }
-    ensures rows { IsHonest D.Disk.is_clean → IfOk result (λ opened.
-        AreRows columns (D.Disk.seen side.disk) (D.Disk.seen other.disk) opened.source opened.read) }
+    requires none { side.header ≡ NoneOf }
+    requires order { IsNoNewer other.header side.header }
+    requires header { IsTrue (D.Disk.is_clean side.disk) → HeaderOf columns (D.Disk.seen side.disk) side.header }
+    requires other_header { IsTrue (D.Disk.is_clean other.disk) → HeaderOf columns (D.Disk.seen other.disk) other.header }
+    ensures rows { IfOk result (λ opened. AreClean D.Disk.is_clean opened
+        → AreRows columns (D.Disk.seen side.disk) (D.Disk.seen other.disk) opened.source opened.read) }
     ensures continues { IfOk result (λ r. r.journal.at.newest ≡ r.read.commits) }
     ensures spare { IfOk result (λ r. IsSpareOf r.source r.spare) }
+    ensures kept { IfOk result (KeepsRows D.Disk.seen D.Disk.may_leave) }
 {
     let mut side = side;
     let mut other = other;
@@ -98,6 +107,10 @@ fn whole_log<D: Disk + Drop>(
     ensures source { IfOk result (λ r. r.source ≡ Some source) }
     ensures journal { IfOk result (λ r. r.journal ≡ opened.journal) }
     ensures spare { IfOk result (λ r. IsFalse (is_needed r.spare)) }
+    ensures disk { IfOk result (λ r. disk_of r.spare ≡ other) }
+    ensures kept { (IsTrue (D.Disk.is_clean opened.journal.disk) → Keeps opened.journal.at (D.Disk.seen opened.journal.disk)
+        (D.Disk.may_leave opened.journal.disk) opened.log.header opened.log.entries.items)
+        → IfOk result (λ r. AreClean D.Disk.is_clean r → KeepsRows D.Disk.seen D.Disk.may_leave r) }
 {
     let OpenedSide { file, journal, log } = opened;
     let read = rows_of(alloc, &log)?;
@@ -127,6 +140,11 @@ fn later_log<D: Disk + Drop>(
     ensures source { IfOk result (λ r. r.source ≡ Some Source.Both) }
     ensures newest { IfOk result (λ r. r.journal.at.newest ≡ newer.journal.at.newest) }
     ensures spare { IfOk result (λ r. IsTrue (is_needed r.spare)) }
+    ensures clean { IfOk result (λ r. IsTrue (D.Disk.is_clean r.journal.disk) → IsTrue (D.Disk.is_clean newer.journal.disk)) }
+    ensures disk { IfOk result (λ r. disk_of r.spare ≡ older.journal.disk) }
+    ensures kept { (IsTrue (D.Disk.is_clean newer.journal.disk) → Keeps newer.journal.at (D.Disk.seen newer.journal.disk)
+        (D.Disk.may_leave newer.journal.disk) newer.log.header newer.log.entries.items) → Mixes D.Disk.is_mixing
+        → IfOk result (λ r. AreClean D.Disk.is_clean r → KeepsRows D.Disk.seen D.Disk.may_leave r) }
 {
     let read = rows_of_both(alloc, &newer.log, &older.log)?;
     let OpenedSide { file, journal, .. } = newer;
@@ -156,10 +174,18 @@ fn open_both<D: Disk + Drop>(
     newer: OpenedSide<D>,
     older: OpenedSide<D>,
 ) -> Result<OpenedLog<D>, FolderError>
+    requires newer { IsTrue (D.Disk.is_clean newer.journal.disk) → Keeps newer.journal.at (D.Disk.seen newer.journal.disk)
+        (D.Disk.may_leave newer.journal.disk) newer.log.header newer.log.entries.items }
+    requires older { IsTrue (D.Disk.is_clean older.journal.disk) → Keeps older.journal.at (D.Disk.seen older.journal.disk)
+        (D.Disk.may_leave older.journal.disk) older.log.header older.log.entries.items }
     ensures rows { IfOk result (λ r. AreOfSource newer.log older.log r.source r.read) }
     ensures continues { newer.journal.at.newest ≡ last_number newer.log → older.journal.at.newest ≡ last_number older.log
         → IfOk result (λ r. r.journal.at.newest ≡ r.read.commits) }
     ensures spare { IfOk result (λ r. IsSpareOf r.source r.spare) }
+    ensures clean { IfOk result (λ r. AreClean D.Disk.is_clean r
+        → IsTrue (D.Disk.is_clean newer.journal.disk) × IsTrue (D.Disk.is_clean older.journal.disk)) }
+    ensures kept { Mixes D.Disk.is_mixing
+        → IfOk result (λ r. AreClean D.Disk.is_clean r → KeepsRows D.Disk.seen D.Disk.may_leave r) }
 {
     match decide(&newer.log, &older.log) {
         Source::Newer => {
@@ -184,9 +210,14 @@ fn open_newer<D: Disk + Drop>(
 ) -> Result<OpenedLog<D>, FolderError>
     requires usable { IsTrue (D.Disk.is_usable newer.disk) }
     requires other { IsTrue (D.Disk.is_usable older.disk) }
-    ensures rows { IsHonest D.Disk.is_clean → IfOk result (λ opened.
-        AreRows columns (D.Disk.seen newer.disk) (D.Disk.seen older.disk) opened.source opened.read) }
-    ensures continues { IsHonest D.Disk.is_clean → IfOk result (λ r. r.journal.at.newest ≡ r.read.commits) }
+    requires order { IsNoNewer older.header newer.header }
+    requires header { IsTrue (D.Disk.is_clean newer.disk) → HeaderOf columns (D.Disk.seen newer.disk) newer.header }
+    requires other_header { IsTrue (D.Disk.is_clean older.disk) → HeaderOf columns (D.Disk.seen older.disk) older.header }
+    ensures rows { IfOk result (λ opened. AreClean D.Disk.is_clean opened
+        → AreRows columns (D.Disk.seen newer.disk) (D.Disk.seen older.disk) opened.source opened.read) }
+    ensures continues { IfOk result (λ opened. AreClean D.Disk.is_clean opened → opened.journal.at.newest ≡ opened.read.commits) }
+    ensures kept { Mixes D.Disk.is_mixing
+        → IfOk result (λ opened. AreClean D.Disk.is_clean opened → KeepsRows D.Disk.seen D.Disk.may_leave opened) }
     ensures spare { IfOk result (λ r. IsSpareOf r.source r.spare) }
 {
     if !newer.has_log() {
@@ -219,10 +250,14 @@ pub fn open_sides<D: Disk + Drop>(
 ) -> Result<OpenedLog<D>, FolderError>
     requires even { IsTrue (D.Disk.is_usable even.disk) }
     requires odd { IsTrue (D.Disk.is_usable odd.disk) }
-    ensures rows { IsHonest D.Disk.is_clean → IfOk result (λ opened.
-        AreRows columns (D.Disk.seen even.disk) (D.Disk.seen odd.disk) opened.source opened.read
+    requires header { IsTrue (D.Disk.is_clean even.disk) → HeaderOf columns (D.Disk.seen even.disk) even.header }
+    requires other_header { IsTrue (D.Disk.is_clean odd.disk) → HeaderOf columns (D.Disk.seen odd.disk) odd.header }
+    ensures rows { IfOk result (λ opened. AreClean D.Disk.is_clean opened
+        → AreRows columns (D.Disk.seen even.disk) (D.Disk.seen odd.disk) opened.source opened.read
         ⊎ AreRows columns (D.Disk.seen odd.disk) (D.Disk.seen even.disk) opened.source opened.read) }
-    ensures continues { IsHonest D.Disk.is_clean → IfOk result (λ r. r.journal.at.newest ≡ r.read.commits) }
+    ensures continues { IfOk result (λ opened. AreClean D.Disk.is_clean opened → opened.journal.at.newest ≡ opened.read.commits) }
+    ensures kept { Mixes D.Disk.is_mixing
+        → IfOk result (λ opened. AreClean D.Disk.is_clean opened → KeepsRows D.Disk.seen D.Disk.may_leave opened) }
     ensures spare { IfOk result (λ r. IsSpareOf r.source r.spare) }
 {
     if odd.is_newer(&even) {
@@ -236,8 +271,9 @@ pub fn open_sides<D: Disk + Drop>(
 /// the first file of the folder, `odd` that of the other one. Reads each log that is needed twice, and the header of the
 /// other file.
 ///
-/// If no read of a disk of this type returns a wrong byte, the rows are exactly those that the logs of the files leave, and the
-/// next commit in the log is the one after the last that led to them. The other file is needed if its rows are.
+/// If no read of the two disks has returned a wrong byte, the rows are exactly those that the logs of the files leave, of which
+/// the one of the greater generation is the newer, and the next commit in the log is the one after the last that led to them.
+/// The other file is needed if its rows are. The journal keeps entries that leave the rows, so what is appended follows them.
 ///
 /// # Errors
 ///
@@ -249,10 +285,12 @@ pub fn open_log<D: Disk + Drop>(
     odd: D,
     columns: u8,
 ) -> Result<OpenedLog<D>, FolderError>
-    ensures rows { IsHonest D.Disk.is_clean → IfOk result (λ opened.
-        AreRows columns (D.Disk.seen even) (D.Disk.seen odd) opened.source opened.read
+    ensures rows { IfOk result (λ opened. AreClean D.Disk.is_clean opened
+        → AreRows columns (D.Disk.seen even) (D.Disk.seen odd) opened.source opened.read
         ⊎ AreRows columns (D.Disk.seen odd) (D.Disk.seen even) opened.source opened.read) }
-    ensures continues { IsHonest D.Disk.is_clean → IfOk result (λ r. r.journal.at.newest ≡ r.read.commits) }
+    ensures continues { IfOk result (λ opened. AreClean D.Disk.is_clean opened → opened.journal.at.newest ≡ opened.read.commits) }
+    ensures kept { Mixes D.Disk.is_mixing
+        → IfOk result (λ opened. AreClean D.Disk.is_clean opened → KeepsRows D.Disk.seen D.Disk.may_leave opened) }
     ensures spare { IfOk result (λ r. IsSpareOf r.source r.spare) }
 {
     let even = Side::new(alloc, LogFile::Even, even, columns)?;

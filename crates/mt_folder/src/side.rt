@@ -1,9 +1,10 @@
 //! One of the two files of a folder, with the log that it has.
 
-ghost use Rattle.std.specs.Prelude.{◌≡◌, ◌↔◌, IsSome, IsTrue, IfOk, OnOk};
-ghost use Rattle.mt_folder.specs.Files.{is_blank, IsHonest, Says};
+ghost use Rattle.std.specs.Prelude.{◌≡◌, ◌↔◌, [], None as NoneOf, IsSome, IsTrue, IsFalse, IfOk, OnOk};
+ghost use Rattle.mt_folder.specs.Files.{is_blank, HeaderOf, Says};
 ghost use Rattle.mt_folder.specs.Logs.{last_number};
-ghost use Rattle.mt_folder.specs.Sides.{IsNewer};
+ghost use Rattle.mt_journal.specs.Keeping.{Keeps};
+ghost use Rattle.mt_folder.specs.Sides.{IsNewer, IsNoNewer};
 
 use crate::error::{FolderError, LogFile};
 use crate::log::LogRead;
@@ -51,6 +52,7 @@ impl<D: Disk + Drop> Side<D> {
     pub fn new(alloc: Global, file: LogFile, disk: D, columns: u8) -> Result<Side<D>, FolderError>
         ensures file { IfOk result (λ side. side.file ≡ file) }
         ensures seen { IfOk result (λ side. D.Disk.seen side.disk ≡ D.Disk.seen disk) }
+        ensures header { IfOk result (λ side. IsTrue (D.Disk.is_clean side.disk) → HeaderOf columns (D.Disk.seen side.disk) side.header) }
         ensures usable { IfOk result (λ side. IsTrue (D.Disk.is_usable side.disk)) }
     {
         let mut disk = disk;
@@ -71,14 +73,17 @@ impl<D: Disk + Drop> Side<D> {
 
     /// Returns whether the file has the header of a log.
     pub fn has_log(&self) -> bool
-        ensures { IsTrue result ↔ IsSome self.now.header }
+        ensures some { IsTrue result ↔ IsSome self.now.header }
+        ensures none { IsFalse result → self.now.header ≡ NoneOf }
     {
         self.header.is_some()
     }
 
     /// Returns whether its log is newer than that of the other file, or the only one.
     pub fn is_newer(&self, other: &Side<D>) -> bool
-        ensures { IsNewer result self.now.header other.now.header }
+        ensures exact { IsNewer result self.now.header other.now.header }
+        ensures newer { IsTrue result → IsNoNewer other.now.header self.now.header }
+        ensures no_newer { IsFalse result → IsNoNewer self.now.header other.now.header }
     {
         match (self.header, other.header) {
             (Some(header), Some(other)) => header.generation > other.generation,
@@ -95,6 +100,7 @@ impl<D: Disk + Drop> Side<D> {
     /// `Lost` if it has; and if the disk fails.
     pub fn look_for_later(&mut self, alloc: Global, at: &Position) -> Result<(), FolderError>
         requires { IsTrue (D.Disk.is_usable self.old.disk) }
+        ensures clean { IsTrue (D.Disk.is_clean self.new.disk) → IsTrue (D.Disk.is_clean self.old.disk) }
     {
         if self.header.is_some() {
             return Ok(());
@@ -119,7 +125,8 @@ impl<D: Disk + Drop> Side<D> {
     /// If it has something else, or the disk fails.
     pub fn look_for_nothing(&mut self, alloc: Global) -> Result<(), FolderError>
         requires { IsTrue (D.Disk.is_usable self.old.disk) }
-        ensures nothing { IsHonest D.Disk.is_clean → OnOk result (IsTrue (is_blank (D.Disk.seen self.old.disk))) }
+        ensures nothing { OnOk result (IsTrue (D.Disk.is_clean self.new.disk) → IsTrue (is_blank (D.Disk.seen self.old.disk))) }
+        ensures clean { IsTrue (D.Disk.is_clean self.new.disk) → IsTrue (D.Disk.is_clean self.old.disk) }
     {
         look_for_nothing(alloc, &mut self.disk, self.file)
     }
@@ -132,8 +139,12 @@ impl<D: Disk + Drop> Side<D> {
     /// If the file has no log of an index with `columns` columns, if commits are missing, or the disk fails.
     pub fn read(self, alloc: Global, columns: u8) -> Result<OpenedSide<D>, FolderError>
         requires { IsTrue (D.Disk.is_usable self.disk) }
-        ensures says { IsHonest D.Disk.is_clean → IfOk result (λ opened. Says columns (D.Disk.seen self.disk) opened.log) }
-        ensures newest { IsHonest D.Disk.is_clean → IfOk result (λ opened. opened.journal.at.newest ≡ last_number opened.log) }
+        ensures says { IfOk result (λ opened. IsTrue (D.Disk.is_clean opened.journal.disk) → Says columns (D.Disk.seen self.disk) opened.log) }
+        ensures newest { IfOk result (λ opened. IsTrue (D.Disk.is_clean opened.journal.disk)
+            → opened.journal.at.newest ≡ last_number opened.log) }
+        ensures clean { IfOk result (λ opened. IsTrue (D.Disk.is_clean opened.journal.disk) → IsTrue (D.Disk.is_clean self.disk)) }
+        ensures kept { IfOk result (λ opened. IsTrue (D.Disk.is_clean opened.journal.disk) → Keeps opened.journal.at
+            (D.Disk.seen opened.journal.disk) (D.Disk.may_leave opened.journal.disk) opened.log.header opened.log.entries.items) }
     {
         let Side { file, disk, .. } = self;
         let mut disk = disk;
@@ -160,7 +171,10 @@ impl<D: Disk + Drop> Side<D> {
     ///
     /// If the disk fails, or out of memory.
     pub fn make(self, alloc: Global, columns: u8) -> Result<Journal<D>, FolderError>
-        ensures { IfOk result (λ journal. journal.at.newest ≡ 0) }
+        ensures newest { IfOk result (λ journal. journal.at.newest ≡ 0) }
+        ensures kept { IfOk result (λ journal. Keeps journal.at (D.Disk.seen journal.disk) (D.Disk.may_leave journal.disk)
+            (record { columns = columns; generation = 0; base = 0; run = 0 }) []) }
+        ensures clean { IfOk result (λ journal. IsTrue (D.Disk.is_clean journal.disk) → IsTrue (D.Disk.is_clean self.disk)) }
     {
         let Side { file, disk, .. } = self;
         let header = LogHeader {

@@ -1,8 +1,15 @@
 -- How a log moves to the other file of its folder.
-use Rattle.std.specs.Prelude.{◌+◌, ℕ, List, [], Some, None}
+use Rattle.std.specs.Prelude.{◌≡◌, ◌+◌, ◌-◌, ℕ, nat_le, nat_lt, Bool, true, false, IsTrue, ◌&&◌, if◌then◌else◌, List, [], length, slice_get, Option, Some, None}
+use Rattle.std.specs.Option.{option_map, option_or}
+use Rattle.mt_folder.specs.declared.opening.Spare.{Spare}
+use Rattle.mt_folder.specs.declared.opening.Spare.TheVariants.{Free as FreeSpare, Needed as NeededSpare}
 use Rattle.mt_folder_log.specs.declared.checkpoint.Other.{Other}
 use Rattle.mt_folder_log.specs.declared.checkpoint.Other.TheVariants.{Free, Needed, Gone}
+use Rattle.mt_folder_log.specs.declared.checkpoint.Round.{Round}
+use Rattle.mt_folder_log.specs.declared.checkpoint.Round.TheVariants.{Rests, Moves, Copies, Seals}
+use Rattle.mt_folder_log.specs.declared.checkpoint.TheConstants.{PART}
 use Rattle.mt_frame.specs.declared.entry.LogHeader.{LogHeader}
+use Rattle.mt_frame.specs.declared.entry.Part.{Part}
 use Rattle.mt_journal.specs.declared.position.Position.{Position}
 
 -- the header of the log that continues a log at this position
@@ -39,3 +46,37 @@ abbrev pub IsFree : {D : Type 0} → Other D → Type 0
 IsFree (Free disk most) = Unit {0}
 IsFree (Needed disk last copied has_all) = ⊥
 IsFree Gone = ⊥
+
+-- the log has all rows, and may move to this file
+abbrev pub MayMoveTo : {D : Type 0} → D → Other D → Type 0
+MayMoveTo file (Free disk most) = disk ≡ file
+MayMoveTo file (Needed disk last copied has_all) = ⊥
+MayMoveTo file Gone = ⊥
+
+-- what the spare file of an opened log is to the log in use: it may move there, or no row of it was copied yet
+abbrev pub IsOfSpare : {D : Type 0} → Spare D → Other D → Type 0
+IsOfSpare (FreeSpare disk size) other = MayMoveTo disk other
+IsOfSpare (NeededSpare disk) other = other ≡ Needed disk None 0 false
+
+-- no read of this file has returned a wrong byte
+abbrev pub IsClean : {D : Type 0} → (D → Bool) → Other D → Type 0
+IsClean is_clean (Free disk most) = IsTrue (is_clean disk)
+IsClean is_clean (Needed disk last copied has_all) = IsTrue (is_clean disk)
+IsClean is_clean Gone = Unit {0}
+
+-- WHAT A CHECKPOINT NEEDS NEXT: of a log that ends there, `least` bytes are worth one
+abbrev pub round_of : {D : Type 0} → ℕ → ℕ → Other D → Round
+round_of least end (Free disk most) = if nat_lt 0 least && nat_le most end then Moves else Rests
+round_of least end (Needed disk last copied true) = Seals
+round_of least end (Needed disk last copied false) = Copies
+round_of least end Gone = Rests
+
+-- the key of the last row of a part
+abbrev pub end_of : Part → Option (List ℕ)
+end_of part = option_map (λ pair. pair.0) (slice_get part.rows (length part.rows - 1))
+
+-- WHAT WAS COPIED after a part that ends with this key: the next one begins there, and all rows were if the part wasn't full
+abbrev pub IsAfter : {D : Type 0} → Option (List ℕ) → Bool → Other D → Other D → Type 0
+IsAfter end is_last (Free disk most) other = other ≡ Free disk most
+IsAfter end is_last (Needed disk last copied has_all) other = (count : ℕ) × (other ≡ Needed disk (option_or end last) count is_last)
+IsAfter end is_last Gone other = other ≡ Gone

@@ -1,13 +1,15 @@
 //! How the log of a folder is shortened: it continues in the other file, and the rows are copied there between commits.
 
-ghost use Rattle.std.specs.Prelude.{◌≡◌, List, [], OnOk, OnErr, IfOk, IsTrue};
+ghost use Rattle.std.specs.Prelude.{◌≡◌, false, List, [], length, nat_lt, None, OnOk, OnErr, IfOk, IsTrue};
 ghost use Rattle.mt_frame.specs.declared.entry.Entry.{Entry};
 ghost use Rattle.mt_frame.specs.declared.entry.LogHeader.{LogHeader};
 ghost use Rattle.mt_journal.specs.Appending.{with_part, with_seal};
 ghost use Rattle.mt_journal.specs.Causes.{may_ask};
 ghost use Rattle.mt_journal.specs.Keeping.{AllAreLogs, Keeps};
 ghost use Rattle.mt_journal.specs.Recovery.{Mixes};
-ghost use Rattle.mt_folder_log.specs.Moving.{continued, start_of, IfFree, IfNeeded, IsFree, Needs};
+ghost use Rattle.mt_folder_log.specs.Moving.{continued, end_of, start_of, IfFree, IfNeeded, IsAfter, IsFree, MayMoveTo, Needs};
+ghost use Rattle.mt_folder_log.specs.declared.checkpoint.Other.TheVariants.{Needed};
+ghost use Rattle.mt_folder_log.specs.declared.checkpoint.TheConstants.{PART};
 
 use crate::log::FolderLog;
 use bytes::Bytes;
@@ -18,6 +20,7 @@ use mt_types::copying::TryCopy;
 use mt_types::key::Key;
 use mt_types::refusal::Refusal;
 use sqlite_disk::Disk;
+use std::alloc::Global;
 use std::mem;
 
 /// How many rows a part of a checkpoint has at most.
@@ -59,7 +62,8 @@ pub(crate) enum Other<D: Disk + Drop> {
 impl<D: Disk + Drop> Other<D> {
     // The log of rows that took `size` bytes has all of them.
     pub(crate) fn free(disk: D, size: usize, least: usize) -> Other<D>
-        ensures { IsFree result }
+        ensures free { IsFree result }
+        ensures disk { MayMoveTo disk result }
     {
         Other::Free {
             disk,
@@ -81,6 +85,26 @@ impl<D: Disk + Drop> Other<D> {
         }
     }
 
+    // What was copied after a part of `more` rows that ends with this key.
+    fn after(self, end: Option<Key>, more: u64, is_last: bool) -> Other<D>
+        ensures { IsAfter end is_last self result }
+    {
+        match self {
+            Other::Needed {
+                disk,
+                last,
+                copied,
+                has_all: _,
+            } => Other::Needed {
+                disk,
+                last: end.or(last),
+                copied: copied.saturating_add(more),
+                has_all: is_last,
+            },
+            other => other,
+        }
+    }
+
     // The other file, unless it has failed.
     pub(crate) fn into_disk(self) -> Option<D> {
         match self {
@@ -96,7 +120,8 @@ impl<D: Disk + Drop> Other<D> {
 
     // No row was copied.
     pub(crate) fn needed(disk: D) -> Other<D>
-        ensures { Needs result (λ it. it ≡ disk) }
+        ensures begun { result ≡ Needed disk None 0 false }
+        ensures needs { Needs result (λ it. it ≡ disk) }
     {
         Other::Needed {
             disk,
@@ -113,6 +138,19 @@ fn rows_after(part: &Part, last: &Option<Key>) -> u64 {
     match (part.rows.as_slice().first(), last) {
         (Some((key, _)), Some(last)) if key == last => rows.saturating_sub(1),
         _ => rows,
+    }
+}
+
+// The key of the last row of a part.
+fn end_of(alloc: Global, part: &Part) -> Result<Option<Key>, JournalError>
+    ensures { IfOk result (λ end. end ≡ end_of part.now) }
+{
+    let Some((key, _)) = part.rows.as_slice().last() else {
+        return Ok(None);
+    };
+    match key.copy(alloc) {
+        Ok(key) => Ok(Some(key)),
+        Err(_) => Err(JournalError::NoMemory),
     }
 }
 
@@ -208,33 +246,17 @@ impl<D: Disk + Drop> FolderLog<D> {
             → IsTrue (may_ask self.new.journal.is_given_up (D.Disk.is_usable self.new.journal.disk))
             → OnErr result (Keeps self.new.journal.at (D.Disk.seen self.new.journal.disk) (D.Disk.may_leave self.new.journal.disk) header entries) }
         ensures newest { OnOk result (self.new.journal.at.newest ≡ self.old.journal.at.newest) }
+        ensures after { OnOk result (IsAfter (end_of part) (nat_lt (length part.rows) PART) self.old.other self.new.other) }
     {
         let is_last = part.rows.len() < usize::from(PART);
-        let end = match part.rows.as_slice().last() {
-            Some((key, _)) => match key.copy(self.alloc) {
-                Ok(key) => Some(key),
-                Err(_) => return Err(JournalError::NoMemory),
-            },
-            None => None,
-        };
+        let end = end_of(self.alloc, &part)?;
         let more = match &self.other {
             Other::Needed { last, .. } => rows_after(&part, last),
             _ => 0,
         };
         self.journal.append_rows(self.alloc, part)?;
-        if let Other::Needed {
-            last,
-            copied,
-            has_all,
-            ..
-        } = &mut self.other
-        {
-            *copied = copied.saturating_add(more);
-            *has_all = is_last;
-            if end.is_some() {
-                *last = end;
-            }
-        }
+        let other = mem::replace(&mut self.other, Other::Gone);
+        self.other = other.after(end, more, is_last);
         Ok(())
     }
 

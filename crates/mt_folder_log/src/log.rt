@@ -5,6 +5,7 @@ ghost use Rattle.mt_frame.specs.declared.entry.Entry.{Entry};
 ghost use Rattle.mt_frame.specs.declared.entry.LogHeader.{LogHeader};
 ghost use Rattle.mt_journal.specs.Appending.{with_commits};
 ghost use Rattle.mt_journal.specs.Causes.{may_ask, GoesOn, SyncHasCause};
+ghost use Rattle.mt_folder_log.specs.Moving.{round_of, IsOfSpare};
 ghost use Rattle.mt_journal.specs.Keeping.{AllAreLogs, AllSurvive, Keeps};
 
 use crate::checkpoint::{Other, Round};
@@ -38,7 +39,9 @@ impl<D: Disk + Drop> FolderLog<D> {
         spare: Spare<D>,
         least: usize,
     ) -> FolderLog<D>
-        ensures { result.journal ≡ journal }
+        ensures journal { result.journal ≡ journal }
+        ensures other { IsOfSpare spare result.other }
+        ensures least { result.least ≡ least }
     {
         let other = match spare {
             Spare::Free { disk, size } => Other::free(disk, size, least),
@@ -118,13 +121,25 @@ impl<D: Disk + Drop> FolderLog<D> {
     }
 
     /// Returns what the checkpoint needs next: [`Round::Rests`] if none is due.
-    pub fn next_round(&self) -> Round {
+    pub fn next_round(&self) -> Round
+        ensures { result ≡ round_of self.now.least self.now.journal.at.end self.now.other }
+    {
         match &self.other {
-            Other::Free { most, .. } if self.least > 0 && self.journal.position().end >= *most =>
-                Round::Moves,
-            Other::Needed { has_all: true, .. } => Round::Seals,
-            Other::Needed { .. } => Round::Copies,
-            _ => Round::Rests,
+            Other::Free { most, .. } => {
+                if self.least > 0 && self.journal.position().end >= *most {
+                    Round::Moves
+                } else {
+                    Round::Rests
+                }
+            }
+            Other::Needed { has_all, .. } => {
+                if *has_all {
+                    Round::Seals
+                } else {
+                    Round::Copies
+                }
+            }
+            Other::Gone => Round::Rests,
         }
     }
 

@@ -138,21 +138,35 @@ no_order at bytes rest most entry count e (next other after has parts numbered f
 abbrev pub Promises : List ℕ → Found → Type 0
 Promises bytes read = (entry : Entry) (after : List ℕ) → HasFrame 0 0 entry → bytes ≡ frame_of 0 0 entry ++ after → found entry (length (frame_of 0 0 entry)) ≡ read
 
-header_there : (header : LogHeader) (others : List Entry) (bytes : List ℕ) (read : Found) → IsLog header others bytes → Promises bytes read → found (Header header) (length (frame_of 0 0 (Header header))) ≡ read
-header_there header others bytes read log promises =
-    let h = header_frame header in
-    let fs = frames_of header.generation (length h) others in
-    promises (Header header) (fs ++ log.rest) log.says.begins (log.parts ∙ append_assoc h fs log.rest)
+-- the frame of a header is at the front
+module _ (header : LogHeader) (rest bytes : List ℕ) (has : HasFrame 0 0 (Header header)) (parts : bytes ≡ header_frame header ++ rest) where
+  header_at : (read : Found) → Promises bytes read → found (Header header) (length (frame_of 0 0 (Header header))) ≡ read
+  header_at read promises = promises (Header header) rest has parts
+
+  pub no_fault_at : (fault : FrameFault) → Promises bytes (faulty fault) → ⊥
+  no_fault_at fault promises = some_err (Header header) (length (frame_of 0 0 (Header header))) fault (header_at (faulty fault) promises)
+
+  pub no_end_at : Promises bytes none_found → ⊥
+  no_end_at promises = none_some (Header header) (length (frame_of 0 0 (Header header))) (sym (header_at none_found promises))
+
+  pub header_is_at : (entry : Entry) (count : ℕ) → Promises bytes (found entry count) → entry ≡ Header header
+  header_is_at entry count promises = sym (same_found (Header header) entry (length (frame_of 0 0 (Header header))) count (header_at (found entry count) promises))
+
+-- as a log has it
+abbrev rest_of : (header : LogHeader) (others : List Entry) (bytes : List ℕ) → IsLog header others bytes → List ℕ
+rest_of header others bytes log = frames_of header.generation (length (header_frame header)) others ++ log.rest
+
+rest_is : (header : LogHeader) (others : List Entry) (bytes : List ℕ) (log : IsLog header others bytes) → bytes ≡ header_frame header ++ rest_of header others bytes log
+rest_is header others bytes log = log.parts ∙ append_assoc (header_frame header) (frames_of header.generation (length (header_frame header)) others) log.rest
 
 pub no_header_fault : (header : LogHeader) (others : List Entry) (bytes : List ℕ) (fault : FrameFault) → IsLog header others bytes → Promises bytes (faulty fault) → ⊥
-no_header_fault header others bytes fault log promises = some_err (Header header) (length (frame_of 0 0 (Header header))) fault (header_there header others bytes (faulty fault) log promises)
+no_header_fault header others bytes fault log promises = no_fault_at header (rest_of header others bytes log) bytes log.says.begins (rest_is header others bytes log) fault promises
 
 pub no_end_before : (header : LogHeader) (others : List Entry) (bytes : List ℕ) → IsLog header others bytes → Promises bytes none_found → ⊥
-no_end_before header others bytes log promises = none_some (Header header) (length (frame_of 0 0 (Header header))) (sym (header_there header others bytes none_found log promises))
+no_end_before header others bytes log promises = no_end_at header (rest_of header others bytes log) bytes log.says.begins (rest_is header others bytes log) promises
 
 pub header_is : (header : LogHeader) (others : List Entry) (bytes : List ℕ) (entry : Entry) (count : ℕ) → IsLog header others bytes → Promises bytes (found entry count) → entry ≡ Header header
-header_is header others bytes entry count log promises =
-    sym (same_found (Header header) entry (length (frame_of 0 0 (Header header))) count (header_there header others bytes (found entry count) log promises))
+header_is header others bytes entry count log promises = header_is_at header (rest_of header others bytes log) bytes log.says.begins (rest_is header others bytes log) entry count promises
 
 pub same_header_of : (h k : LogHeader) (entry : Entry) → entry ≡ Header h → entry ≡ Header k → h ≡ k
 same_header_of h k entry e f =

@@ -34,6 +34,7 @@ fn write_zeros<D: Disk>(disk: &mut D, at: &Position, zeros: &[u8]) -> io::Result
     ensures usable { IsTrue (D.Disk.is_usable disk.new) }
     ensures faults { CountsFault result (D.Disk.faults disk.old) (D.Disk.faults disk.new) }
     ensures tally { CountsRefusal result (D.Disk.tally_of disk.old) (D.Disk.tally_of disk.new) }
+    ensures clean { IsTrue (D.Disk.is_clean disk.new) → IsTrue (D.Disk.is_clean disk.old) }
 {
     disk.write_at(at.room, zeros)
 }
@@ -57,6 +58,7 @@ pub fn grow<D: Disk>(disk: &mut D, at: &mut Position, zeros: &[u8]) -> Result<()
     ensures faults { CountsFault result (D.Disk.faults disk.old) (D.Disk.faults disk.new) }
     ensures full { CountsFull result (D.Disk.tally_of disk.old).refused (D.Disk.tally_of disk.new).refused }
     ensures unsynced { IfUnsynced result (IsFalse (D.Disk.is_usable disk.new)) }
+    ensures clean { IsTrue (D.Disk.is_clean disk.new) → IsTrue (D.Disk.is_clean disk.old) }
 {
     if let Err(error) = write_zeros(disk, at, zeros) {
         return Err(GrowError::Write(error));

@@ -103,6 +103,7 @@ impl<D: Disk + Drop> Journal<D> {
         ensures gives_up { GivesUp self.old.is_given_up self.new.is_given_up (D.Disk.is_usable self.new.disk) ⊥ }
         ensures goes_on { GoesOn result (may_ask self.old.is_given_up (D.Disk.is_usable self.old.disk))
             (may_ask self.new.is_given_up (D.Disk.is_usable self.new.disk)) }
+        ensures clean { IsTrue (D.Disk.is_clean self.new.disk) → IsTrue (D.Disk.is_clean self.old.disk) }
     {
         match grow(&mut self.disk, &mut self.at, zeros) {
             Ok(()) => Ok(()),
@@ -151,6 +152,7 @@ impl<D: Disk + Drop> Journal<D> {
         ensures gives_up { GivesUp self.old.is_given_up self.new.is_given_up (D.Disk.is_usable self.new.disk) ⊥ }
         ensures goes_on { GoesOn result (may_ask self.old.is_given_up (D.Disk.is_usable self.old.disk))
             (may_ask self.new.is_given_up (D.Disk.is_usable self.new.disk)) }
+        ensures clean { IsTrue (D.Disk.is_clean self.new.disk) → IsTrue (D.Disk.is_clean self.old.disk) }
     {
         if self.has_room(count) {
             return Ok(());
@@ -200,6 +202,7 @@ impl<D: Disk + Drop> Journal<D> {
             (HasRoom self.old.at self.new.at entry.now) }
         ensures goes_on { GoesOn result (may_ask self.old.is_given_up (D.Disk.is_usable self.old.disk))
             (may_ask self.new.is_given_up (D.Disk.is_usable self.new.disk)) }
+        ensures clean { IsTrue (D.Disk.is_clean self.new.disk) → IsTrue (D.Disk.is_clean self.old.disk) }
     {
         if u64::MAX - self.at.newest < count {
             return Err(JournalError::TooLong);
@@ -331,6 +334,7 @@ impl<D: Disk + Drop> Journal<D> {
         ensures goes_on { GoesOn result (may_ask self.old.is_given_up (D.Disk.is_usable self.old.disk))
             (may_ask self.new.is_given_up (D.Disk.is_usable self.new.disk)) }
         ensures asks_nothing { result ≡ Err JournalError.GivenUp → self.new ≡ self.old }
+        ensures clean { IsTrue (D.Disk.is_clean self.new.disk) → IsTrue (D.Disk.is_clean self.old.disk) }
     {
         if !self.is_usable() {
             return Err(JournalError::GivenUp);

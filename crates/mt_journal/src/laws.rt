@@ -1,8 +1,13 @@
 //! Laws of logs, each of them the contract of a function that does nothing.
 
-ghost use Rattle.mt_journal.specs.Laws.{LogsReadOneWay};
+ghost use Rattle.mt_journal.specs.Laws.{HeadersAreShort, LogsReadOneWay};
 
 /// No bytes are two logs.
 pub fn logs_are_read_one_way()
     ensures { LogsReadOneWay }
+{}
+
+/// The frame of a header has 1 to 128 bytes.
+pub fn headers_are_short()
+    ensures { HeadersAreShort }
 {}

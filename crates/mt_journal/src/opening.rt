@@ -84,6 +84,7 @@ pub fn recover<D: Disk>(alloc: Global, disk: &mut D, columns: u8) -> Result<Reco
         → (left : List ℕ) → D.Disk.may_leave disk.new left → D.Disk.may_leave disk.old left ⊎ IsLog header entries left }
     ensures columns { IfOk result (λ read. read.header.columns ≡ columns) }
     ensures usable { OnOk result (IsTrue (D.Disk.is_usable disk.new)) }
+    ensures clean { IsTrue (D.Disk.is_clean disk.new) → IsTrue (D.Disk.is_clean disk.old) }
 
     // A file that is refused is left as it was, and so is one that is no log.
     ensures cause { OpenHasCause result (D.Disk.is_usable disk.old)
@@ -136,6 +137,7 @@ pub fn open<D: Disk + Drop>(
         → Keeps opened.journal.at (D.Disk.seen opened.journal.disk) (D.Disk.may_leave opened.journal.disk) opened.header opened.entries.items) }
     ensures columns { IfOk result (λ opened. opened.header.columns ≡ columns) }
     ensures asks { IfOk result (λ opened. IsTrue (may_ask opened.journal.is_given_up (D.Disk.is_usable opened.journal.disk))) }
+    ensures clean { IfOk result (λ opened. IsTrue (D.Disk.is_clean opened.journal.disk) → IsTrue (D.Disk.is_clean disk)) }
 
     // `last` is the disk as the call leaves it.
     ensures cause { (last : D) × OpenHasCause result (D.Disk.is_usable disk)
@@ -172,6 +174,7 @@ fn put_header<D: Disk>(
         → Keeps at (D.Disk.seen disk.new) (D.Disk.may_leave disk.new) header.now []) }
     ensures usable { OnOk result (IsTrue (D.Disk.is_usable disk.new)) }
     ensures cause { OpenHasCause result true (λ error. ⊥) (D.Disk.faults disk.old) (D.Disk.faults disk.new) }
+    ensures clean { IsTrue (D.Disk.is_clean disk.new) → IsTrue (D.Disk.is_clean disk.old) }
 {
     disk.write_at(0, frame)?;
     disk.sync()?;
@@ -197,6 +200,7 @@ pub fn create<D: Disk + Drop>(
 ) -> Result<Journal<D>, JournalError>
     ensures kept { IfOk result (λ journal. Keeps journal.at (D.Disk.seen journal.disk) (D.Disk.may_leave journal.disk) header []) }
     ensures asks { IfOk result (λ journal. IsTrue (may_ask journal.is_given_up (D.Disk.is_usable journal.disk))) }
+    ensures clean { IfOk result (λ journal. IsTrue (D.Disk.is_clean journal.disk) → IsTrue (D.Disk.is_clean disk)) }
 
     // `last` is the disk as the call leaves it.
     ensures cause { (last : D) × OpenHasCause result (D.Disk.is_usable disk) (λ error. ⊥) (D.Disk.faults disk) (D.Disk.faults last) }

@@ -5,7 +5,8 @@ ghost use Rattle.mt_frame.specs.declared.entry.Entry.{Entry};
 ghost use Rattle.mt_frame.specs.declared.entry.LogHeader.{LogHeader};
 ghost use Rattle.mt_frame.specs.declared.entry.Entry.TheVariants.{Header};
 ghost use Rattle.mt_frame.specs.Ends.{ends};
-ghost use Rattle.mt_journal.specs.Log.{AreNumbered, last_number, IsLog};
+ghost use Rattle.mt_frame.specs.Fits.{HasFrame};
+ghost use Rattle.mt_journal.specs.Log.{AreNumbered, header_frame, last_number, IsLog};
 ghost use Rattle.mt_journal.specs.Recovery.{HasRead, HasReadAll};
 ghost use Rattle.mt_journal.specs.Refusing.{of_fault, NextFails, EntriesFail, HeaderFails, LogFails};
 
@@ -144,6 +145,8 @@ pub fn read_header(
     ensures read { IfOk result (λ read. HasRead read.0 [] read.1 bytes.now × (read.1.room ≡ length bytes.now)) }
     ensures refused { (header : LogHeader) (others : List Entry) → IsLog header others bytes.now → header.columns ≡ columns
         → MatchResult result (λ read. read.0 ≡ header) (λ error. error ≡ JournalError.NoMemory) }
+    ensures headed { (header : LogHeader) (rest : List ℕ) → HasFrame 0 0 (Header header) → bytes.now ≡ header_frame header ++ rest
+        → header.columns ≡ columns → MatchResult result (λ read. read.0 ≡ header) (λ error. error ≡ JournalError.NoMemory) }
     ensures columns { IfOk result (λ read. read.0.columns ≡ columns) }
     ensures cause { IfErr result (HeaderFails columns bytes.now) }
 {

@@ -42,6 +42,7 @@ pub fn write_frame<D: Disk>(
     ensures usable { IsTrue (D.Disk.is_usable disk.new) }
     ensures faults { CountsFault result (D.Disk.faults disk.old) (D.Disk.faults disk.new) }
     ensures tally { CountsRefusal result (D.Disk.tally_of disk.old) (D.Disk.tally_of disk.new) }
+    ensures clean { IsTrue (D.Disk.is_clean disk.new) → IsTrue (D.Disk.is_clean disk.old) }
 {
     disk.write_at(at.end, frame)?;
     at.end += frame.len();
