@@ -53,7 +53,7 @@ MayMoveTo file (Free disk most) = disk ≡ file
 MayMoveTo file (Needed disk last copied has_all) = ⊥
 MayMoveTo file Gone = ⊥
 
--- what the spare file of an opened log is to the log in use: it may move there, or no row of it was copied yet
+-- how a log in use takes over the spare file of the one that was opened: it may move there, or no row of it was copied yet
 abbrev pub IsOfSpare : {D : Type 0} → Spare D → Other D → Type 0
 IsOfSpare (FreeSpare disk size) other = MayMoveTo disk other
 IsOfSpare (NeededSpare disk) other = other ≡ Needed disk None 0 false
