@@ -54,7 +54,7 @@ pub record HasRowsOfBoth (newer older : LogRead) (read : RowsRead) : Type 0 wher
 -- these are the rows of the logs of this source
 abbrev pub AreOfSource : LogRead → LogRead → Option Source → RowsRead → Type 0
 AreOfSource newer older (Some Newer) read = IsTrue (is_whole newer) × HasRows newer read
-AreOfSource newer older (Some Older) read = IsUnused newer older × HasRows older read
-AreOfSource newer older (Some Both) read = Continues newer older × HasRowsOfBoth newer older read
+AreOfSource newer older (Some Older) read = (IsTrue (is_whole newer) → ⊥) × IsUnused newer older × HasRows older read
+AreOfSource newer older (Some Both) read = (IsTrue (is_whole newer) → ⊥) × Continues newer older × HasRowsOfBoth newer older read
 AreOfSource newer older (Some Neither) read = ⊥
 AreOfSource newer older None read = ⊥
