@@ -2,6 +2,7 @@
 use Rattle.std.specs.Prelude.{◌≡◌, ◌≤◌, ◌==◌, ℕ, Bool, List, drop, IsTrue, Option, Some, None}
 use Rattle.std.specs.List.{list_all}
 use Rattle.std.specs.FinMap.{empty}
+use Rattle.mt_frame.specs.declared.entry.Entry.{Entry}
 use Rattle.mt_frame.specs.declared.entry.LogHeader.{LogHeader}
 use Rattle.mt_journal.specs.Log.{IsLog}
 use Rattle.mt_folder.specs.declared.looking.TheConstants.{HEADER}
@@ -20,17 +21,23 @@ pub record Says (C : ℕ) (bytes : List ℕ) (log : LogRead) : Type 0 where
   pub spells : IsLog log.header log.entries.items bytes
   pub columns : log.header.columns ≡ C
 
--- the bytes have no log but one of this header
+-- the bytes are a log of such an index with this header
+pub record Spells (C : ℕ) (bytes : List ℕ) (header : LogHeader) : Type 0 where
+  pub entries : List Entry
+  pub log : IsLog header entries bytes
+  pub columns : header.columns ≡ C
+
+-- the bytes are no log but one with this header
 abbrev pub HeaderOf : ℕ → List ℕ → Option LogHeader → Type 0
-HeaderOf C bytes found = (log : LogRead) → Says C bytes log → found ≡ Some log.header
+HeaderOf C bytes found = (header : LogHeader) → Spells C bytes header → found ≡ Some header
 
--- the bytes have no log
+-- the bytes are no log
 abbrev pub HasNone : ℕ → List ℕ → Type 0
-HasNone C bytes = (log : LogRead) → Says C bytes log → ⊥
+HasNone C bytes = (header : LogHeader) → Spells C bytes header → ⊥
 
--- a log of these bytes, if they have one, has no greater generation
+-- the log of these bytes, if they are one, has no greater generation
 abbrev pub IsNewest : ℕ → LogRead → List ℕ → Type 0
-IsNewest C log others = (other : LogRead) → Says C others other → other.header.generation ≤ log.header.generation
+IsNewest C log others = (header : LogHeader) → Spells C others header → header.generation ≤ log.header.generation
 
 -- the rows are those of the log of one file, which has them all, and is the newest
 pub record AreOfOne (C : ℕ) (bytes others : List ℕ) (read : RowsRead) : Type 0 where

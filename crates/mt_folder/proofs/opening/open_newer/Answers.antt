@@ -3,7 +3,7 @@ use Rattle.mt_folder.specs.declared.source.Source.TheVariants.{Newer}
 use Rattle.mt_folder.specs.Files.{AreRows}
 use Rattle.mt_folder.specs.Logs.{is_whole, last_number, AreOfSource, HasRows}
 use Rattle.mt_folder.specs.Spares.{disk_of, AreClean}
-use Rattle.mt_folder.proofs.HeaderLemmas.{newest_of}
+use Rattle.mt_folder.proofs.HeaderLemmas.{header_of, newest_of}
 use Rattle.mt_folder.proofs.SourceLemmas as lemmas
 use Rattle.mt_folder.proofs.opening.open_newer.Goals as goal
 
@@ -21,7 +21,7 @@ returns-then-is_whole-clause-rows g c =
           let spare = subst (λ (it : _). IsTrue (g.D.Disk.is_clean it)) disk clean.1 in
           let before = c.look_for_later.ensures.clean (subst (λ (it : _). IsTrue (g.D.Disk.is_clean it)) c.into_disk.ensures spare) in
           let says = c.in_ok-opened.ensures.says own in
-          let newest = newest_of c.args.columns others c.args.older.header c.args.newer.header log (c.requires.header (c.in_ok-opened.ensures.clean own) log says) (c.requires.other_header before) c.requires.order in
+          let newest = newest_of c.args.columns others c.args.older.header c.args.newer.header log (header_of c.args.columns bytes c.args.newer.header log (c.requires.header (c.in_ok-opened.ensures.clean own)) says) (c.requires.other_header before) c.requires.order in
           lemmas.rows_of_one c.args.columns bytes others opened.source opened.read log says whole newest source rows
       | Err error ↦ λ rows source journal disk. tt
     ] c.whole_log.ensures.rows c.whole_log.ensures.source c.whole_log.ensures.journal c.whole_log.ensures.disk
@@ -40,7 +40,7 @@ returns-clause-rows g c =
           let cleans = both clean in
           let says = c.in_ok-opened.ensures.says cleans.0 in
           let said = c.in_ok-earlier.ensures.says cleans.1 in
-          let newest = newest_of c.args.columns others c.args.older.header c.args.newer.header log (c.requires.header (c.in_ok-opened.ensures.clean cleans.0) log says) (c.requires.other_header (c.in_ok-earlier.ensures.clean cleans.1)) c.requires.order in
+          let newest = newest_of c.args.columns others c.args.older.header c.args.newer.header log (header_of c.args.columns bytes c.args.newer.header log (c.requires.header (c.in_ok-opened.ensures.clean cleans.0)) says) (c.requires.other_header (c.in_ok-earlier.ensures.clean cleans.1)) c.requires.order in
           lemmas.rows_of_two c.args.columns bytes others opened.source opened.read log other says said newest rows
       | Err error ↦ λ rows both. tt
     ] c.open_both.ensures.rows c.open_both.ensures.clean

@@ -1,0 +1,3 @@
+-- What a crash leaves of a folder.
+mod FrontLemmas
+mod CrashLemmas

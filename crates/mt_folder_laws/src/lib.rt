@@ -1,0 +1,22 @@
+//! What is read of a folder after a crash, as laws: README.md describes them.
+#![tactic(auto)]
+
+ghost use Rattle.mt_folder_laws.specs.Crashes.{CheckpointsSurvive, FirstLogsSurvive, SealedLogsSurvive};
+
+use mt_folder::laws::folders_have_the_rows;
+use mt_journal::laws::logs_are_read_one_way;
+
+/// A law, whose body does nothing: whatever a crash has left of the two files of a folder, what `open_log` of `mt_folder` reads
+/// of them is the rows after the first m commits, and m is at least the last durable number.
+///
+/// `first` is of a folder whose log begins with the first commit, and whose other file has no log. `checkpoint` is of a log
+/// that continues one of the other file, which a crash can't change, while the rows are copied; nothing is asked of the copies.
+/// `sealed` is of a log whose checkpoint is complete, and of which a crash leaves all entries.
+pub fn crashed_folders_have_the_rows()
+    ensures first { FirstLogsSurvive }
+    ensures checkpoint { CheckpointsSurvive }
+    ensures sealed { SealedLogsSurvive }
+{
+    folders_have_the_rows();
+    logs_are_read_one_way();
+}
