@@ -1,1 +1,3 @@
 pub mod WrittenLemmas
+mod CleanLemmas
+mod RoundLemmas

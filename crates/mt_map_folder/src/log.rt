@@ -1,16 +1,19 @@
 //! The commits of a map, written to the log of its folder.
 
-ghost use Rattle.std.specs.Prelude.{◌≡◌, ◌-◌, List, OnOk, OnErr, IfOk, IsTrue, IsFalse};
+ghost use Rattle.std.specs.Prelude.{◌≡◌, ◌-◌, nat_lt, false, List, length, Ok, OnOk, OnErr, IfOk, IsTrue, IsFalse};
 ghost use Rattle.mt_commit.specs.Log.{newest};
 ghost use Rattle.mt_frame.specs.declared.entry.Entry.{Entry};
 ghost use Rattle.mt_frame.specs.declared.entry.LogHeader.{LogHeader};
 ghost use Rattle.mt_frame.specs.declared.entry.Part.{Part};
-ghost use Rattle.mt_folder_log.specs.Moving.{start_of};
+ghost use Rattle.mt_folder_log.specs.Moving.{end_of, round_of, start_of, IfFree, IfNeeded, IsAfter, IsFree, Needs};
+ghost use Rattle.mt_folder_log.specs.declared.checkpoint.TheConstants.{PART};
 ghost use Rattle.mt_index.specs.Stands.{Stands};
-ghost use Rattle.mt_journal.specs.Appending.{with_part};
+ghost use Rattle.mt_journal.specs.Appending.{with_part, with_seal};
 ghost use Rattle.mt_journal.specs.Causes.{may_ask};
-ghost use Rattle.mt_journal.specs.Keeping.{AllSurvive, Keeps};
+ghost use Rattle.mt_journal.specs.Keeping.{AllAreLogs, AllSurvive, Keeps};
+ghost use Rattle.mt_journal.specs.Recovery.{Mixes};
 ghost use Rattle.mt_promise.specs.History.{History};
+ghost use Rattle.mt_map_folder.specs.Rounds.{acts, is_going, next_of, IfCopies, IfMoves, IfSeals};
 ghost use Rattle.mt_map_folder.specs.Written.{entries_with, left_after, AreOfMap};
 
 use crate::error::LogError;
@@ -23,6 +26,16 @@ use mt_replay::records::records_of;
 use mt_types::limits::MAX_RANGE;
 use sqlite_disk::Disk;
 use std::alloc::Global;
+
+// Whether a checkpoint has to be continued with this round.
+fn is_going(round: Round) -> bool
+    ensures { result ≡ is_going round }
+{
+    match round {
+        Round::Rests => false,
+        Round::Moves | Round::Copies | Round::Seals => true,
+    }
+}
 
 /// The log of a map. Each commit is made in the map, and then written here.
 #[derive(Drop)]
@@ -109,6 +122,7 @@ impl<D: Disk + Drop> MapLog<D> {
             → Keeps self.old.log.journal.at (D.Disk.seen self.old.log.journal.disk) (D.Disk.may_leave self.old.log.journal.disk) header entries
             → IsTrue (D.Disk.is_mixing self.new.log.journal.disk)
             → OnOk result ((part : Part) × AreOfMap map.now.machine (start_of self.old.log.other) part
+            × IsAfter (end_of part) (nat_lt (length part.rows) PART) self.old.log.other self.new.log.other
             × Keeps self.new.log.journal.at (D.Disk.seen self.new.log.journal.disk) (D.Disk.may_leave self.new.log.journal.disk) header
             (with_part part entries)) }
         ensures newest { OnOk result (self.new.log.journal.at.newest ≡ self.old.log.journal.at.newest) }
@@ -118,6 +132,49 @@ impl<D: Disk + Drop> MapLog<D> {
         let rows = map.pairs(start.as_slice(), PART, &[])?;
         self.log.copy(Part { at, rows })?;
         Ok(())
+    }
+
+    // Makes this round of a checkpoint.
+    fn make(&mut self, map: &Map, round: Round) -> Result<(), LogError>
+        ensures moves { (header : LogHeader) (entries : List Entry)
+            → Keeps self.old.log.journal.at (D.Disk.seen self.old.log.journal.disk) (D.Disk.may_leave self.old.log.journal.disk) header entries
+            → IfMoves round (IfFree self.old.log.other (OnOk result (Needs self.new.log.other (λ disk. AllAreLogs header entries (D.Disk.may_leave disk))))) }
+        ensures copies { (header : LogHeader) (entries : List Entry)
+            → Keeps self.old.log.journal.at (D.Disk.seen self.old.log.journal.disk) (D.Disk.may_leave self.old.log.journal.disk) header entries
+            → IsTrue (D.Disk.is_mixing self.new.log.journal.disk)
+            → IfCopies round (OnOk result ((part : Part) × AreOfMap map.now.machine (start_of self.old.log.other) part
+            × IsAfter (end_of part) (nat_lt (length part.rows) PART) self.old.log.other self.new.log.other
+            × Keeps self.new.log.journal.at (D.Disk.seen self.new.log.journal.disk) (D.Disk.may_leave self.new.log.journal.disk) header
+            (with_part part entries))) }
+        ensures seals { (header : LogHeader) (entries : List Entry)
+            → Keeps self.old.log.journal.at (D.Disk.seen self.old.log.journal.disk) (D.Disk.may_leave self.old.log.journal.disk) header entries
+            → Mixes D.Disk.is_mixing
+            → IfSeals round (IfNeeded self.old.log.other (λ copied. OnOk result (IsFree self.new.log.other
+            × AllAreLogs header (with_seal copied entries) (D.Disk.may_leave self.new.log.journal.disk)
+            × Keeps self.new.log.journal.at (D.Disk.seen self.new.log.journal.disk) (D.Disk.may_leave self.new.log.journal.disk) header
+            (with_seal copied entries)))) }
+        ensures newest { OnOk result (self.new.log.journal.at.newest ≡ self.old.log.journal.at.newest) }
+    {
+        match round {
+            Round::Rests | Round::Moves => self.log.begin()?,
+            Round::Copies => return self.copy(map),
+            Round::Seals => self.log.seal()?,
+        }
+        Ok(())
+    }
+
+    // Whether a round is made.
+    fn acts(&self, map: &Map, begins: bool) -> bool
+        ensures { result ≡ acts self.now.log map.now.machine begins }
+    {
+        if map.commits() <= self.log.position().newest {
+            match self.log.next_round() {
+                Round::Rests => begins,
+                Round::Moves | Round::Copies | Round::Seals => true,
+            }
+        } else {
+            false
+        }
     }
 
     /// Makes a round of a checkpoint, by which the log stays short: the log moves to the other file of the folder, the next rows
@@ -130,18 +187,38 @@ impl<D: Disk + Drop> MapLog<D> {
     ///
     /// Those of [`MapLog::write`]; and if the other file fails: then the log stays where it is.
     pub fn advance(&mut self, map: &Map, begins: bool) -> Result<bool, LogError>
+        ensures moves { (header : LogHeader) (entries : List Entry)
+            → Keeps self.old.log.journal.at (D.Disk.seen self.old.log.journal.disk) (D.Disk.may_leave self.old.log.journal.disk) header entries
+            → IsTrue (acts self.old.log map.now.machine begins)
+            → IfMoves (next_of self.old.log) (IfFree self.old.log.other (OnOk result (Needs self.new.log.other
+            (λ disk. AllAreLogs header entries (D.Disk.may_leave disk))))) }
+        ensures copies { (header : LogHeader) (entries : List Entry)
+            → Keeps self.old.log.journal.at (D.Disk.seen self.old.log.journal.disk) (D.Disk.may_leave self.old.log.journal.disk) header entries
+            → IsTrue (D.Disk.is_mixing self.new.log.journal.disk)
+            → IsTrue (acts self.old.log map.now.machine begins)
+            → IfCopies (next_of self.old.log) (OnOk result ((part : Part) × AreOfMap map.now.machine (start_of self.old.log.other) part
+            × IsAfter (end_of part) (nat_lt (length part.rows) PART) self.old.log.other self.new.log.other
+            × Keeps self.new.log.journal.at (D.Disk.seen self.new.log.journal.disk) (D.Disk.may_leave self.new.log.journal.disk) header
+            (with_part part entries))) }
+        ensures seals { (header : LogHeader) (entries : List Entry)
+            → Keeps self.old.log.journal.at (D.Disk.seen self.old.log.journal.disk) (D.Disk.may_leave self.old.log.journal.disk) header entries
+            → Mixes D.Disk.is_mixing
+            → IsTrue (acts self.old.log map.now.machine begins)
+            → IfSeals (next_of self.old.log) (IfNeeded self.old.log.other (λ copied. OnOk result (IsFree self.new.log.other
+            × AllAreLogs header (with_seal copied entries) (D.Disk.may_leave self.new.log.journal.disk)
+            × Keeps self.new.log.journal.at (D.Disk.seen self.new.log.journal.disk) (D.Disk.may_leave self.new.log.journal.disk) header
+            (with_seal copied entries)))) }
+        ensures rests { acts self.old.log map.now.machine begins ≡ false → (result ≡ Ok false) × (self.new ≡ self.old) }
+        ensures going { IsTrue (acts self.old.log map.now.machine begins)
+            → IfOk result (λ going. going ≡ is_going (next_of self.new.log)) }
         ensures newest { OnOk result (self.new.log.journal.at.newest ≡ self.old.log.journal.at.newest) }
     {
-        if self.lacking(map) > 0 {
+        if !self.acts(map, begins) {
             return Ok(false);
         }
-        match self.log.next_round() {
-            Round::Rests if !begins => return Ok(false),
-            Round::Rests | Round::Moves => self.log.begin()?,
-            Round::Copies => self.copy(map)?,
-            Round::Seals => self.log.seal()?,
-        }
-        Ok(self.log.next_round() != Round::Rests)
+        let round = self.log.next_round();
+        self.make(map, round)?;
+        Ok(is_going(self.log.next_round()))
     }
 
     /// Returns the disk of the log, and that of the other file, unless it has failed. Ends the use of the log, which isn't

@@ -3,10 +3,10 @@
 ghost use Rattle.std.specs.Prelude.{◌≡◌, IfOk, MatchOption, Err};
 ghost use Rattle.mt_types.specs.Limits.{open_fault};
 ghost use Rattle.mt_folder.specs.declared.reading.RowsRead.{RowsRead};
-ghost use Rattle.mt_folder.specs.Files.{IsHonest};
 ghost use Rattle.mt_load.specs.Loaded.{IsLoaded};
 ghost use Rattle.mt_map_folder.specs.declared.error.OpenError.TheVariants.{Refused};
-ghost use Rattle.mt_map_folder.specs.Read.{IsReadFrom};
+ghost use Rattle.mt_journal.specs.Recovery.{Mixes};
+ghost use Rattle.mt_map_folder.specs.Read.{AreClean, IsReadFrom, KeepsRows};
 
 use crate::error::OpenError;
 use crate::log::MapLog;
@@ -50,8 +50,9 @@ pub fn open<D: Disk + Drop>(
     least: usize,
 ) -> Result<OpenedMap<D>, OpenError>
     ensures loaded { IfOk result (λ opened. (read : RowsRead) × IsLoaded options.columns read.commits read.rows opened.map.machine
-        × (IsHonest D.Disk.is_clean → IsReadFrom options.columns (D.Disk.seen even) (D.Disk.seen odd) read
-        × (opened.log.log.journal.at.newest ≡ read.commits))) }
+        × (AreClean D.Disk.is_clean opened.log → IsReadFrom options.columns (D.Disk.seen even) (D.Disk.seen odd) read
+        × (opened.log.log.journal.at.newest ≡ read.commits)
+        × (Mixes D.Disk.is_mixing → KeepsRows D.Disk.seen D.Disk.may_leave opened.log read.rows))) }
     ensures tidies { IfOk result (λ opened. opened.map.tidies ≡ options.tidies) }
     ensures fault { MatchOption (open_fault options.columns options.log_capacity options.log_retention) (Unit {0})
         (λ refusal. result ≡ Err (Refused refusal)) }

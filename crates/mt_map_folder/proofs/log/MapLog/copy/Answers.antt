@@ -14,5 +14,6 @@ returns-clause-copies g c = λ header entries keeps mixing.
         at = c.commits-at.ensures.number;
         are = λ h stands. subst (λ (from : List ℕ). IsRangeOfMap (rows s.columns (moment h)) [] from PART c.in_ok-rows.rows) start (c.in_ok-rows.ensures.pairs h stands);
       },
+      c.in_ok-copy.ensures.after,
       c.in_ok-copy.ensures.kept header entries keeps mixing,
     )
