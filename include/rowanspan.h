@@ -1,4 +1,4 @@
-/* rowanspan.h: an ordered key-value index in memory, with views that stay exact.
+/* rowanspan.h: an ordered key-value index in memory, with views that stay exact. Its rows may be in a folder too.
  *
  * Link with librowanspan.a or librowanspan.so. C99, C11 and C++ can include it.
  *
@@ -15,21 +15,36 @@
  *
  * PROOFS
  *     The functions are thin: each passes its arguments to a function inside the library, of which it is proved what it
- *     does, by its contract in crates/rowanspan_c/src/exports.rt or view_exports.rt. (rowanspan_open also allocates
- *     what the pointer points to, rowanspan_get_column copies one column of the answer of rowanspan_get,
+ *     does, by its contract in crates/rowanspan_c/src/exports.rt, view_exports.rt or log_exports.rt. (rowanspan_open
+ *     also allocates what the pointer points to, rowanspan_get_column copies one column of the answer of rowanspan_get,
  *     rowanspan_totals reads its answer into a struct, and a cursor repeats rowanspan_range, rowanspan_range_back or
- *     rowanspan_view.) The thin functions, which are in bindings/c, and the inline functions of this header are only
- *     tested.
+ *     rowanspan_view. A change of an index with a folder is two calls: it is made, and its commit is written.) The thin
+ *     functions, which are in bindings/c, and the inline functions of this header are only tested.
  *
  * ORDER OF REFUSALS
  *     Limits are answered before memory. A call that breaks a limit of its keys, its columns, its test, its range or
  *     its number of rows or deltas is refused for the first that it breaks, and a page then for its view and a feed for
- *     its log (ROWANSPAN_NO_SUCH_VIEW, ROWANSPAN_BEHIND). Such a call never answers ROWANSPAN_NO_MEMORY.
+ *     its log (ROWANSPAN_NO_SUCH_VIEW, ROWANSPAN_BEHIND). Such a call never answers ROWANSPAN_NO_MEMORY, unless it is a
+ *     change while the log of a folder lacks a commit.
  *
  * HANDLES
- *     A caller holds an index by a pointer to a `rowanspan`, of which it sees nothing else. rowanspan_open makes the
- *     index, and rowanspan_close ends it: the pointer must not be used after that. Only rowanspan_close takes a null
- *     pointer to an index.
+ *     A caller holds an index by a pointer to a `rowanspan`, of which it sees nothing else. rowanspan_open or
+ *     rowanspan_open_folder makes the index, and rowanspan_close ends it: the pointer must not be used after that. Only
+ *     rowanspan_close takes a null pointer to an index.
+ *
+ * FOLDERS
+ *     The rows of rowanspan_open are gone when the process ends. rowanspan_open_folder opens an index whose rows are
+ *     also in the files of a folder. A put, put_if or remove is made in memory, and then its commit is written to a log
+ *     there. A crash of the process undoes no commit that was written. A crash of the machine undoes no commit that was
+ *     synced (rowanspan_sync). Whatever a crash leaves, rowanspan_open_folder finds the rows after the first m commits,
+ *     with their versions, and m is at least the last number that rowanspan_durable returned.
+ *
+ *     If a commit can't be written, the call returns NOT_WRITTEN: the change is in memory alone. Each further change
+ *     first writes what the log lacks, before it tests its limits. If that fails, it returns DISK_FULL, DISK_FAILED or
+ *     NO_MEMORY, and changes nothing. All other calls continue.
+ *
+ *     A folder is of one index at a time. A forked child must not use an index with a folder, and shares the lock: the
+ *     folder is free when the child has ended, too.
  *
  * THREADS
  *     An index may be made by one thread, and used and closed by another: it is proved that what it holds may be moved.
@@ -48,8 +63,8 @@
  * NUMBERS
  *     The last parameter of most calls that return a status points to a number, such as `commit` or `length`. The call
  *     always writes this number, unless the pointer is null. The comment of the call says what the number is if the
- *     status is OK, and if it is FEED_FULL, BEHIND, OTHER_VERSION or NO_ROOM. For all other statuses it is 0. The
- *     pointers to an index, a cursor, a pair or totals that a call sets must not be null.
+ *     status is OK, and if it is FEED_FULL, BEHIND, OTHER_VERSION, NO_ROOM or NOT_WRITTEN. For all other statuses it is
+ *     0. The pointers to an index, a cursor, a pair or totals that a call sets must not be null.
  *
  * BUFFERS
  *     A call whose answer is bytes writes them to the start of the buffer `into`, which the caller owns and which has
@@ -91,6 +106,9 @@
 #define ROWANSPAN_MAX_COLUMNS 16
 #define ROWANSPAN_MAX_COLUMN_BYTES 64
 
+/* The usual `checkpoint` of rowanspan_open_folder: 64 MiB. */
+#define ROWANSPAN_CHECKPOINT 67108864
+
 #ifdef __cplusplus
 extern "C" {
 #endif
@@ -119,7 +137,15 @@ typedef enum rowanspan_status {
     ROWANSPAN_ABSENT = 102,         /* the key has no row, or the cursor has no more rows */
     ROWANSPAN_NO_ROOM = 103,        /* the answer has N bytes, and the buffer is smaller */
     ROWANSPAN_CURRENT = 104,        /* there was nothing to apply: no view is behind */
-    ROWANSPAN_NO_SUCH_TEST = 105    /* no test of rows is of this kind */
+    ROWANSPAN_NO_SUCH_TEST = 105,   /* no test of rows is of this kind */
+    ROWANSPAN_FOLDER_FAILED = 106,  /* the folder or its files can't be made, opened or read */
+    ROWANSPAN_FOLDER_BUSY = 107,    /* another index or process has the folder */
+    ROWANSPAN_FOLDER_DAMAGED = 108, /* the files are no logs of such an index, or rows or durable commits are missing;
+                                       nothing was changed in them */
+    ROWANSPAN_DISK_FULL = 109,      /* the disk is full: nothing was written, and the call can be made again */
+    ROWANSPAN_DISK_FAILED = 110,    /* the disk has failed: nothing is written until the folder is opened again */
+    ROWANSPAN_NO_FOLDER = 111,      /* the rows are in memory alone */
+    ROWANSPAN_NOT_WRITTEN = 112     /* the change is in memory, and its commit N was not written to the log */
 } rowanspan_status;
 
 /* What rowanspan_tidy has done. */
@@ -179,9 +205,54 @@ struct rowanspan_test {
  * Returns OK. Fails with BAD_COLUMN, BAD_LIMIT or NO_MEMORY; *index is then null. */
 rowanspan_status rowanspan_open(rowanspan **index, uint64_t columns, uint64_t log_capacity, uint64_t log_retention);
 
-/* rowanspan_close: closes an index and frees its memory. It does nothing if `index` is null.
+/* rowanspan_open_folder: opens an index with the rows of a folder, and sets *index to it. `folder` is a path that ends
+ * in a 0. The folder is made if it is missing, but no folder above it, and so are its files, `even-wal` and `odd-wal`.
+ * They are as those of `mtserve --data`: a server can open the folder after the index was closed, and `mtfolder verify`
+ * reads it. The commits of the index continue after the last one of the folder, and rowanspan_feed has none before
+ * that. `columns`, `log_capacity` and `log_retention` are as of rowanspan_open; a folder is always opened with the same
+ * `columns`.
  *
- * Cost: a visit of each node, row, delta and view. */
+ * The log is shortened when it has grown by `checkpoint` bytes (ROWANSPAN_CHECKPOINT is usual), and by as many as its
+ * rows took; if `checkpoint` is 0, only by rowanspan_checkpoint. This is done bit by bit, with the changes: each of
+ * them copies up to 256 rows, and the first and the last one sync.
+ *
+ * If the call fails, why is written to `message` as text that ends in a 0, cut to `room` bytes. If it returns OK, the
+ * text is empty. `message` may be null.
+ *
+ * Cost: a read of the logs, which are in memory meanwhile, and a put for each row.
+ *
+ * Returns OK. Fails with BAD_COLUMN, BAD_LIMIT, ARENA_FULL, NO_MEMORY, FOLDER_FAILED, FOLDER_BUSY, FOLDER_DAMAGED or
+ * DISK_FULL; *index is then null. */
+rowanspan_status rowanspan_open_folder(rowanspan **index, const char *folder, uint64_t columns, uint64_t log_capacity,
+                                       uint64_t log_retention, uint64_t checkpoint, char *message, size_t room);
+
+/* rowanspan_sync: makes all commits durable: no crash undoes them. *durable is the number of the last one. If the log
+ * lacks a commit, it writes that first.
+ *
+ * Cost: one fdatasync.
+ *
+ * Returns OK. Fails with NO_FOLDER, DISK_FULL, DISK_FAILED or NO_MEMORY. */
+rowanspan_status rowanspan_sync(rowanspan *index, uint64_t *durable);
+
+/* rowanspan_durable: returns the number of the last commit that no crash undoes; 0 if the rows are in memory alone.
+ *
+ * It costs next to nothing, and doesn't fail. */
+uint64_t rowanspan_durable(const rowanspan *index);
+
+/* rowanspan_checkpoint: shortens the log at once: the log continues in the other file, to which all rows are copied. If
+ * that is in progress, it is completed. All commits are durable then.
+ *
+ * Cost: a copy of each row, and some ten calls of the disk.
+ *
+ * Returns OK. Fails with NO_FOLDER, DISK_FULL, DISK_FAILED or NO_MEMORY. If the other file has failed, the log stays in
+ * its file, and isn't shortened before the folder is opened again. */
+rowanspan_status rowanspan_checkpoint(rowanspan *index);
+
+/* rowanspan_close: closes an index and frees its memory. If it has a folder, all commits are made durable, as by
+ * rowanspan_sync, and the folder is free for others. A caller that has to know whether they are calls rowanspan_sync
+ * before. It does nothing if `index` is null.
+ *
+ * Cost: a visit of each node, row, delta and view, and with a folder one fdatasync. */
 void rowanspan_close(rowanspan *index);
 
 /* ---- rows */
@@ -194,8 +265,9 @@ void rowanspan_close(rowanspan *index);
  * memory for the key and the columns, which are copied. The tree has one more layer for each eight bytes at the start
  * of the key that another key has too, if both are longer: seven visits if the put makes the layer, else two.
  *
- * Returns OK. Fails with KEY_TOO_LONG, BAD_COLUMN, COLUMN_TOO_LONG, FEED_FULL, ARENA_FULL, SPENT or NO_MEMORY; the row
- * is then as it was. */
+ * Returns OK. Returns NOT_WRITTEN if the put was made in memory, and its commit *commit was not written to the log.
+ * Fails with KEY_TOO_LONG, BAD_COLUMN, COLUMN_TOO_LONG, FEED_FULL, ARENA_FULL, SPENT or NO_MEMORY, and with a folder
+ * DISK_FULL or DISK_FAILED; the row is then as it was. */
 rowanspan_status rowanspan_put(rowanspan *index, const void *key, size_t key_length, const struct rowanspan_set *sets,
                                size_t count, uint64_t *commit);
 
@@ -205,7 +277,7 @@ rowanspan_status rowanspan_put(rowanspan *index, const void *key, size_t key_len
  * Cost: that of a put.
  *
  * Returns OK. Returns OTHER_VERSION if the row is of another version; nothing changes, and *commit is the row's
- * version, or 0 if there is no row. Fails as rowanspan_put does. */
+ * version, or 0 if there is no row. Returns NOT_WRITTEN, and fails, as rowanspan_put does. */
 rowanspan_status rowanspan_put_if(rowanspan *index, const void *key, size_t key_length,
                                   const struct rowanspan_set *sets, size_t count, uint64_t version, uint64_t *commit);
 
@@ -215,8 +287,9 @@ rowanspan_status rowanspan_put_if(rowanspan *index, const void *key, size_t key_
  *
  * Cost: a visit of each node on the way to the key, twice, and the steps by which nodes are taken out.
  *
- * Returns OK. Returns ABSENT if the key has no row; nothing changes, and there is no commit. Fails with KEY_TOO_LONG,
- * FEED_FULL, SPENT or NO_MEMORY; the row is then as it was. */
+ * Returns OK. Returns ABSENT if the key has no row; nothing changes, and there is no commit. Returns NOT_WRITTEN as
+ * rowanspan_put does. Fails with KEY_TOO_LONG, FEED_FULL, SPENT or NO_MEMORY, and with a folder DISK_FULL or
+ * DISK_FAILED; the row is then as it was. */
 rowanspan_status rowanspan_remove(rowanspan *index, const void *key, size_t key_length, uint64_t *commit);
 
 /* rowanspan_tidy: takes at most one node out of the tree near the place of a key, if removes have left one that isn't

@@ -1,9 +1,10 @@
 /* raw.h: the functions of the crate rowanspan_c, of which it is proved what they do. Only bindings/c and
  * bindings/python include it.
  *
- * exports.rt and view_exports.rt in crates/rowanspan_c/src have them, with their contracts. scripts/build_library
- * renames those that are there named as functions of rowanspan.h: rowanspan_open is rowanspan_raw_open here. No pointer
- * may be null, also if there are no bytes, and no buffer may overlap what else is passed. */
+ * exports.rt, view_exports.rt and log_exports.rt in crates/rowanspan_c/src have them, with their contracts.
+ * scripts/build_library renames those that are there named as functions of rowanspan.h: rowanspan_open is
+ * rowanspan_raw_open here. No pointer may be null, also if there are no bytes, and no buffer may overlap what else is
+ * passed. */
 #ifndef ROWANSPAN_RAW_H
 #define ROWANSPAN_RAW_H
 
@@ -16,6 +17,15 @@ struct rowanspan_raw {
 };
 
 typedef struct rowanspan_raw *raw_handle;
+
+/* What the crate's functions take as the log of an index: all bytes 0 if it holds none. It may be moved, and not
+ * copied. */
+struct rowanspan_raw_log {
+    void *at;
+    bool is_open;
+};
+
+typedef struct rowanspan_raw_log *raw_log;
 
 uint16_t rowanspan_raw_open(raw_handle handle, uint64_t columns, uint64_t log_capacity, uint64_t log_retention);
 uint16_t rowanspan_raw_close(raw_handle handle);
@@ -58,5 +68,22 @@ uint16_t rowanspan_raw_commits(raw_handle handle, uint64_t *told);
 uint16_t rowanspan_raw_len(raw_handle handle, uint64_t *told);
 uint16_t rowanspan_raw_nodes(raw_handle handle, uint64_t *told);
 uint16_t rowanspan_raw_columns(raw_handle handle, uint64_t *told);
+
+/* Opens an index with the rows of a folder, and the log to which its commits go. If it fails, why is written to message
+ * as text (UTF-8, no 0 at its end, cut to room), and told is the number of these bytes. */
+uint16_t rowanspan_raw_open_folder(raw_handle handle, raw_log log, const uint8_t *folder, size_t folder_length,
+                                   uint64_t columns, uint64_t log_capacity, uint64_t log_retention,
+                                   uint64_t checkpoint, uint8_t *message, size_t room, uint64_t *told);
+/* Writes the next commits that the log lacks, at most 1000. told: how many commits it still lacks, also if it fails. */
+uint16_t rowanspan_raw_log_commits(raw_handle handle, raw_log log, uint64_t *told);
+/* Makes all that was written durable. told: the number of the last commit. */
+uint16_t rowanspan_raw_log_sync(raw_log log, uint64_t *told);
+/* told: the number of the last commit that no crash undoes. */
+uint16_t rowanspan_raw_log_durable(raw_log log, uint64_t *told);
+/* Makes one round of a checkpoint, if one is due or in progress, or `begins` is true. Does nothing while the log lacks
+ * a commit. told: 1 if it isn't complete yet, else 0. */
+uint16_t rowanspan_raw_log_checkpoint(raw_handle handle, raw_log log, bool begins, uint64_t *told);
+/* Ends the log, which is not synced by that, and unlocks the folder. */
+uint16_t rowanspan_raw_log_close(raw_log log);
 
 #endif

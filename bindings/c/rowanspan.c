@@ -1,17 +1,12 @@
-/* rowanspan.c: the functions of rowanspan.h, but for cursors. Each passes its arguments to the proved function that
- * raw.h declares.
+/* rowanspan.c: the functions of rowanspan.h, but for cursors and folders. Each passes its arguments to the proved
+ * function that raw.h declares.
  *
  * A raw function takes no null pointer. If the caller's is null, it is passed the address of something else: of bytes
  * that it doesn't use, or of a number that nobody reads. */
-#include "raw.h"
+#include "index.h"
 
 #include <stdlib.h>
 #include <string.h>
-
-/* An index: a raw handle that holds one. */
-struct rowanspan {
-    struct rowanspan_raw raw;
-};
 
 /* The raw handle of an index. A raw function writes to the handle also if it only reads what the handle holds. The
  * const of a caller's pointer is taken away here: the memory is that of malloc, so it may be written. */
@@ -33,23 +28,16 @@ static const struct rowanspan_bytes *keys_at(const struct rowanspan_bytes *keys)
 
 rowanspan_status rowanspan_open(rowanspan **index, uint64_t columns, uint64_t log_capacity, uint64_t log_retention) {
     struct rowanspan_raw raw = {NULL, false};
+    const struct rowanspan_raw_log none = {NULL, false};
     rowanspan_status status = (rowanspan_status)rowanspan_raw_open(&raw, columns, log_capacity, log_retention);
     *index = NULL;
-    if (status != ROWANSPAN_OK) {
-        return status;
-    }
     /* after the raw call, so that limits are answered before memory */
-    *index = malloc(sizeof **index);
-    if (!*index) {
-        rowanspan_raw_close(&raw);
-        return ROWANSPAN_NO_MEMORY;
-    }
-    (*index)->raw = raw;
-    return ROWANSPAN_OK;
+    return status == ROWANSPAN_OK ? hold(index, raw, none) : status;
 }
 
 void rowanspan_close(rowanspan *index) {
     if (index) {
+        close_log(index);
         rowanspan_raw_close(&index->raw);
         free(index);
     }
@@ -59,22 +47,39 @@ void rowanspan_close(rowanspan *index) {
 
 rowanspan_status rowanspan_put(rowanspan *index, const void *key, size_t key_length, const struct rowanspan_set *sets,
                                size_t count, uint64_t *commit) {
-    uint64_t unread;
-    return (rowanspan_status)rowanspan_raw_put(raw_of(index), rowanspan_bytes_at(key), key_length, sets_at(sets),
-                                               count, commit ? commit : &unread);
+    uint64_t unread = 0;
+    uint64_t *number = commit ? commit : &unread;
+    rowanspan_status status = begin_change(index, number);
+    if (status == ROWANSPAN_OK) {
+        status = (rowanspan_status)rowanspan_raw_put(raw_of(index), rowanspan_bytes_at(key), key_length, sets_at(sets),
+                                                     count, number);
+        status = end_change(index, status);
+    }
+    return status;
 }
 
 rowanspan_status rowanspan_put_if(rowanspan *index, const void *key, size_t key_length,
                                   const struct rowanspan_set *sets, size_t count, uint64_t version, uint64_t *commit) {
-    uint64_t unread;
-    return (rowanspan_status)rowanspan_raw_put_if(raw_of(index), rowanspan_bytes_at(key), key_length, sets_at(sets),
-                                                  count, version, commit ? commit : &unread);
+    uint64_t unread = 0;
+    uint64_t *number = commit ? commit : &unread;
+    rowanspan_status status = begin_change(index, number);
+    if (status == ROWANSPAN_OK) {
+        status = (rowanspan_status)rowanspan_raw_put_if(raw_of(index), rowanspan_bytes_at(key), key_length,
+                                                        sets_at(sets), count, version, number);
+        status = end_change(index, status);
+    }
+    return status;
 }
 
 rowanspan_status rowanspan_remove(rowanspan *index, const void *key, size_t key_length, uint64_t *commit) {
-    uint64_t unread;
-    return (rowanspan_status)rowanspan_raw_remove(raw_of(index), rowanspan_bytes_at(key), key_length,
-                                                  commit ? commit : &unread);
+    uint64_t unread = 0;
+    uint64_t *number = commit ? commit : &unread;
+    rowanspan_status status = begin_change(index, number);
+    if (status == ROWANSPAN_OK) {
+        status = (rowanspan_status)rowanspan_raw_remove(raw_of(index), rowanspan_bytes_at(key), key_length, number);
+        status = end_change(index, status);
+    }
+    return status;
 }
 
 rowanspan_status rowanspan_tidy(rowanspan *index, const void *key, size_t key_length, uint64_t *tidied) {
@@ -303,6 +308,14 @@ const char *rowanspan_status_text(rowanspan_status status) {
     case ROWANSPAN_NO_ROOM: return "the buffer is smaller than the answer";
     case ROWANSPAN_CURRENT: return "there was nothing to apply: no view is behind";
     case ROWANSPAN_NO_SUCH_TEST: return "no test of rows is of this kind";
+    case ROWANSPAN_FOLDER_FAILED: return "the folder or its files can't be made, opened or read";
+    case ROWANSPAN_FOLDER_BUSY: return "another index or process has the folder";
+    case ROWANSPAN_FOLDER_DAMAGED:
+        return "the files are no logs of such an index, or rows or durable commits are missing";
+    case ROWANSPAN_DISK_FULL: return "the disk is full";
+    case ROWANSPAN_DISK_FAILED: return "the disk has failed";
+    case ROWANSPAN_NO_FOLDER: return "the rows are in memory alone";
+    case ROWANSPAN_NOT_WRITTEN: return "the change is in memory, and its commit N was not written to the log";
     }
     return "no status has this number";
 }

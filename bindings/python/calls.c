@@ -181,6 +181,45 @@ static bool views_follow(Calls *self) {
     return status == ROWANSPAN_CURRENT;
 }
 
+/* Whether a change may be made here: no other thread is in a call of the index, and its log lacks no commit. */
+static bool may_change(const Calls *self) {
+    return is_free(&self->lock) && !self->log->lags;
+}
+
+/* Writes the commits that the log of a folder lacks, and makes a round of a checkpoint that is due. Other threads of the interpreter run meanwhile, and those that
+ * call the index wait for its lock. */
+static uint16_t write_commits(Calls *self) {
+    bool is_held = lock_at_once(&self->lock);
+    PyThreadState *state = is_held ? PyEval_SaveThread() : NULL;
+    uint64_t lacking = 0, unread;
+    uint16_t status;
+    do {
+        status = self->library.log_commits(self->handle, &self->log->handle, &lacking);
+    } while (status == DONE && lacking > 0);
+    if (lacking == 0) {
+        /* (if it fails, the commits are written all the same) */
+        self->library.log_checkpoint(self->handle, &self->log->handle, false, &unread);
+    }
+    if (state) {
+        PyEval_RestoreThread(state);
+    }
+    self->log->lags = lacking > 0;
+    if (is_held) {
+        lock_release(&self->lock);
+    }
+    return lacking > 0 ? status : DONE;
+}
+
+/* What a change does that was made: its commit is written, if there is a folder. */
+static PyObject *committed(Calls *self, PyObject *index, uint64_t number) {
+    uint16_t status = self->log->handle.is_open ? write_commits(self) : DONE;
+    if (status != DONE) {
+        /* (it raises NotWritten) */
+        return PyObject_CallMethod(index, "_not_written", "KH", (unsigned long long)number, status);
+    }
+    return PyLong_FromUnsignedLongLong(number);
+}
+
 /* What a change does after its call of the library: the views follow. If they can't, the index is told that they lag,
  * and its next change by ctypes brings them up to date. */
 static PyObject *changed(Calls *self, PyObject *index, uint16_t status, uint64_t number) {
@@ -191,7 +230,7 @@ static PyObject *changed(Calls *self, PyObject *index, uint16_t status, uint64_t
     if (status == ROWANSPAN_ABSENT) {
         return none();
     }
-    return status == DONE ? PyLong_FromUnsignedLongLong(number) : undone();
+    return status == DONE ? committed(self, index, number) : undone();
 }
 
 static PyObject *calls_put(Calls *self, PyObject *arguments) {
@@ -204,7 +243,7 @@ static PyObject *calls_put(Calls *self, PyObject *arguments) {
         return NULL;
     }
     if (!bytes_in(PyTuple_GetItem(arguments, 1), &key) || !sets_in(PyTuple_GetItem(arguments, 2), sets, &count) ||
-        !is_free(&self->lock)) {
+        !may_change(self)) {
         return undone();
     }
     status = self->library.put(self->handle, key.at, key.length, sets, count, &number);
@@ -221,7 +260,7 @@ static PyObject *calls_put_if(Calls *self, PyObject *arguments) {
         return NULL;
     }
     if (!bytes_in(PyTuple_GetItem(arguments, 1), &key) || !sets_in(PyTuple_GetItem(arguments, 2), sets, &count) ||
-        !number_in(PyTuple_GetItem(arguments, 3), UINT64_MAX, &version) || !is_free(&self->lock)) {
+        !number_in(PyTuple_GetItem(arguments, 3), UINT64_MAX, &version) || !may_change(self)) {
         return undone();
     }
     status = self->library.put_if(self->handle, key.at, key.length, sets, count, version, &number);
@@ -235,7 +274,7 @@ static PyObject *calls_remove(Calls *self, PyObject *arguments) {
     if (!takes(arguments, 2)) {
         return NULL;
     }
-    if (!bytes_in(PyTuple_GetItem(arguments, 1), &key) || !is_free(&self->lock)) {
+    if (!bytes_in(PyTuple_GetItem(arguments, 1), &key) || !may_change(self)) {
         return undone();
     }
     status = self->library.remove(self->handle, key.at, key.length, &number);

@@ -37,6 +37,22 @@ static bool take(struct lock *lock) {
     return true;
 }
 
+bool lock_at_once(struct lock *lock) {
+    if (lock->depth == 0 && PyThread_acquire_lock_timed(lock->lock, 0, 0) != PY_LOCK_ACQUIRED) {
+        return false;
+    }
+    lock->owner = PyThread_get_thread_ident();
+    lock->depth++;
+    return true;
+}
+
+void lock_release(struct lock *lock) {
+    lock->depth--;
+    if (lock->depth == 0) {
+        PyThread_release_lock(lock->lock);
+    }
+}
+
 PyObject *calls_enter(Calls *self, PyObject *unused) {
     unsigned long thread = PyThread_get_thread_ident();
     (void)unused;
@@ -56,9 +72,6 @@ PyObject *calls_exit(Calls *self, PyObject *fault) {
         PyErr_SetString(PyExc_RuntimeError, "this thread doesn't hold the lock of the index");
         return NULL;
     }
-    self->lock.depth--;
-    if (self->lock.depth == 0) {
-        PyThread_release_lock(self->lock.lock);
-    }
+    lock_release(&self->lock);
     return none();
 }

@@ -28,7 +28,9 @@ static bool functions_in(PyObject *addresses, struct functions *library) {
            address_in(addresses, "range_back", &library->range_back) &&
            address_in(addresses, "count", &library->count) && address_in(addresses, "len", &library->len) &&
            address_in(addresses, "view", &library->view) && address_in(addresses, "totals", &library->totals) &&
-           address_in(addresses, "apply", &library->apply);
+           address_in(addresses, "apply", &library->apply) &&
+           address_in(addresses, "log_commits", &library->log_commits) &&
+           address_in(addresses, "log_checkpoint", &library->log_checkpoint);
 }
 
 static bool record_in(PyTypeObject *type, const char *const *names, size_t count, struct record *record) {
@@ -67,6 +69,7 @@ static void end_record(struct record *record) {
 static void calls_end(Calls *self) {
     PyTypeObject *type = Py_TYPE(self);
     Py_XDECREF(self->owner);
+    Py_XDECREF(self->log_owner);
     Py_XDECREF(self->no_arguments);
     Py_XDECREF(self->views_lag);
     end_record(&self->row);
@@ -77,13 +80,14 @@ static void calls_end(Calls *self) {
     Py_DECREF(type);
 }
 
-/* Calls(handle, its address, {name: address of the function}, keeps_views, Row, Page) */
+/* Calls(handle, its address, log, its address, {name: address of the function}, keeps_views, Row, Page) */
 static PyObject *calls_new(PyTypeObject *type, PyObject *arguments, PyObject *named) {
-    PyObject *owner, *handle, *addresses, *row, *page;
+    PyObject *owner, *handle, *log_owner, *log, *addresses, *row, *page;
     int keeps_views;
     Calls *self;
-    if (named || !PyArg_ParseTuple(arguments, "OO!O!pO!O!", &owner, &PyLong_Type, &handle, &PyDict_Type, &addresses,
-                                   &keeps_views, &PyType_Type, &row, &PyType_Type, &page)) {
+    if (named || !PyArg_ParseTuple(arguments, "OO!OO!O!pO!O!", &owner, &PyLong_Type, &handle, &log_owner, &PyLong_Type,
+                                   &log, &PyDict_Type, &addresses, &keeps_views, &PyType_Type, &row, &PyType_Type,
+                                   &page)) {
         if (!PyErr_Occurred()) {
             PyErr_SetString(PyExc_TypeError, "it takes no arguments by their names");
         }
@@ -95,10 +99,13 @@ static PyObject *calls_new(PyTypeObject *type, PyObject *arguments, PyObject *na
         return NULL;
     }
     Py_INCREF(owner);
+    Py_INCREF(log_owner);
     self->owner = owner;
+    self->log_owner = log_owner;
     self->keeps_views = keeps_views != 0;
     self->handle = PyLong_AsVoidPtr(handle);
-    if (!self->handle || !lock_begin(&self->lock) ||
+    self->log = PyLong_AsVoidPtr(log);
+    if (!self->handle || !self->log || !lock_begin(&self->lock) ||
         !begin(self, addresses, (PyTypeObject *)row, (PyTypeObject *)page)) {
         Py_DECREF(self);
         return NULL;

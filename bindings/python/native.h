@@ -6,14 +6,15 @@
  * process, and an index takes calls of both kinds.
  *
  * Each call returns NotImplemented if it has changed nothing and has no answer: an argument isn't of the usual type,
- * another thread is in a call of the index, the library refuses the call, memory ends, or there are COUNTED_ROWS rows
- * or more to count. The caller then makes the call by ctypes, which waits for the other thread, or raises what has to be
- * raised.
+ * another thread is in a call of the index, the library refuses the call, memory ends, the log of a folder lacks a
+ * commit, or there are COUNTED_ROWS rows or more to count. The caller then makes the call by ctypes, which waits for
+ * the other thread, or raises what has to be raised.
  *
  * A call holds the interpreter's lock from its first to its last call of the library, and no code in Python runs in
- * between. A call by ctypes releases the interpreter's lock: it holds the index's lock, which a call here tests. Code
- * in Python may run when the answer becomes objects, since an allocation may start the garbage collector, and this code
- * may call the index again. So each call has room of its own for its answer. */
+ * between. Only while it writes the commit of a change to the log of a folder, it holds the index's lock instead. A
+ * call by ctypes releases the interpreter's lock: it holds the index's lock, which a call here tests. Code in Python
+ * may run when the answer becomes objects, since an allocation may start the garbage collector, and this code may call
+ * the index again. So each call has room of its own for its answer. */
 #ifndef ROWANSPAN_NATIVE_H
 #define ROWANSPAN_NATIVE_H
 
@@ -58,6 +59,15 @@ struct functions {
     __typeof__(rowanspan_raw_view) *view;
     __typeof__(rowanspan_raw_totals) *totals;
     __typeof__(rowanspan_raw_apply) *apply;
+    __typeof__(rowanspan_raw_log_commits) *log_commits;
+    __typeof__(rowanspan_raw_log_checkpoint) *log_checkpoint;
+};
+
+/* The log of an index, as library.py has it: it isn't open if the rows are in memory alone. `lags` is true if the log
+ * may lack a commit. */
+struct log {
+    struct rowanspan_raw_log handle;
+    bool lags;
 };
 
 /* A class whose objects are made without a call of its __init__, and the names of their attributes. */
@@ -77,9 +87,10 @@ typedef struct {
     PyObject_HEAD
     struct functions library;
     raw_handle handle;
+    struct log *log;
     bool keeps_views;
-    /* the object of ctypes that has the handle */
-    PyObject *owner;
+    /* the objects of ctypes that have the handle and the log */
+    PyObject *owner, *log_owner;
     struct lock lock;
     PyObject *no_arguments, *views_lag;
     struct record row, page;
@@ -96,6 +107,12 @@ void lock_end(struct lock *lock);
 
 /* Whether no other thread is in a call of the index. */
 bool is_free(const struct lock *lock);
+
+/* Takes a lock that is free, without waiting. Returns false if another thread is about to have it. */
+bool lock_at_once(struct lock *lock);
+
+/* Releases a lock that this thread holds. */
+void lock_release(struct lock *lock);
 
 /* The methods __enter__ and __exit__, for a with statement in which a call is made by ctypes. */
 PyObject *calls_enter(Calls *self, PyObject *unused);

@@ -125,7 +125,7 @@ class ClientTest(DurableTest):
     def test_an_index_in_memory(self) -> None:
         with StandIn(Options(workers=1)) as server, Client(server.port, timeout=SECONDS) as index:
             for call in (index.durable, index.settle, lambda: index.wait(durable=True)):
-                with self.assertRaisesRegex(InMemory, "^the server keeps its rows in memory alone$"):
+                with self.assertRaisesRegex(InMemory, "^the rows are in memory alone$"):
                     call()
             self.assertEqual(index.info()["durable"], 0)
 
@@ -157,7 +157,7 @@ class RefusalTest(DurableTest):
                 self.assertIsInstance(fault, kind)
             again = pickle.loads(pickle.dumps(fault))
             self.assertEqual((type(again), str(again), again.errno), (type(fault), str(fault), number))
-        self.assertEqual(str(DiskFailed(7)), "the server's disk has failed after commit 7, which is durable")
+        self.assertEqual(str(DiskFailed(7)), "the disk has failed after commit 7, which is durable")
         self.assertEqual((DiskFailed(7).durable, DiskFailed(0).durable), (7, 0))
         self.assertNotIsInstance(DiskFailed(7), (PermissionError, ConnectionError))
         self.assertNotIsInstance(InMemory(), OSError)

@@ -1,7 +1,7 @@
 #!/usr/bin/env python3
 """Tests of the embedded index, over the built library: also those of map_cases, test_embedded_views,
-test_embedded_back, test_embedded_count, test_embedded_many, test_embedded_threads and test_embedded_native. Prints 'N
-passed, M failed' last."""
+test_embedded_back, test_embedded_count, test_embedded_many, test_embedded_threads, test_embedded_native and
+test_embedded_folder. Prints 'N passed, M failed' last."""
 from __future__ import annotations
 
 import ctypes
@@ -22,6 +22,7 @@ import rowanspan.embedded
 import rowanspan.mapping
 import test_embedded_back
 import test_embedded_count
+import test_embedded_folder
 import test_embedded_many
 import test_embedded_native
 import test_embedded_threads
@@ -371,7 +372,8 @@ def main() -> int:
                                            load.loadTestsFromModule(test_embedded_count),
                                            load.loadTestsFromModule(test_embedded_many),
                                            load.loadTestsFromModule(test_embedded_threads),
-                                           load.loadTestsFromModule(test_embedded_native)]))
+                                           load.loadTestsFromModule(test_embedded_native),
+                                           load.loadTestsFromModule(test_embedded_folder)]))
 
 
 if __name__ == "__main__":

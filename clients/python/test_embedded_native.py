@@ -243,10 +243,10 @@ class NativeTest(unittest.TestCase):
                      lambda: calls.put_if(b"a", b"v", 0), made, lambda: made(handle=1)):
             with self.assertRaises(TypeError):
                 call()
-        handle, addresses = index._handle, {name: 1 for name in native.FUNCTIONS}
+        handle, log, addresses = index._handle, index._log.state, {name: 1 for name in native.FUNCTIONS}
         for missing in native.FUNCTIONS:
             some: Dict[str, int] = {name: 1 for name in addresses if name != missing}
             with self.assertRaisesRegex(ValueError, f"^there is no address of {missing}$"):
-                made(handle, 1, some, True, Row, Page)
+                made(handle, 1, log, 1, some, True, Row, Page)
         with self.assertRaises(TypeError):
-            made(handle, 1, {**addresses, "get": "1"}, True, Row, Page)
+            made(handle, 1, log, 1, {**addresses, "get": "1"}, True, Row, Page)

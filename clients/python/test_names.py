@@ -46,7 +46,8 @@ class NameTest(unittest.TestCase):
     def test_the_signature(self) -> None:
         own, of_init = inspect.signature(rowanspan.Index), inspect.signature(rowanspan.Index.__init__)
         self.assertEqual(list(own.parameters.values()), list(of_init.parameters.values())[1:-1])
-        self.assertEqual(list(own.parameters), ["columns", "log_capacity", "log_retention", "keep_views", "library"])
+        self.assertEqual(list(own.parameters), ["columns", "log_capacity", "log_retention", "keep_views", "folder",
+                                                "checkpoint", "library"])
 
 
 class FormerCallTest(unittest.TestCase):

@@ -1,19 +1,20 @@
 """The embedded index where memory ends inside the library's calls: `memory.py`, with wanting_memory.c preloaded.
 
-A change that was made returns its number, and one that is refused changed nothing. The last line is 'N passed, M
-failed'.
+A change that was made returns its number, or raises it if it wasn't written to a folder, and one that is refused
+changed nothing. The last line is 'N passed, M failed'.
 """
 from __future__ import annotations
 
 import ctypes
 import sys
+import tempfile
 import traceback
 from pathlib import Path
 from typing import Any, Callable, Dict
 
 sys.path.insert(0, str(Path(__file__).resolve().parent.parent.parent / "clients" / "python"))
 
-from rowanspan import Index, NoMemory, Prefix, Row  # noqa: E402
+from rowanspan import Index, NoMemory, NotWritten, Prefix, Row  # noqa: E402
 from rowanspan.native import NoCalls  # noqa: E402
 
 PRELOADED = ctypes.PyDLL(None)
@@ -144,6 +145,35 @@ def gets_of_many() -> None:
         assert 2 < refusals < 1999, refusals
 
 
+def folders() -> None:
+    """Puts of an index with a folder, where memory ends in the put, in the write of its commit, or in both. What wasn't
+    written is written before the next put, or that is refused."""
+    plain, unwritten, refusals = {}, 0, 0
+    with tempfile.TemporaryDirectory() as place:
+        with Index(folder=f"{place}/rows") as index:
+            library = index._log._library = wanting(index)
+            for number in range(4000):
+                key, made = b"%06d" % (number * 7919 % 1000003), index.commits()
+                library.allowed = {"put": number % 16 - 1, "log_commits": number // 16 % 16 - 1}
+                try:
+                    commit = index.put(key, b"v")
+                except NotWritten as fault:
+                    unwritten += 1
+                    commit = fault.commit
+                    assert isinstance(fault.__cause__, NoMemory)
+                except NoMemory:
+                    refusals += 1
+                    assert index.commits() == made and index.get(key) == plain.get(key)
+                    continue
+                assert commit == index.commits() == made + 1
+                plain[key] = Row(commit, (b"v",))
+            library.allowed = {}
+            assert index.settle() == index.durable() == index.commits() and dict(index.range()) == plain
+        with Index(folder=f"{place}/rows") as index:
+            assert dict(index.range()) == plain and index.commits() == len(plain)
+    assert unwritten > 10 and refusals > 10, (unwritten, refusals)
+
+
 def wanted(allowed: int, call: Callable[[], Any]) -> Any:
     """What a call of the extension module returns if memory ends after a number of allocations."""
     PRELOADED.memory_ends_after(allowed)
@@ -193,7 +223,7 @@ def calls_of_the_module() -> None:
         assert dict(index.range()) == plain and view.page(index.commits()).count == len(plain)
 
 
-CASES = (puts, builds, reads_back, counts, gets_of_many, calls_of_the_module)
+CASES = (puts, builds, reads_back, counts, gets_of_many, folders, calls_of_the_module)
 
 
 def main() -> int:

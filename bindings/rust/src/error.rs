@@ -2,8 +2,8 @@
 
 use std::fmt;
 
-/// Why a call failed. It has changed no row, no commit and no view.
-#[derive(Clone, Copy, Debug, PartialEq, Eq)]
+/// Why a call failed. It has changed no row, no commit and no view, but for [`NotWritten`](Error::NotWritten).
+#[derive(Clone, Debug, PartialEq, Eq)]
 #[non_exhaustive]
 pub enum Error {
     /// Out of memory: an allocation was refused.
@@ -33,6 +33,22 @@ pub enum Error {
     Spent,
     /// The row has this version, not the one asked for; 0 means that the key has no row.
     OtherVersion(u64),
+    /// The folder or its files can't be made, opened or read, for this reason.
+    FolderFailed(String),
+    /// Another index or process has the folder.
+    FolderBusy,
+    /// The files of the folder are no logs of such an index, or rows or durable commits are missing. This says in which
+    /// file. Nothing was changed in them.
+    FolderDamaged(String),
+    /// The disk is full: nothing was written, and the call can be made again.
+    DiskFull,
+    /// The disk has failed: nothing is written until the folder is opened again.
+    DiskFailed,
+    /// The rows are in memory alone.
+    NoFolder,
+    /// The change was made in memory, and its commit, which has this number, was not written to the log. The next change
+    /// writes it first, and so does a [`sync`](crate::Index::sync).
+    NotWritten(u64),
     /// The library returned a status that no call returns: it is another library.
     Unknown(u32),
 }
@@ -54,7 +70,21 @@ impl Error {
             13 => Error::BadRange,
             14 => Error::Spent,
             16 => Error::OtherVersion(number),
+            107 => Error::FolderBusy,
+            109 => Error::DiskFull,
+            110 => Error::DiskFailed,
+            111 => Error::NoFolder,
+            112 => Error::NotWritten(number),
             other => Error::Unknown(other),
+        }
+    }
+
+    /// The error of the status with which a folder wasn't opened, and of what the library says about it.
+    pub(crate) fn of_folder(status: u32, message: String) -> Error {
+        match status {
+            106 => Error::FolderFailed(message),
+            108 => Error::FolderDamaged(message),
+            other => Error::of(other, 0),
         }
     }
 }
@@ -88,6 +118,15 @@ impl fmt::Display for Error {
             Error::OtherVersion(found) => write!(
                 f,
                 "the row has version {found}, not the one asked for; 0 means no row"
+            ),
+            Error::FolderFailed(why) | Error::FolderDamaged(why) => f.write_str(why),
+            Error::FolderBusy => write!(f, "another index or process has the folder"),
+            Error::DiskFull => write!(f, "the disk is full"),
+            Error::DiskFailed => write!(f, "the disk has failed"),
+            Error::NoFolder => write!(f, "the rows are in memory alone"),
+            Error::NotWritten(commit) => write!(
+                f,
+                "the change is in memory, and its commit {commit} was not written to the log"
             ),
             Error::Unknown(status) => write!(f, "the library returned the status {status}"),
         }

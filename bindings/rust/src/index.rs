@@ -18,8 +18,8 @@ pub const MAX_KEY_BYTES: usize = 1024;
 /// thread; a [`SharedIndex`](crate::SharedIndex) is one that threads share.
 ///
 /// A key is anything that is bytes: `"apple"`, `b"apple"`, a `Vec<u8>`. A call that fails has changed no row, no commit
-/// and no view. Limits are tested before memory is taken: a call that breaks one never fails with
-/// [`NoMemory`](Error::NoMemory).
+/// and no view, but for [`NotWritten`](Error::NotWritten). Limits are tested before memory is taken: a call that breaks
+/// one never fails with [`NoMemory`](Error::NoMemory), unless the log of a folder lacks a commit.
 ///
 /// ```
 /// use rowanspan::{Error, Index, Options};
@@ -49,7 +49,8 @@ fn column_sets<'a>(sets: &[(u8, &'a [u8])]) -> Vec<ColumnSet<'a>> {
 }
 
 impl Index {
-    /// An empty index.
+    /// An empty index, whose rows are in memory alone. [`open_folder`](Index::open_folder) opens one whose rows are in a
+    /// folder too.
     ///
     /// ```
     /// use rowanspan::{Error, Index, Options};
@@ -87,7 +88,8 @@ impl Index {
     ///
     /// [`KeyTooLong`](Error::KeyTooLong), [`BadColumn`](Error::BadColumn), [`ColumnTooLong`](Error::ColumnTooLong),
     /// [`FeedFull`](Error::FeedFull), [`ArenaFull`](Error::ArenaFull), [`Spent`](Error::Spent) and
-    /// [`NoMemory`](Error::NoMemory).
+    /// [`NoMemory`](Error::NoMemory). With a folder, [`DiskFull`](Error::DiskFull), [`DiskFailed`](Error::DiskFailed),
+    /// and [`NotWritten`](Error::NotWritten): then the put was made in memory.
     pub fn put(&mut self, key: impl AsRef<[u8]>, sets: &[(u8, &[u8])]) -> Result<u64, Error> {
         done(self.library.put(key.as_ref(), &column_sets(sets)))
     }
@@ -132,7 +134,8 @@ impl Index {
     /// # Errors
     ///
     /// [`KeyTooLong`](Error::KeyTooLong), [`FeedFull`](Error::FeedFull), [`Spent`](Error::Spent) and
-    /// [`NoMemory`](Error::NoMemory).
+    /// [`NoMemory`](Error::NoMemory). With a folder, [`DiskFull`](Error::DiskFull), [`DiskFailed`](Error::DiskFailed),
+    /// and [`NotWritten`](Error::NotWritten): then the row was removed in memory.
     pub fn remove(&mut self, key: impl AsRef<[u8]>) -> Result<Option<u64>, Error> {
         match self.library.remove(key.as_ref()) {
             (ABSENT, _) => Ok(None),

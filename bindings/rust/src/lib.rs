@@ -1,4 +1,5 @@
-//! Rowanspan in a Rust program: an ordered key-value index in memory, with views that stay exact.
+//! Rowanspan in a Rust program: an ordered key-value index in memory, with views that stay exact. Its rows may be in a
+//! folder too ([`Index::open_folder`]).
 //!
 //! ```
 //! use rowanspan::{Error, Index, Options};
@@ -31,6 +32,7 @@ mod answers;
 mod calls;
 mod counts;
 mod error;
+mod folder;
 mod index;
 mod many;
 mod options;

@@ -1,7 +1,7 @@
 //! How an index is opened.
 
 /// How an index is opened. [`Options::default`] has one column, a log that holds up to 65,536 commits for views, and no
-/// commits that are kept for no view. Each method changes one option.
+/// commits that are kept for no view; a folder's log is shortened each 64 MiB. Each method changes one option.
 ///
 /// ```
 /// use rowanspan::{Error, Index, Options};
@@ -19,6 +19,9 @@ pub struct Options {
     pub log_capacity: u64,
     /// How many of the last commits the log keeps for readers of [`Index::feed`](crate::Index::feed): at most 65,536.
     pub log_retention: u64,
+    /// After how many bytes more the log of a folder is shortened; 0 if only
+    /// [`Index::checkpoint`](crate::Index::checkpoint) does it. An index without a folder doesn't use it.
+    pub checkpoint: u64,
 }
 
 impl Options {
@@ -59,6 +62,16 @@ impl Options {
         }
     }
 
+    /// The same options, with a folder's log that is shortened after this number of bytes more; 0: not unasked.
+    ///
+    /// ```
+    /// assert_eq!(rowanspan::Options::default().checkpoint(1_000_000).checkpoint, 1_000_000);
+    /// ```
+    #[must_use]
+    pub fn checkpoint(self, checkpoint: u64) -> Options {
+        Options { checkpoint, ..self }
+    }
+
     /// The former name of [`log_capacity`](Options::log_capacity).
     #[deprecated(note = "its name is now log_capacity")]
     #[must_use]
@@ -80,6 +93,7 @@ impl Default for Options {
             columns: 1,
             log_capacity: 65_536,
             log_retention: 0,
+            checkpoint: 67_108_864,
         }
     }
 }

@@ -4,6 +4,9 @@ use std::ffi::{c_char, c_uint, CStr};
 use std::marker::PhantomData;
 use std::ptr::NonNull;
 
+// How many bytes of a message are read.
+const MESSAGE: usize = 1024;
+
 // An index of the library, of which only the address is known.
 #[repr(C)]
 struct Opened {
@@ -107,6 +110,11 @@ type Number = *mut u64;
 extern "C" {
     fn rowanspan_version() -> *const c_char;
     fn rowanspan_open(index: *mut Handle, columns: u64, log_capacity: u64, log_retention: u64) -> c_uint;
+    fn rowanspan_open_folder(index: *mut Handle, folder: *const c_char, columns: u64, log_capacity: u64,
+                             log_retention: u64, checkpoint: u64, message: *mut c_char, room: usize) -> c_uint;
+    fn rowanspan_sync(index: Handle, durable: Number) -> c_uint;
+    fn rowanspan_durable(index: Handle) -> u64;
+    fn rowanspan_checkpoint(index: Handle) -> c_uint;
     fn rowanspan_close(index: Handle);
     fn rowanspan_put(index: Handle, key: *const u8, key_length: usize, sets: *const ColumnSet<'_>, count: usize,
                      commit: Number) -> c_uint;
@@ -201,6 +209,34 @@ impl Library {
         // SAFETY: the address is that of a variable.
         let status = unsafe { rowanspan_open(&mut index, columns, log_capacity, log_retention) };
         NonNull::new(index).map(|index| Library { index }).ok_or(status)
+    }
+
+    /// An index with the rows of a folder, or the status of an error and what the library says about it.
+    pub(crate) fn open_folder(folder: &CStr, columns: u64, log_capacity: u64, log_retention: u64,
+                              checkpoint: u64) -> Result<Library, (u32, String)> {
+        let (mut index, mut room) = (std::ptr::null_mut(), [0u8; MESSAGE]);
+        // SAFETY: the addresses are those of variables and of a text that ends in a zero byte. The library writes to the
+        // room no more bytes than it has.
+        let status = unsafe {
+            rowanspan_open_folder(&mut index, folder.as_ptr(), columns, log_capacity, log_retention, checkpoint,
+                                  room.as_mut_ptr().cast(), room.len())
+        };
+        let message = room.split(|byte| *byte == 0).next().unwrap_or_default();
+        NonNull::new(index)
+            .map(|index| Library { index })
+            .ok_or_else(|| (status, String::from_utf8_lossy(message).into_owned()))
+    }
+
+    pub(crate) fn sync(&mut self) -> (u32, u64) {
+        answered!(self, rowanspan_sync)
+    }
+
+    pub(crate) fn durable(&self) -> u64 {
+        call!(self, rowanspan_durable)
+    }
+
+    pub(crate) fn checkpoint(&mut self) -> u32 {
+        call!(self, rowanspan_checkpoint)
     }
 
     pub(crate) fn put(&mut self, key: &[u8], sets: &[ColumnSet<'_>]) -> (u32, u64) {

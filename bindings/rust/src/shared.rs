@@ -7,6 +7,7 @@ use crate::options::Options;
 use crate::range::{KeyRange, Pairs, Source};
 use crate::upkeep::Tidied;
 use crate::views::{Keys, RowTest, View};
+use std::path::Path;
 use std::sync::{Arc, Mutex, MutexGuard, PoisonError};
 
 /// An [`Index`] behind a mutex, with its methods over `&self`. A clone is the same index. The last clone that is dropped
@@ -95,6 +96,8 @@ impl SharedIndex {
         fn feed(from: u64, limit: u16) -> Vec<Delta>;
         fn tidy(key: impl AsRef<[u8]>) -> Tidied;
         fn advance() -> u64;
+        fn sync() -> u64;
+        fn checkpoint() -> ();
     }
 
     value_of_index! {
@@ -103,6 +106,7 @@ impl SharedIndex {
         fn commits() -> u64;
         fn nodes() -> u64;
         fn columns() -> u64;
+        fn durable() -> u64;
     }
 }
 
@@ -114,6 +118,15 @@ impl SharedIndex {
     /// Those of [`Index::open`].
     pub fn open(options: Options) -> Result<SharedIndex, Error> {
         Index::open(options).map(SharedIndex::from)
+    }
+
+    /// [`Index::open_folder`].
+    ///
+    /// # Errors
+    ///
+    /// Those of [`Index::open_folder`].
+    pub fn open_folder(path: impl AsRef<Path>, options: Options) -> Result<SharedIndex, Error> {
+        Index::open_folder(path, options).map(SharedIndex::from)
     }
 
     /// The index, for several calls that no other thread's come between. Other threads wait until it is dropped. A

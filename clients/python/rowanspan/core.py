@@ -4,14 +4,16 @@ from __future__ import annotations
 import enum
 import operator
 from dataclasses import dataclass
+from errno import EBUSY
 from typing import Any, ClassVar, Dict, List, Mapping, NewType, Optional, Sequence, Tuple, Type, Union
 
 __all__ = [
     "MAX_KEY_BYTES", "MAX_LIMIT", "MAX_NUMBER", "RowanspanError", "TooLong", "Closed", "WrongIndex", "NoLibrary",
-    "ConnectionLost", "BadReply", "Unanswered", "Refused", "NoMemory", "KeyTooLong", "BadColumn", "ColumnTooLong",
-    "BadLimit", "ArenaFull", "FeedFull", "TooManyCalls", "NoSuchCall", "TooManyViews", "NoSuchView", "Behind",
-    "BadRange", "Spent", "WrongPass", "OtherVersion", "REFUSALS", "ViewNo", "Row", "Pairs", "Page", "Totals", "Delta",
-    "Tidied", "AnyRow", "Equals", "AtLeast", "RowTest", "Range", "Prefix", "ViewSpec", "Sets", "set_pairs", "key_after",
+    "FolderFailed", "FolderBusy", "FolderDamaged", "NotWritten", "ConnectionLost", "BadReply", "Unanswered", "Refused",
+    "NoMemory", "KeyTooLong", "BadColumn", "ColumnTooLong", "BadLimit", "ArenaFull", "FeedFull", "TooManyCalls",
+    "NoSuchCall", "TooManyViews", "NoSuchView", "Behind", "BadRange", "Spent", "WrongPass", "OtherVersion", "REFUSALS",
+    "ViewNo", "Row", "Pairs", "Page", "Totals", "Delta", "Tidied", "AnyRow", "Equals", "AtLeast", "RowTest", "Range",
+    "Prefix", "ViewSpec", "Sets", "set_pairs", "key_after",
 ]
 
 MAX_KEY_BYTES = 1024
@@ -41,6 +43,33 @@ class WrongIndex(RowanspanError, ValueError):
 
 class NoLibrary(RowanspanError):
     """The library of the embedded index isn't there, or is another one."""
+
+
+class FolderFailed(RowanspanError, OSError):
+    """The folder of an embedded index, or one of its files, can't be made, opened or read."""
+
+
+class FolderBusy(RowanspanError, OSError):
+    """Another index has the folder, in this process or another one."""
+
+    errno = EBUSY
+
+
+class FolderDamaged(RowanspanError, OSError):
+    """The files of the folder are no logs of such an index, or rows or durable commits are missing. Nothing was changed
+    in them. The message names the file."""
+
+
+class NotWritten(RowanspanError, OSError):
+    """The change was made in memory, and its commit was not written to the log in the folder. `commit` is its number,
+    and `__cause__` is why. The next change writes it first, and so does `settle`."""
+
+    def __init__(self, commit: int) -> None:
+        self.commit = commit
+        super().__init__(f"the change is in memory, and its commit {commit} was not written to the log")
+
+    def __reduce__(self) -> Tuple[Any, ...]:
+        return type(self), (self.commit,)
 
 
 class ConnectionLost(RowanspanError, ConnectionError):

@@ -11,7 +11,9 @@
 
 The calls are those of the server's client, and so are the rows, the views and what is raised: to change from one to the
 other, a program opens an `Index` or a `Client`. There are no pipelines here, and no queries as values. `feed`,
-`commits`, `nodes`, `columns`, `apply`, `keep_views`, `advance` and `collect` are only here.
+`commits`, `nodes`, `columns`, `apply`, `keep_views`, `advance`, `collect` and `checkpoint` are only here.
+
+The rows of `Index(folder="rows")` are in a folder too, and survive the process (folder.py).
 
 The library is the one that `Index` is given; without one, that of the environment's ROWANSPAN_LIBRARY; without it, that
 in the package's own folder, or in the folder dist of the checkout. The most frequent calls are made by the extension
@@ -29,9 +31,10 @@ from typing import Any, Iterable, List, Optional, Sequence, Tuple, Type, Union
 from . import core, mapping
 # (the names that both list in their `__all__` are names of this module too)
 from .core import *  # noqa: F401,F403
-from .core import (MAX_LIMIT, REFUSALS, Closed, Delta, NoLibrary, Page, Pairs, Prefix, Refused, Row, Sets,
-                   Tidied, Totals, ViewNo, ViewSpec, checked_bytes, checked_count, checked_limit, checked_number,
-                   checked_spec, checked_view)
+from .core import (MAX_LIMIT, REFUSALS, Closed, Delta, NoLibrary, NotWritten, Page, Pairs, Prefix, Refused,
+                   RowanspanError, Row, Sets, Tidied, Totals, ViewNo, ViewSpec, checked_bytes, checked_count,
+                   checked_limit, checked_number, checked_spec, checked_view)
+from .folder import CommitLog, Folder
 from .former import client_of, is_of_client, options_of, signature_of
 from .library import (ABSENT, CLOSED, CURRENT, DONE, NO_ROOM, U64, Handle, Reader, column_numbers, column_sets, loaded,
                       many_keys, spelled, view_test)
@@ -48,6 +51,8 @@ __all__ += mapping.__all__
 FIRST_ROOM = 4096
 # what a count counts up to if it is given no number: no index has as many rows
 ALL_ROWS = 2 ** 32 - 1
+# after how many bytes more the log of a folder is shortened: 64 MiB
+CHECKPOINT = 2 ** 26
 
 
 class Index(RowMap):
@@ -60,10 +65,18 @@ class Index(RowMap):
     A change that was made returns its number, also if memory ended before all views were at the newest commit. The
     views then lag, and the next change or build, or `keep_views`, brings them up to date.
 
+    Its rows are in memory alone, and gone when the process ends, unless it is given a `folder`: then it has the rows of
+    the folder, and the commit of each change is written to a log there. The folder is made if it is missing, but no
+    folder above it. A crash of the process undoes no commit that was written, and no crash of the machine undoes those
+    before a `settle`. The log is shortened after `checkpoint` bytes more, with the changes; if that is 0, only by the
+    method `checkpoint`. If a commit can't be written, the change raises `NotWritten`, and is in memory alone. Each
+    further change first writes what the log lacks, or raises `DiskFull` or `DiskFailed` and changes nothing. Reads
+    continue.
+
     Any thread may call it, and close it. The index has a lock of its own, so calls run one after another, also those
     that only read: a call waits until that of another thread has ended. During a call of the library by ctypes, other
-    threads of the program run. The extension module keeps the interpreter's lock: its calls are shorter than a change
-    of threads, but for a page or a range of many rows.
+    threads of the program run. The extension module keeps the interpreter's lock, but while it writes to a folder: its
+    calls are shorter than a change of threads, but for a page or a range of many rows.
     """
 
     def __new__(cls, *arguments: Any, **named: Any) -> Any:
@@ -73,18 +86,24 @@ class Index(RowMap):
         return super().__new__(cls)
 
     def __init__(self, columns: int = 1, log_capacity: int = 65536, log_retention: int = 0, *, keep_views: bool = True,
+                 folder: Optional[Folder] = None, checkpoint: int = CHECKPOINT,
                  library: Optional[Union[str, Path]] = None, **former: int) -> None:
         capacity, retention = options_of(log_capacity, log_retention, former)
         asked = (checked_number(columns, "columns"), checked_number(capacity, "log_capacity"),
                  checked_number(retention, "log_retention"))
+        least = checked_number(checkpoint, "checkpoint")
         self._library = loaded(library)
         self._handle = Handle()
+        self._log = CommitLog(self._library, self._handle)
         # the calls of the extension module: each returns NotImplemented if it has done nothing
-        self._native, self._lock = calls_of(self._library, self._handle, keep_views)
+        self._native, self._lock = calls_of(self._library, self._handle, self._log.state, keep_views)
         self._room: Optional[ctypes.Array[ctypes.c_char]] = None
         self._keeps_views = keep_views
         self._views_lag = False
-        self._raise_for(self._library.open(self._handle, *asked), 0)
+        if folder is None:
+            self._raise_for(self._library.open(self._handle, *asked), 0)
+        else:
+            self._log.open(folder, *asked, least)
 
     __signature__ = signature_of(__init__)
 
@@ -100,13 +119,16 @@ class Index(RowMap):
 
     def __del__(self) -> None:
         # no other reference is left, so no call runs. The lock isn't taken: this may run in any thread, at any moment
-        if hasattr(self, "_handle"):
+        if hasattr(self, "_log"):
+            self._log.close()
             self._library.close(self._handle)
 
     def close(self) -> None:
-        """Ends the index, with its views, and frees its memory. Waits for the call of another thread to end. A second
-        close does nothing."""
+        """Ends the index, with its views, and frees its memory. With a folder, all commits are made durable, and the
+        folder is free for others: a program that has to know whether they are calls `settle` before. Waits for the call
+        of another thread to end. A second close does nothing."""
         with self._lock:
+            self._log.close()
             self._library.close(self._handle)
 
     # -- calls of the library
@@ -155,6 +177,24 @@ class Index(RowMap):
             raise NoLibrary("an answer is missing")
         return reader
 
+    def _commit(self, name: str, *arguments: Any) -> Optional[int]:
+        """Makes a change of a row, and writes its commit to the log of a folder; returns its number, or None if the key
+        has no row."""
+        with self._lock:
+            self._log.begin()
+            number = self._change(name, *arguments)
+            if number is not None:
+                self._log.end(number)
+            return number
+
+    def _not_written(self, commit: int, status: int) -> None:
+        """Raises what a change of the extension module does whose commit wasn't written."""
+        with self._lock:
+            try:
+                self._log.fail(status)
+            except RowanspanError as fault:
+                raise NotWritten(commit) from fault
+
     def _change(self, name: str, *arguments: Any) -> Optional[int]:
         """Makes a change, and brings the views up to date after it; returns the number that the change reports, or None
         if a key has no row. What stops the views isn't raised: the change was made."""
@@ -182,9 +222,9 @@ class Index(RowMap):
             pass
         self._views_lag = False
 
-    def _made(self, name: str, *arguments: Any) -> int:
-        """Makes a change that reports a number, as `_change` does."""
-        number = self._change(name, *arguments)
+    @staticmethod
+    def _made(number: Optional[int]) -> int:
+        """The number of a change that always reports one."""
         if number is None:
             raise NoLibrary("an answer is missing")
         return number
@@ -224,20 +264,20 @@ class Index(RowMap):
         number: int = self._native.put(self, key, sets)
         if number is not NotImplemented:
             return number
-        return self._made("put", *spelled(key, "a key"), *column_sets(sets))
+        return self._made(self._commit("put", *spelled(key, "a key"), *column_sets(sets)))
 
     def put_if(self, key: bytes, sets: Sets, version: int) -> int:
         number: int = self._native.put_if(self, key, sets, version)
         if number is not NotImplemented:
             return number
-        return self._made("put_if", *spelled(key, "a key"), *column_sets(sets),
-                          checked_number(version, "a version"))
+        return self._made(self._commit("put_if", *spelled(key, "a key"), *column_sets(sets),
+                                       checked_number(version, "a version")))
 
     def remove(self, key: bytes) -> Optional[int]:
         number: Optional[int] = self._native.remove(self, key)
         if number is not NotImplemented:
             return number
-        return self._change("remove", *spelled(key, "a key"))
+        return self._commit("remove", *spelled(key, "a key"))
 
     def _taken(self, key: bytes) -> Optional[Row]:
         # a get and a remove, between which no other thread's call comes
@@ -286,12 +326,12 @@ class Index(RowMap):
         checked = checked_spec(spec)
         test = view_test(checked.test)
         if isinstance(checked, Prefix):
-            number = self._made("build_prefix", *spelled(checked.key, "a key"), test)
+            number = self._change("build_prefix", *spelled(checked.key, "a key"), test)
         elif checked.hi is None:
-            number = self._made("build_from", *spelled(checked.lo, "a key"), test)
+            number = self._change("build_from", *spelled(checked.lo, "a key"), test)
         else:
-            number = self._made("build_between", *spelled(checked.lo, "a key"), *spelled(checked.hi, "a key"), test)
-        return ViewNo(number)
+            number = self._change("build_between", *spelled(checked.lo, "a key"), *spelled(checked.hi, "a key"), test)
+        return ViewNo(self._made(number))
 
     def _page(self, number: int, floor: int, start: bytes, limit: int) -> Page:
         page: Page = self._native.view(number, floor, start, limit)
@@ -324,6 +364,28 @@ class Index(RowMap):
         applied by then stay applied."""
         with self._lock:
             self._keep_views()
+
+    # -- the folder
+
+    def settle(self) -> int:
+        """Makes all commits durable: no crash undoes them. Returns the number of the last one. Raises `InMemory` if
+        there is no folder, `DiskFull` and `DiskFailed`."""
+        with self._lock:
+            self._log.want_open()
+            return self._log.sync()
+
+    def durable(self) -> int:
+        """The number of commits that are durable: no crash undoes them. Raises `InMemory` if there is no folder."""
+        with self._lock:
+            self._log.want_open()
+            return self._log.durable()
+
+    def checkpoint(self) -> None:
+        """Shortens the log of the folder at once: it continues in the other file, to which all rows are copied. All
+        commits are durable then. Raises `InMemory` if there is no folder, `DiskFull` and `DiskFailed`."""
+        with self._lock:
+            self._log.want_open()
+            self._log.checkpoint()
 
     # -- commits and nodes
 

@@ -83,6 +83,16 @@ class Handle(ctypes.Structure):
     _fields_ = [("at", ctypes.c_void_p), ("is_open", ctypes.c_bool)]
 
 
+class LogHandle(ctypes.Structure):
+    _fields_ = [("at", ctypes.c_void_p), ("is_open", ctypes.c_bool)]
+
+
+class Log(ctypes.Structure):
+    """What the library takes as the log of an index, and whether the log may lack a commit, which it doesn't read."""
+
+    _fields_ = [("handle", LogHandle), ("lags", ctypes.c_bool)]
+
+
 class KeyBytes(ctypes.Structure):
     _fields_ = [("at", ctypes.c_char_p), ("length", ctypes.c_size_t)]
 
@@ -96,9 +106,10 @@ class ViewTest(ctypes.Structure):
                 ("at", ctypes.c_char_p), ("length", ctypes.c_size_t)]
 
 
-DONE, CLOSED, ABSENT, NO_ROOM, CURRENT = 0, 100, 102, 103, 104
+DONE, CLOSED, ABSENT, NO_ROOM, CURRENT, FOLDER_FAILED, FOLDER_BUSY, FOLDER_DAMAGED, DISK_FULL, DISK_FAILED = (
+    0, 100, 102, 103, 104, 106, 107, 108, 109, 110)
 
-HANDLE = ctypes.POINTER(Handle)
+HANDLE, LOG = ctypes.POINTER(Handle), ctypes.POINTER(LogHandle)
 TOLD = ctypes.POINTER(ctypes.c_uint64)
 U16, U32, U64 = ctypes.c_uint16, ctypes.c_uint32, ctypes.c_uint64
 BYTES: List[Any] = [ctypes.c_char_p, ctypes.c_size_t]
@@ -130,6 +141,15 @@ PARAMETERS: Dict[str, List[Any]] = {
     "nodes": [],
     "columns": [],
 }
+# of each function for a folder, the types of its parameters
+OF_FOLDERS: Dict[str, List[Any]] = {
+    "open_folder": [HANDLE, LOG, *BYTES, U64, U64, U64, U64, *ROOM, TOLD],
+    "log_commits": [HANDLE, LOG, TOLD],
+    "log_sync": [LOG, TOLD],
+    "log_durable": [LOG, TOLD],
+    "log_checkpoint": [HANDLE, LOG, ctypes.c_bool, TOLD],
+    "log_close": [LOG],
+}
 
 
 def paths(named: Optional[Union[str, Path]]) -> List[Path]:
@@ -145,7 +165,7 @@ def paths(named: Optional[Union[str, Path]]) -> List[Path]:
 def function(library: ctypes.CDLL, name: str, parameters: Sequence[Any]) -> Any:
     """A proved function of the library."""
     found = getattr(library, f"rowanspan_raw_{name}")
-    found.restype, found.argtypes = U16, [HANDLE, *parameters]
+    found.restype, found.argtypes = U16, parameters
     return found
 
 
@@ -158,9 +178,10 @@ def loaded(named: Optional[Union[str, Path]]) -> SimpleNamespace:
     try:
         # (absolute: a name without a slash would be looked up elsewhere)
         library = ctypes.CDLL(os.path.abspath(found))
-        functions = {name: function(library, name, [*parameters, TOLD]) for name, parameters in PARAMETERS.items()}
-        return SimpleNamespace(open=function(library, "open", [U64, U64, U64]), close=function(library, "close", []),
-                               **functions)
+        kinds: Dict[str, List[Any]] = {
+            "open": [HANDLE, U64, U64, U64], "close": [HANDLE], **OF_FOLDERS,
+            **{name: [HANDLE, *parameters, TOLD] for name, parameters in PARAMETERS.items()}}
+        return SimpleNamespace(**{name: function(library, name, kind) for name, kind in kinds.items()})
     except (OSError, AttributeError) as fault:
         raise NoLibrary(str(fault)) from fault
 

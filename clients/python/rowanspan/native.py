@@ -18,7 +18,8 @@ from .places import PACKAGE, checkout
 SUFFIX = ".abi3.so"
 NAME = f"_native{SUFFIX}"
 # the functions of the library that it calls
-FUNCTIONS = ("get", "put", "put_if", "remove", "range", "range_back", "count", "len", "view", "totals", "apply")
+FUNCTIONS = ("get", "put", "put_if", "remove", "range", "range_back", "count", "len", "view", "totals", "apply",
+             "log_commits", "log_checkpoint")
 
 
 class NoCalls:
@@ -80,15 +81,15 @@ def module() -> Optional[ModuleType]:
     return made
 
 
-def calls_of(library: SimpleNamespace, handle: ctypes.Structure,
+def calls_of(library: SimpleNamespace, handle: ctypes.Structure, log: ctypes.Structure,
              keep_views: bool) -> Tuple[NoCalls, ContextManager[Any]]:
-    """The calls of the index that has this handle of the library, and the index's lock. In an environment where
-    ROWANSPAN_NO_NATIVE isn't empty, they are those of an index without the module.
+    """The calls of the index that has this handle of the library and this log, and the index's lock. In an environment
+    where ROWANSPAN_NO_NATIVE isn't empty, they are those of an index without the module.
 
     The thread that holds the lock may take it again: a finalizer that calls the index may run inside a call."""
     found = None if os.environ.get("ROWANSPAN_NO_NATIVE") else module()
     if found is None:
         return NoCalls(), threading.RLock()
     addresses = {name: ctypes.cast(getattr(library, name), ctypes.c_void_p).value for name in FUNCTIONS}
-    calls = found.Calls(handle, ctypes.addressof(handle), addresses, keep_views, Row, Page)
+    calls = found.Calls(handle, ctypes.addressof(handle), log, ctypes.addressof(log), addresses, keep_views, Row, Page)
     return calls, calls

@@ -17,10 +17,10 @@ __all__ = [
 # ---- refusals
 
 class DiskFailed(Refused, OSError):
-    """The disk of the server has failed: rows can be read, and not changed any more. Nothing was changed. Its `errno`
-    is EIO."""
+    """The disk of the server, or of an embedded index with a folder, has failed: rows can be read, and not changed any
+    more. Nothing was changed. Its `errno` is EIO."""
 
-    number, has_detail, cause = 19, True, "the server's disk has failed after commit {0}, which is durable"
+    number, has_detail, cause = 19, True, "the disk has failed after commit {0}, which is durable"
     errno = EIO
 
     @property
@@ -30,17 +30,17 @@ class DiskFailed(Refused, OSError):
 
 
 class DiskFull(Refused, OSError):
-    """The disk of the server is full: rows can be read, and not changed until it has room. Nothing was changed. Its
-    `errno` is ENOSPC."""
+    """The disk of the server, or of an embedded index with a folder, is full: rows can be read, and not changed until
+    it has room. Nothing was changed. Its `errno` is ENOSPC."""
 
-    number, cause = 20, "the server's disk is full"
+    number, cause = 20, "the disk is full"
     errno = ENOSPC
 
 
 class InMemory(Refused):
-    """The server keeps its rows in memory alone, so no commit is ever durable."""
+    """The server, or the embedded index, keeps its rows in memory alone, so no commit is ever durable."""
 
-    number, cause = 21, "the server keeps its rows in memory alone"
+    number, cause = 21, "the rows are in memory alone"
 
 
 class NotAllowed(Refused, PermissionError):

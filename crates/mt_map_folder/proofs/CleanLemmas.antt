@@ -1,5 +1,5 @@
 -- What is so of a log in use, as it was of the one that was opened.
-use Rattle.std.proofs.Common.{◌≡◌, Bool, List, subst, sym}
+use Rattle.std.proofs.Common.{Bool, List, subst, sym}
 use Rattle.std.specs.Prelude.{IsTrue}
 use Rattle.mt_folder.specs.declared.opening.Spare.{Spare}
 use Rattle.mt_folder.specs.declared.opening.Spare.TheVariants.{Free as FreeSpare, Needed as NeededSpare}

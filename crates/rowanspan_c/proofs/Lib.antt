@@ -1,10 +1,14 @@
 pub mod Held
+pub mod LogHeld
 pub mod BoxWalk
+pub mod LogBoxWalk
 pub mod Written
 pub mod Placed
 pub mod Crosses
+pub mod LogCrosses
 pub mod RowRead
 pub mod Ranged
 pub mod RangedBack
 pub mod CallLemmas
 pub mod TotalsRead
+pub mod LogCalls

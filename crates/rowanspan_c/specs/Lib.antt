@@ -6,3 +6,4 @@ pub mod Questions
 pub mod Told
 pub mod Placed
 pub mod Calls
+pub mod Logs

@@ -5,9 +5,14 @@
 
 mod changing;
 mod exports;
+mod file_log;
 mod gathering;
 mod handing;
 mod handle;
+mod log_calls;
+mod log_exports;
+mod log_handle;
+mod log_telling;
 mod placing;
 mod ranging;
 mod reading;

@@ -20,3 +20,18 @@ pub const CURRENT: u16 = 104;
 
 /// No test of rows is of this kind.
 pub const NO_SUCH_TEST: u16 = 105;
+
+/// The folder or its files can't be made, opened or read.
+pub const FOLDER_FAILED: u16 = 106;
+
+/// Another index or process has the folder.
+pub const FOLDER_BUSY: u16 = 107;
+
+/// The files of the folder are no logs of such an index, or rows or durable commits are missing.
+pub const FOLDER_DAMAGED: u16 = 108;
+
+/// The disk is full.
+pub const DISK_FULL: u16 = 109;
+
+/// The disk has failed, and the log is given up.
+pub const DISK_FAILED: u16 = 110;

@@ -16,17 +16,17 @@ returns-clause-loaded g c =
       opened.read,
       c.in_ok-map.ensures.loaded,
       λ clean.
-        let own = subst (λ (journal : _). IsTrue (g.D.Disk.is_clean journal.disk)) c.new.ensures.journal clean.0 in
-        let all : IsTrue (g.D.Disk.is_clean opened.journal.disk) × IsTrue (g.D.Disk.is_clean (disk_of opened.spare)) = (own, spare_clean g.D.Disk.is_clean opened.spare c.new.result.other c.new.ensures.other clean.1) in (
-          (opened.source, subst (λ (C : ℕ). AreRows C even odd opened.source opened.read ⊎ AreRows C odd even opened.source opened.read) columns (c.in_ok-journal.ensures.rows all)),
-          ap (λ (journal : _). journal.at.newest) c.new.ensures.journal ∙ c.in_ok-journal.ensures.continues all,
-          λ mixes.
-            let kept = c.in_ok-journal.ensures.kept mixes all in
-            record {
-              header = kept.header;
-              entries = kept.entries;
-              keeps = subst (λ (journal : _). Keeps journal.at (g.D.Disk.seen journal.disk) (g.D.Disk.may_leave journal.disk) kept.header kept.entries) (sym c.new.ensures.journal) kept.keeps;
-              leaves = rows_left opened.spare c.new.result.other kept.header kept.entries opened.read.rows c.new.ensures.other kept.leaves;
-            },
-        ),
+          let own = subst (λ (journal : _). IsTrue (g.D.Disk.is_clean journal.disk)) c.new.ensures.journal clean.0 in
+          let all : IsTrue (g.D.Disk.is_clean opened.journal.disk) × IsTrue (g.D.Disk.is_clean (disk_of opened.spare)) = (own, spare_clean g.D.Disk.is_clean opened.spare c.new.result.other c.new.ensures.other clean.1) in (
+            (opened.source, subst (λ (C : ℕ). AreRows C even odd opened.source opened.read ⊎ AreRows C odd even opened.source opened.read) columns (c.in_ok-journal.ensures.rows all)),
+            ap (λ (journal : _). journal.at.newest) c.new.ensures.journal ∙ c.in_ok-journal.ensures.continues all,
+            λ mixes.
+                let kept = c.in_ok-journal.ensures.kept mixes all in
+                record {
+                  header = kept.header;
+                  entries = kept.entries;
+                  keeps = subst (λ (journal : _). Keeps journal.at (g.D.Disk.seen journal.disk) (g.D.Disk.may_leave journal.disk) kept.header kept.entries) (sym c.new.ensures.journal) kept.keeps;
+                  leaves = rows_left opened.spare c.new.result.other kept.header kept.entries opened.read.rows c.new.ensures.other kept.leaves;
+                },
+          ),
     )
