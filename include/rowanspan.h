@@ -143,7 +143,8 @@ typedef enum rowanspan_status {
     ROWANSPAN_FOLDER_DAMAGED = 108, /* the files are no logs of such an index, or rows or durable commits are missing;
                                        nothing was changed in them */
     ROWANSPAN_DISK_FULL = 109,      /* the disk is full: nothing was written, and the call can be made again */
-    ROWANSPAN_DISK_FAILED = 110,    /* the disk has failed: nothing is written until the folder is opened again */
+    ROWANSPAN_DISK_FAILED = 110,    /* the disk has failed. If a write or a sync of commits has, nothing is written
+                                       until the folder is opened again */
     ROWANSPAN_NO_FOLDER = 111,      /* the rows are in memory alone */
     ROWANSPAN_NOT_WRITTEN = 112     /* the change is in memory, and its commit N was not written to the log */
 } rowanspan_status;
@@ -244,8 +245,9 @@ uint64_t rowanspan_durable(const rowanspan *index);
  *
  * Cost: a copy of each row, and some ten calls of the disk.
  *
- * Returns OK. Fails with NO_FOLDER, DISK_FULL, DISK_FAILED or NO_MEMORY. If the other file has failed, the log stays in
- * its file, and isn't shortened before the folder is opened again. */
+ * Returns OK. Fails with NO_FOLDER, DISK_FULL, DISK_FAILED or NO_MEMORY. If the other file has failed, or memory was
+ * refused while the log moved there, the log stays in its file, and isn't shortened before the folder is opened again:
+ * then this fails with DISK_FAILED, and commits are written as before. */
 rowanspan_status rowanspan_checkpoint(rowanspan *index);
 
 /* rowanspan_close: closes an index and frees its memory. If it has a folder, all commits are made durable, as by

@@ -60,7 +60,8 @@ for change in (lambda: index.put(b"a", b"v"), lambda: index.remove(b"0"), lambda
     try:
         change()
     except DiskFailed as fault:
-        assert fault.durable == index.durable() == 0
+        # (the zeros that were written ahead were synced, and the commits before them)
+        assert fault.durable == index.durable() < number
         continue
     raise AssertionError("it isn't refused")
 assert index.commits() == len(index) == number + 1 and index[b"%d" % number].version == number + 1
