@@ -44,7 +44,7 @@ ASKING = BEGIN + """try:
 except FolderBusy as fault:
     print(fault)
 """
-# puts rows until the file of the log can't grow, of which so many bytes are allowed
+# puts rows until the file of the log would have more bytes than it may
 FAILING = BEGIN + """import resource
 index = Index(16, folder=sys.argv[2])
 resource.setrlimit(resource.RLIMIT_FSIZE, (int(sys.argv[3]), resource.RLIM_INFINITY))

@@ -69,7 +69,7 @@ static void want_refused(rowanspan *index, int rows, rowanspan_status wanted) {
     WANT_SAME(rowanspan_durable(index), durable);
 }
 
-/* Wants the first rows of a folder, at least so many, and at most so many. */
+/* Wants the first rows of a folder: `least` of them to `most`. */
 static void want_front(int least, int most) {
     rowanspan *index = opened_in(COLUMNS, 0);
     int rows = (int)rowanspan_len(index), i;

@@ -83,8 +83,8 @@ def module() -> Optional[ModuleType]:
 
 def calls_of(library: SimpleNamespace, handle: ctypes.Structure, log: ctypes.Structure,
              keep_views: bool) -> Tuple[NoCalls, ContextManager[Any]]:
-    """The calls of the index that has this handle of the library and this log, and the index's lock. In an environment
-    where ROWANSPAN_NO_NATIVE isn't empty, they are those of an index without the module.
+    """The calls of the index that has this handle of the library and this log, and the index's lock. If the environment's
+    ROWANSPAN_NO_NATIVE isn't empty, they are those of an index without the module.
 
     The thread that holds the lock may take it again: a finalizer that calls the index may run inside a call."""
     found = None if os.environ.get("ROWANSPAN_NO_NATIVE") else module()

@@ -22,7 +22,7 @@ use Rattle.mt_folder.specs.Logs.{is_whole, last_number, rows_left}
 use Rattle.mt_folder_laws.specs.Crashes.{AreFirst, IsUnsealed, CheckpointsSurvive, FirstLogsSurvive, SealedLogsSurvive}
 use Rattle.mt_folder_laws.proofs.FrontLemmas.{front_unsealed, have_front, last_is, whole_from_first}
 
--- the rows after so many commits
+-- the rows after n commits
 are_first : (C : ℕ) (changes : List Change) (durable n : ℕ) (read : RowsRead) → read.commits ≡ n → durable ≤ n → read.rows ≡ after C (take n changes) → AreFirst C changes durable read
 are_first C changes durable n read commits enough rows = record {
   enough = omega (arith, commits, enough);

@@ -13,15 +13,7 @@ use Rattle.mt_journal.specs.Log.{last_number}
 use Rattle.mt_replay.specs.Redo.{is_seal, number_after}
 use Rattle.mt_replay.specs.RedoLaws.{HaveCommits}
 use Rattle.mt_replay.specs.Replay.{records_in, records_of}
-
-records-append : (entries more : List Entry) → records_in (entries ++ more) ≡ records_in entries ++ records_in more
-records-append [] more = refl
-records-append (Header header ∷ entries) more = records-append entries more
-records-append (Group commits ∷ entries) more =
-    ap (λ (l : List Record). commits.records ++ l) (records-append entries more) ∙ sym (append_assoc commits.records (records_in entries) (records_in more))
-records-append (Listed part ∷ entries) more = records-append entries more
-records-append (Sealed count ∷ entries) more = records-append entries more
-records-append (Closed number ∷ entries) more = records-append entries more
+use Rattle.mt_replay.proofs.EntryLemmas.{records-append}
 
 -- they have the commits that follow those before
 pub have_front : (C : ℕ) (changes : List Change) (b count : ℕ) (entries : List Entry) → HaveCommits C changes b entries → HaveCommits C changes b (take count entries)
