@@ -78,7 +78,7 @@
  *     A key has up to 1,024 bytes (ROWANSPAN_MAX_KEY_BYTES). Keys are ordered by their bytes, and a key comes before
  *     those that it is a prefix of. An index has 1 to 16 columns (ROWANSPAN_MAX_COLUMNS) of up to 64 bytes
  *     (ROWANSPAN_MAX_COLUMN_BYTES). A call returns up to 1000 rows or deltas, and takes up to 1000 keys. An index
- *     has up to 64 views, and up to 1,048,576 nodes of up to 15 keys.
+ *     has up to 64 views, and up to 4,294,967,295 nodes of up to 15 keys.
  *
  * MEMORY
  *     The library copies the keys, columns and tests that it is passed: they stay the caller's. A call that stores or
@@ -124,7 +124,7 @@ typedef enum rowanspan_status {
     ROWANSPAN_COLUMN_TOO_LONG = 4,  /* a column has more than 64 bytes */
     ROWANSPAN_BAD_LIMIT = 5,        /* a limit is not from 1 to 1000, or an option is out of its bounds:
                                        log_capacity is not from 1 to 65536, or log_retention is over 65536 */
-    ROWANSPAN_ARENA_FULL = 6,       /* too few of the 1,048,576 nodes are free */
+    ROWANSPAN_ARENA_FULL = 6,       /* too few of the 4,294,967,295 nodes are free */
     ROWANSPAN_FEED_FULL = 7,        /* the log is full: views or open calls hold it from commit N on; apply or drop the
                                        views */
     ROWANSPAN_TOO_MANY_VIEWS = 10,  /* there are already 64 views */
@@ -541,7 +541,7 @@ uint64_t rowanspan_collect(rowanspan *index);
 
 /* rowanspan_commits: returns how many commits were made, which is the number of the last one.
  * rowanspan_len: returns how many rows there are.
- * rowanspan_nodes: returns how many nodes are in use, of at most 1,048,576 nodes.
+ * rowanspan_nodes: returns how many nodes are in use, of at most 4,294,967,295 nodes.
  * rowanspan_columns: returns how many columns a row has.
  *
  * They cost next to nothing, and don't fail. */

@@ -296,7 +296,7 @@ const char *rowanspan_status_text(rowanspan_status status) {
     case ROWANSPAN_BAD_COLUMN: return "a column doesn't exist or is named twice; an index has 1 to 16 columns";
     case ROWANSPAN_COLUMN_TOO_LONG: return "a column has more than 64 bytes";
     case ROWANSPAN_BAD_LIMIT: return "a limit is not from 1 to 1000, or an option is out of its bounds";
-    case ROWANSPAN_ARENA_FULL: return "too few of the 1,048,576 nodes are free";
+    case ROWANSPAN_ARENA_FULL: return "too few of the 4,294,967,295 nodes are free";
     case ROWANSPAN_FEED_FULL: return "the log is full: views or open calls hold it from commit N on";
     case ROWANSPAN_TOO_MANY_VIEWS: return "there are already 64 views";
     case ROWANSPAN_NO_SUCH_VIEW: return "no view has this number";

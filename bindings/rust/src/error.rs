@@ -17,7 +17,7 @@ pub enum Error {
     /// A limit isn't from 1 to 1000; or `log_capacity` isn't from 1 to 65536, or `log_retention` is
     /// over 65536.
     BadLimit,
-    /// Too few nodes are free: an index has 1,048,576 nodes at most.
+    /// Too few nodes are free: an index has 4,294,967,295 nodes at most.
     ArenaFull,
     /// The log is full: views hold it from this commit on.
     FeedFull(u64),
@@ -103,7 +103,7 @@ impl fmt::Display for Error {
                 f,
                 "a limit is not from 1 to 1000, or an option is out of its bounds"
             ),
-            Error::ArenaFull => write!(f, "too few of the 1,048,576 nodes are free"),
+            Error::ArenaFull => write!(f, "too few of the 4,294,967,295 nodes are free"),
             Error::FeedFull(from) => write!(
                 f,
                 "the log is full: views or open calls hold it from commit {from} on"

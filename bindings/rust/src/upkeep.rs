@@ -113,7 +113,7 @@ impl Index {
         self.library.commits()
     }
 
-    /// How many nodes are in use, of at most 1,048,576 nodes.
+    /// How many nodes are in use, of at most 4,294,967,295 nodes.
     ///
     /// ```
     /// # use rowanspan::{Error, Index, Options};

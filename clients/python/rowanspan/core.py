@@ -132,7 +132,7 @@ class BadLimit(Refused, ValueError):
 
 
 class ArenaFull(Refused):
-    number, cause = 6, "too few of the 1,048,576 nodes are free"
+    number, cause = 6, "too few of the 4,294,967,295 nodes are free"
 
 
 class FeedFull(Refused):

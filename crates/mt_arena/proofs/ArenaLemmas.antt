@@ -62,7 +62,7 @@ sound-freed nodes new retired number room updates less apart h =
     let roomy = h.room_for_all in
     record {
       arena = record {
-        below = below-without 1048576 nodes new number updates h.arena.below;
+        below = below-without 4294967295 nodes new number updates h.arena.below;
         within = omega (arith, less, within);
         retired = record { named = still_named nodes new number retired updates apart h.arena.retired.named; once = h.arena.retired.once; epochs = h.arena.retired.epochs };
       };

@@ -24,7 +24,7 @@ use std::marker::Model;
 
 /// The nodes of the tree, each under its number, and the retired ones in the order of their retiring.
 ///
-/// There are 1,048,576 numbers. A number names the node that was put there until that node is freed; a node that is
+/// There are 4,294,967,295 numbers. A number names the node that was put there until that node is freed; a node that is
 /// retired still has its number (Masstree, EuroSys 2012, section 4.6.1). Each node that is put in makes room for
 /// itself in the list of retired nodes, so that retiring takes no memory.
 #[derive(Drop)]

@@ -67,18 +67,18 @@ quiet_same a log = record { content = λ key row. ((λ h. h), (λ h. h)); trimme
 named_within : (number : ℕ) (node : Option Node) (seen : PlainNode) → option_map node_seen node ≡ Some seen → node ≡ None → ⊥
 named_within number node seen e none = (let clash : ◌≡◌ {A = Option PlainNode} None (Some seen) = sym (ap (option_map node_seen) none) ∙ e in cc)
 
-pub chart_bounded : (a : ArenaView) (chart : Chart) → IsArena a → IsTree (arena_seen a) chart → Bounded chart 1048576
+pub chart_bounded : (a : ArenaView) (chart : Chart) → IsArena a → IsTree (arena_seen a) chart → Bounded chart 4294967295
 chart_bounded a chart sound tree number (spot role prefix low standing) place =
     let holds : Holds chart 0 number prefix low = record { role = role; low = low; standing = standing; place = place; at_most = omega arith; since = λ epoch is. omega arith } in
     let (seen, is) = nodes_there (arena_seen a) chart tree 0 number low prefix holds in
-    elim (cases_lt number 1048576) [
+    elim (cases_lt number 4294967295) [
       | inl below ↦ below
       | inr above ↦ absurd (named_within number (node_at a.nodes number) seen is (sound.below.each number above))
     ]
 
 -- a run of moves is short
 pub moves_bounded : (a : ArenaView) (chart : Chart) (begun number moves : ℕ) → IsArena a → IsTree (arena_seen a) chart → Trail begun chart number moves → moves < MAX_NODES
-moves_bounded a chart begun number moves sound tree trail = trail_bound begun 1048576 number moves chart (chart_bounded a chart sound tree) trail
+moves_bounded a chart begun number moves sound tree trail = trail_bound begun 4294967295 number moves chart (chart_bounded a chart sound tree) trail
 
 -- a run begins at what a call holds
 pub trail_begins : (chart : Chart) (begun number : ℕ) (prefix : List ℕ) (slice : ℕ) → Holds chart begun number prefix slice → Trail begun chart number 0

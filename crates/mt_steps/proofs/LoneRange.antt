@@ -98,9 +98,9 @@ module _ (arena : Arena) (chart : Chart) (tree : IsTree arena chart) where
 -- ---- what is left
 -- more layers than a tree has: one for each node that it may have
 pub all_layers : ℕ
-all_layers = 1048576
+all_layers = 4294967295
 
-layers_fit : (layers : ℕ) → layers < 1048576 → layers < all_layers
+layers_fit : (layers : ℕ) → layers < 4294967295 → layers < all_layers
 unfolding all_layers
 layers_fit layers few = few
 
@@ -172,7 +172,7 @@ module _ (a : ArenaView) (now : ℕ) (w : World) (world : IsWorld a now w) where
   few_layers : IsArena a → (number : ℕ) (prefix : List ℕ) → ScanStands w.chart number prefix → length prefix < all_layers
   few_layers sound number prefix s =
       let (over, head) = has_head (arena_seen a) w.chart world.index.tree number s.role prefix s.low s.posted s.place in
-      layers_fit (length prefix) (few_heads (arena_seen a) w.chart world.index.tree 1048576 (chart_bounded a w.chart sound world.index.tree) over prefix head)
+      layers_fit (length prefix) (few_heads (arena_seen a) w.chart world.index.tree 4294967295 (chart_bounded a w.chart sound world.index.tree) over prefix head)
 
   -- the higher of two nodes of a layer has less left of its way
   higher_nearer : (number next : ℕ) (prefix : List ℕ) (here : ScanStands w.chart number prefix) (there : ScanStands w.chart next prefix) → here.low < 2 ^ 64

@@ -23,7 +23,7 @@ impl Tree {
     ///
     /// # Errors
     ///
-    /// `ArenaFull` if all 1,048,576 numbers name a node, `NoMemory` if an allocation is refused. Nothing is changed then.
+    /// `ArenaFull` if all 4,294,967,295 numbers name a node, `NoMemory` if an allocation is refused. Nothing is changed then.
     pub fn occupy(&mut self, node: Node) -> Result<NodeNo, Refusal>
         ensures vacant { IfOk result (λ number. node_at self.old.nodes number.0 ≡ None) }
         ensures below { IfOk result (λ number. number.0 < MAX_NODES) }

@@ -41,8 +41,9 @@ pub const MAX_OPEN_CALLS: usize = 1024;
 /// The most views at once, those that are being built included. Guarded by `TooManyViews`.
 pub const MAX_VIEWS: usize = 64;
 
-/// How many numbers of nodes exist. A retired node still occupies its number. Guarded by `ArenaFull`.
-pub const MAX_NODES: u32 = 1_048_576;
+/// How many numbers of nodes exist: as many as a `u32` can count, so that memory ends first. A retired node still occupies
+/// its number. Guarded by `ArenaFull`.
+pub const MAX_NODES: u32 = 4_294_967_295;
 
 /// The highest level of an interior node. A border node has level 0. A node that would get a higher level is not
 /// posted.

@@ -31,7 +31,7 @@ pub enum Refusal {
     #[error("a limit is not from 1 to 1000, or an option is out of its bounds")]
     BadLimit,
     /// Each number of a node is occupied.
-    #[error("too few of the 1,048,576 nodes are free")]
+    #[error("too few of the 4,294,967,295 nodes are free")]
     ArenaFull,
     /// The log of commits is full. It is held from this number of commits on.
     #[error("the log is full: views or open calls hold it from commit {0} on")]

@@ -66,9 +66,9 @@ module _ (arena : Arena) (chart : Chart) (tree : IsTree arena chart) where
 
 -- more layers than a tree has: one for each node that it may have
 pub all_layers : ℕ
-all_layers = 1048576
+all_layers = 4294967295
 
-layers_fit : (layers : ℕ) → layers < 1048576 → layers < all_layers
+layers_fit : (layers : ℕ) → layers < 4294967295 → layers < all_layers
 unfolding all_layers
 layers_fit layers few = few
 
@@ -77,7 +77,7 @@ few_layers a lone number slice prefix sound held =
     let s = held_on a lone number slice prefix held in
     let tree = lone.world.index.tree in
     let (over, head) = has_head (arena_seen a) lone.w.chart tree number s.role prefix s.low s.posted s.place in
-    layers_fit (length prefix) (few_heads (arena_seen a) lone.w.chart tree 1048576 (chart_bounded a lone.w.chart sound tree) over prefix head)
+    layers_fit (length prefix) (few_heads (arena_seen a) lone.w.chart tree 4294967295 (chart_bounded a lone.w.chart sound tree) over prefix head)
 
 -- WHAT IS LEFT of a walk: first how far its cursor is from the end of all, then how many layers there may be below it
 abbrev pub left_at : CursorView → ℕ

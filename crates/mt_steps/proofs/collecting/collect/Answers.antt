@@ -41,7 +41,7 @@ returns-clause-exactly c =
     let old = c.loop-freed.invariant in
     let past = c.loop-freed-test.false in
     let end = c.loop-freed.auto.freed-end in
-    let all : c.loop-freed.freed ≡ 1048576 = omega (arith, past, end) in
+    let all : c.loop-freed.freed ≡ 4294967295 = omega (arith, past, end) in
     let none : c.loop-freed.tree.retired ≡ [] = old.left.rest ∙ all_freed c.args.tree.now c.loop-freed.freed c.free_numbers-sound.ensures.arena (omega (arith, all)) in
     record {
       few = subst (λ (n : ℕ). n ≤ length c.args.tree.now.retired) all old.few;
