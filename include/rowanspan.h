@@ -245,8 +245,8 @@ uint64_t rowanspan_durable(const rowanspan *index);
  *
  * Cost: a copy of each row, and some ten calls of the disk.
  *
- * Returns OK. Fails with NO_FOLDER, DISK_FULL, DISK_FAILED or NO_MEMORY. If the other file has failed, or memory was
- * refused while the log moved there, the log stays in its file, and isn't shortened before the folder is opened again:
+ * Returns OK. Fails with NO_FOLDER, DISK_FULL, DISK_FAILED or NO_MEMORY. After DISK_FULL and NO_MEMORY it can be called
+ * again. If the other file has failed, the log stays in its file, and isn't shortened before the folder is opened again:
  * then this fails with DISK_FAILED, and commits are written as before. */
 rowanspan_status rowanspan_checkpoint(rowanspan *index);
 

@@ -175,25 +175,19 @@ def disks_that_fail_in_checkpoints(setting: Setting) -> str:
 
 
 def full_disks_in_checkpoints(setting: Setting) -> str:
-    """Without room for the other file the log goes on where it is. Once there is room it is shortened, at the latest
-    after the next start."""
+    """Without room for the other file the log continues where it is. Once there is room it is shortened."""
     history = History(28, MANY[:100])
     with small_disk(setting, 4 * MIB) as small:
         with small.server(*SHORT) as server, server.index() as index:
             work_until("many bytes", history, index, lambda: used(small)[FILES[0]] > 5 * LIMIT)
             want_same("the generation", generation_of(small), 0)
             history.want_all(index)
+            full = history.commits
             ballast(small.folder).unlink()
-            work_until("more bytes", history, index,
-                       lambda: used(small)[FILES[0]] > 12 * LIMIT or generation_of(small) > 0)
-            by_itself = generation_of(small) > 0
-            stop(server, history)
-        with small.server(*SHORT) as server, server.index() as index:
-            history.want_all(index)
-            work_until_shortened(small, history, index)
+            work_until("a shorter log", history, index, lambda: generation_of(small) > 0)
             stop(server, history)
         want_all_found(small, history)
-    return f"{history.commits} commits, shortened {'before' if by_itself else 'after'} the next start"
+    return f"{full} commits, and shortened {history.commits - full} commits after there was room"
 
 
 def worked(server: Server, history: History) -> Tuple[int, Union[Refused, ConnectionLost, None]]:

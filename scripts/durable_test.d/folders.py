@@ -230,7 +230,7 @@ def folders_that_are_in_use(setting: Setting) -> None:
         history.work(index, 5, 1)
         for task in ("show", "verify", "rows"):
             run = said(setting, task)
-            want_same(task, run, Said(3, [], "mtfolder: the data folder is in use by another process\n"))
+            want_same(task, run, Said(3, [], "mtfolder: the data folder is already in use\n"))
         history.work(index, 5, 1)
         history.want_all(index)
         server.stop()

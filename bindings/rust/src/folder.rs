@@ -120,8 +120,8 @@ impl Index {
     /// # Errors
     ///
     /// [`NoFolder`](Error::NoFolder), [`DiskFull`](Error::DiskFull), [`DiskFailed`](Error::DiskFailed) and
-    /// [`NoMemory`](Error::NoMemory). If the other file has failed, the log stays in its file, and isn't shortened before
-    /// the folder is opened again.
+    /// [`NoMemory`](Error::NoMemory). After `DiskFull` and `NoMemory` it can be called again. If the other file has failed,
+    /// the log stays in its file, and isn't shortened before the folder is opened again.
     pub fn checkpoint(&mut self) -> Result<(), Error> {
         match self.library.checkpoint() {
             DONE => Ok(()),

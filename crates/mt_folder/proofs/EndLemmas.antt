@@ -1,6 +1,5 @@
 -- A log that was closed leaves the rows that it left before.
-use Rattle.std.proofs.Common.{◌≡◌, ◌∙◌, ◌∷◌, ◌++◌, ℕ, Bool, true, false, List, [], ap, refl, sym, if◌then◌else◌, Result, Ok, Err}
-use Rattle.std.specs.Prelude.{OnOk}
+use Rattle.std.proofs.Common.{◌≡◌, ◌∙◌, ◌∷◌, ◌++◌, ℕ, Bool, true, false, List, [], ap, refl, sym, if◌then◌else◌}
 use Rattle.mt_types.specs.Rows.{Rows}
 use Rattle.mt_frame.specs.declared.entry.Entry.{Entry}
 use Rattle.mt_frame.specs.declared.entry.Entry.TheVariants.{Header, Commits as Group, Rows as Listed, Sealed, Closed}
@@ -41,8 +40,3 @@ redone_same b (entry ∷ entries) n rows = redone_same (number_after b (entry �
 pub closed_same : (header : LogHeader) (entries : List Entry) (n : ℕ) (before : Rows) → rows_after header entries before ≡ rows_after header (entries ++ Closed n ∷ []) before
 closed_same header entries n before =
     sym (ap (λ (l : List Entry). entries_redone true header.base l before) (counted_same entries n) ∙ redone_same header.base (counted entries) n before)
-
--- what holds of a result that is no error
-pub unless_err : {A E : Type 0} {P : Type 0} (r : Result A E) → OnOk r P → ((e : E) → r ≡ Err e → ⊥) → P
-unless_err (Ok x) holds none = holds
-unless_err (Err e) holds none = absurd (none e refl)

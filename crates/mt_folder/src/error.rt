@@ -46,8 +46,8 @@ pub enum FolderError {
     /// The folder or its files can't be made, opened or read.
     #[error("the data folder: {0}")]
     Io(io::Error),
-    /// Another process has it.
-    #[error("the data folder is in use by another process")]
+    /// Another process, or another handle of this one, has it.
+    #[error("the data folder is already in use")]
     Busy,
     /// A log was not opened.
     #[error("the data folder: {file}: {error}")]

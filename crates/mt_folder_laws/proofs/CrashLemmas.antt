@@ -20,7 +20,8 @@ use Rattle.mt_folder.specs.Files.{AreRows, HasNone, Says, Spells}
 use Rattle.mt_folder.specs.Laws.{FirstLogsHaveTheRows, LaterLogsHaveTheRows}
 use Rattle.mt_folder.specs.Logs.{is_whole, last_number, rows_left}
 use Rattle.mt_folder_laws.specs.Crashes.{AreFirst, IsUnsealed, CheckpointsSurvive, FirstLogsSurvive, SealedLogsSurvive}
-use Rattle.mt_folder_laws.proofs.FrontLemmas.{front_unsealed, have_front, last_is, whole_from_first}
+use Rattle.mt_folder.proofs.SourceLemmas.{last_is}
+use Rattle.mt_folder_laws.proofs.FrontLemmas.{front_unsealed, have_front, whole_from_first}
 
 -- the rows after n commits
 are_first : (C : ℕ) (changes : List Change) (durable n : ℕ) (read : RowsRead) → read.commits ≡ n → durable ≤ n → read.rows ≡ after C (take n changes) → AreFirst C changes durable read

@@ -7,7 +7,6 @@ use Rattle.std.proofs.lemmas.List.{length-append, take-append-drop}
 use Rattle.std.proofs.lemmas.List.Folds.{list_any-append}
 use Rattle.mt_types.specs.declared.row.Change.{Change}
 use Rattle.mt_frame.specs.declared.entry.Entry.{Entry}
-use Rattle.mt_frame.specs.declared.entry.Entry.TheVariants.{Header, Commits as Group, Rows as Listed, Sealed, Closed}
 use Rattle.mt_frame.specs.declared.entry.Record.{Record}
 use Rattle.mt_journal.specs.Log.{last_number}
 use Rattle.mt_replay.specs.Redo.{is_seal, number_after}
@@ -44,15 +43,3 @@ whole_from_first base sealed none whole = elim (eqb_tells base 0) [
   | inl is ↦ is.1
   | inr other ↦ absurd (let clash : false ≡ true = sym (ap (λ (b : Bool). b || sealed) other.0 ∙ none) ∙ whole in cc)
 ]
-
--- the number of the last commit, counted one entry at a time
-pub last_is : (n : ℕ) (entries : List Entry) → last_number n entries ≡ number_after n entries
-last_is n [] = let none : n ≡ n + 0 = omega arith in none
-last_is n (Header header ∷ entries) = last_is n entries
-last_is n (Group commits ∷ entries) =
-    let rest = last_is (n + length commits.records) entries in
-    let all = length-append commits.records (records_in entries) in
-    omega (arith, rest, all)
-last_is n (Listed part ∷ entries) = last_is n entries
-last_is n (Sealed count ∷ entries) = last_is n entries
-last_is n (Closed number ∷ entries) = last_is n entries

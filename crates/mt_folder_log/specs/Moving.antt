@@ -10,7 +10,10 @@ use Rattle.mt_folder_log.specs.declared.checkpoint.Round.TheVariants.{Rests, Mov
 use Rattle.mt_folder_log.specs.declared.checkpoint.TheConstants.{PART}
 use Rattle.mt_frame.specs.declared.entry.LogHeader.{LogHeader}
 use Rattle.mt_frame.specs.declared.entry.Part.{Part}
+use Rattle.mt_journal.specs.declared.error.JournalError.{JournalError}
+use Rattle.mt_journal.specs.declared.error.JournalError.TheVariants.{Disk, DiskFull}
 use Rattle.mt_journal.specs.declared.position.Position.{Position}
+use Rattle.sqlite_disk.specs.Refusal.{is_no_room}
 
 -- the header of the log that continues a log at this position
 abbrev pub continued : ℕ → Position → LogHeader
@@ -22,6 +25,17 @@ start_of (Free disk most) = []
 start_of (Needed disk None copied has_all) = []
 start_of (Needed disk (Some last) copied has_all) = last
 start_of Gone = []
+
+-- the other file, unless it has failed
+abbrev pub disk_of : {D : Type 0} → Other D → Option D
+disk_of (Free disk most) = Some disk
+disk_of (Needed disk last copied has_all) = Some disk
+disk_of Gone = None
+
+-- the error of a call that can be made again, if the disk only had no room
+abbrev pub full_as_such : JournalError → JournalError
+full_as_such (Disk error) = if is_no_room error then DiskFull else Disk error
+full_as_such error = error
 
 -- the log may move to the other file
 abbrev pub IfFree : {D : Type 0} → Other D → Type 0 → Type 0

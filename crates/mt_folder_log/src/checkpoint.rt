@@ -1,13 +1,13 @@
 //! How the log of a folder is shortened: it continues in the other file, and the rows are copied there between commits.
 
-ghost use Rattle.std.specs.Prelude.{◌≡◌, false, List, [], length, nat_lt, None, OnOk, OnErr, IfOk, IsTrue};
+ghost use Rattle.std.specs.Prelude.{◌≡◌, false, List, [], length, nat_lt, None, Err, OnOk, OnErr, IfOk, IsTrue};
 ghost use Rattle.mt_frame.specs.declared.entry.Entry.{Entry};
 ghost use Rattle.mt_frame.specs.declared.entry.LogHeader.{LogHeader};
 ghost use Rattle.mt_journal.specs.Appending.{with_part, with_seal};
 ghost use Rattle.mt_journal.specs.Causes.{may_ask};
 ghost use Rattle.mt_journal.specs.Keeping.{AllAreLogs, Keeps};
 ghost use Rattle.mt_journal.specs.Recovery.{Mixes};
-ghost use Rattle.mt_folder_log.specs.Moving.{continued, end_of, start_of, IfFree, IfNeeded, IsAfter, IsFree, MayMoveTo, Needs};
+ghost use Rattle.mt_folder_log.specs.Moving.{continued, disk_of, end_of, full_as_such, start_of, IfFree, IfNeeded, IsAfter, IsFree, MayMoveTo, Needs};
 ghost use Rattle.mt_folder_log.specs.declared.checkpoint.Other.TheVariants.{Needed};
 ghost use Rattle.mt_folder_log.specs.declared.checkpoint.TheConstants.{PART};
 
@@ -15,11 +15,13 @@ use crate::log::FolderLog;
 use bytes::Bytes;
 use mt_frame::entry::{LogHeader, Part};
 use mt_journal::error::JournalError;
-use mt_journal::opening::create;
+use mt_journal::journal::Journal;
+use mt_journal::opening::start;
+use mt_journal::position::Position;
 use mt_types::copying::TryCopy;
 use mt_types::key::Key;
 use mt_types::refusal::Refusal;
-use sqlite_disk::Disk;
+use sqlite_disk::{Disk, is_no_room};
 use std::alloc::Global;
 use std::mem;
 
@@ -60,6 +62,16 @@ pub(crate) enum Other<D: Disk + Drop> {
 }
 
 impl<D: Disk + Drop> Other<D> {
+    // The log, which ends there, couldn't move to this file. It is tried again when the log has grown by `least` bytes.
+    fn later(disk: D, end: usize, least: usize) -> Other<D>
+        ensures { IsFree result }
+    {
+        Other::Free {
+            disk,
+            most: end.saturating_add(least),
+        }
+    }
+
     // The log of rows that took `size` bytes has all of them.
     pub(crate) fn free(disk: D, size: usize, least: usize) -> Other<D>
         ensures free { IsFree result }
@@ -106,7 +118,9 @@ impl<D: Disk + Drop> Other<D> {
     }
 
     // The other file, unless it has failed.
-    pub(crate) fn into_disk(self) -> Option<D> {
+    pub(crate) fn into_disk(self) -> Option<D>
+        ensures { result ≡ disk_of self }
+    {
         match self {
             Other::Free { disk, .. } => Some(disk),
             Other::Needed {
@@ -154,17 +168,39 @@ fn end_of(alloc: Global, part: &Part) -> Result<Option<Key>, JournalError>
     }
 }
 
-// A file without bytes, so that only as many zeros are written to it as to a new one.
-fn emptied<D: Disk + Drop>(file: D) -> Result<D, JournalError>
-    ensures { IfOk result (λ file. IsTrue (D.Disk.is_usable file)) }
+// Makes a log in a file. Its bytes go first, so that only as many zeros are written to it as to a new one.
+fn start_over<D: Disk>(alloc: Global, file: &mut D, header: LogHeader) -> Result<Position, JournalError>
+    ensures kept { IfOk result (λ at. Keeps at (D.Disk.seen file.new) (D.Disk.may_leave file.new) header []) }
+    ensures newest { IfOk result (λ at. at.newest ≡ header.base) }
+    ensures again { result ≡ Err JournalError.NoMemory → IsTrue (D.Disk.is_usable file.new) }
 {
-    let mut file = file;
     if !file.may_be_used() {
         return Err(JournalError::GivenUp);
     }
-    match file.set_len(0) {
-        Ok(()) => Ok(file),
-        Err(error) => Err(JournalError::Disk(error)),
+    file.set_len(0)?;
+    start(alloc, file, header)
+}
+
+// What is left of a file in which no log could be made: it is cut, so that it takes no room of a full disk.
+fn cut<D: Disk>(file: &mut D)
+    ensures { IsTrue (D.Disk.is_usable file.old) → IsTrue (D.Disk.is_usable file.new) }
+{
+    if file.may_be_used() {
+        let _cut = file.set_len(0);
+    }
+}
+
+// The error of a disk that has no room, if it is one: the call can be made again.
+fn as_full(error: JournalError) -> JournalError
+    ensures { result ≡ full_as_such error }
+{
+    match error {
+        JournalError::Disk(cause) => if is_no_room(&cause) {
+            JournalError::DiskFull
+        } else {
+            JournalError::Disk(cause)
+        },
+        other => other,
     }
 }
 
@@ -175,8 +211,9 @@ impl<D: Disk + Drop> FolderLog<D> {
     ///
     /// # Errors
     ///
-    /// Those of [`mt_journal::opening::create`] and [`FolderLog::sync`]. If the other file fails, the log stays where it is, and
-    /// no checkpoint is made any more: `GivenUp`. `TooLong` if the log has the last generation.
+    /// Those of [`mt_journal::opening::start`] and [`FolderLog::sync`]; the log stays where it is then. After `NoMemory`, and
+    /// `DiskFull` if there is no room for the other file, it is tried again when the log has grown, or by this call. If the other
+    /// file has failed, no checkpoint is made any more: `GivenUp`. `TooLong` if the log has the last generation.
     pub fn begin(&mut self) -> Result<(), JournalError>
         ensures newest { OnOk result (self.new.journal.at.newest ≡ self.old.journal.at.newest) }
 
@@ -186,6 +223,13 @@ impl<D: Disk + Drop> FolderLog<D> {
             → IfFree self.old.other (OnOk result (Needs self.new.other (λ disk. AllAreLogs header entries (D.Disk.may_leave disk)))) }
         ensures begins { IfFree self.old.other (OnOk result (Keeps self.new.journal.at (D.Disk.seen self.new.journal.disk)
             (D.Disk.may_leave self.new.journal.disk) (continued self.old.columns self.old.journal.at) [])) }
+
+        // If the log hasn't moved, it has the entries that it had. If memory was refused, the call can be made again.
+        ensures stays { (header : LogHeader) (entries : List Entry)
+            → Keeps self.old.journal.at (D.Disk.seen self.old.journal.disk) (D.Disk.may_leave self.old.journal.disk) header entries
+            → IsTrue (may_ask self.new.journal.is_given_up (D.Disk.is_usable self.new.journal.disk))
+            → OnErr result (Keeps self.new.journal.at (D.Disk.seen self.new.journal.disk) (D.Disk.may_leave self.new.journal.disk) header entries) }
+        ensures again { IfFree self.old.other (result ≡ Err JournalError.NoMemory → IsFree self.new.other) }
     {
         let at = self.journal.position();
         let Some(generation) = at.generation.checked_add(1) else {
@@ -206,10 +250,35 @@ impl<D: Disk + Drop> FolderLog<D> {
             base: at.newest,
             run: 0,
         };
-        let journal = create(self.alloc, emptied(disk)?, header)?;
-        let before = mem::replace(&mut self.journal, journal);
-        self.other = Other::needed(before.into_disk());
-        Ok(())
+        self.move_to(disk, header)
+    }
+
+    // Moves the log to this file. If none can be made there, the log stays, and the file is tried again when the log has
+    // grown.
+    fn move_to(&mut self, disk: D, header: LogHeader) -> Result<(), JournalError>
+        ensures newest { OnOk result (self.new.journal.at.newest ≡ header.base) }
+        ensures before { OnOk result (Needs self.new.other (λ disk. disk ≡ self.old.journal.disk)) }
+        ensures begins { OnOk result (Keeps self.new.journal.at (D.Disk.seen self.new.journal.disk)
+            (D.Disk.may_leave self.new.journal.disk) header []) }
+        ensures stays { OnErr result (self.new.journal ≡ self.old.journal) }
+        ensures again { result ≡ Err JournalError.NoMemory → IsFree self.new.other }
+    {
+        let mut disk = disk;
+        match start_over(self.alloc, &mut disk, header) {
+            Ok(at) => {
+                let before = mem::replace(&mut self.journal, Journal::new(disk, at));
+                self.other = Other::needed(before.into_disk());
+                Ok(())
+            }
+            Err(error) => {
+                cut(&mut disk);
+                if disk.may_be_used() {
+                    self.other = Other::later(disk, self.journal.position().end, self.least);
+                    return Err(as_full(error));
+                }
+                Err(error)
+            }
+        }
     }
 
     /// Returns the key from which on the next rows are to be copied: that of the last row that was copied, or the first key.
@@ -271,6 +340,10 @@ impl<D: Disk + Drop> FolderLog<D> {
             → Mixes D.Disk.is_mixing
             → OnOk result (Keeps self.new.journal.at (D.Disk.seen self.new.journal.disk) (D.Disk.may_leave self.new.journal.disk) header
             (with_seal copied entries)) }
+        ensures stays { (header : LogHeader) (entries : List Entry)
+            → Keeps self.old.journal.at (D.Disk.seen self.old.journal.disk) (D.Disk.may_leave self.old.journal.disk) header entries
+            → IsTrue (may_ask self.new.journal.is_given_up (D.Disk.is_usable self.new.journal.disk))
+            → OnErr result (Keeps self.new.journal.at (D.Disk.seen self.new.journal.disk) (D.Disk.may_leave self.new.journal.disk) header entries) }
         ensures newest { OnOk result (self.new.journal.at.newest ≡ self.old.journal.at.newest) }
         ensures other { self.new.other ≡ self.old.other }
     {
@@ -295,6 +368,10 @@ impl<D: Disk + Drop> FolderLog<D> {
             × AllAreLogs header (with_seal copied entries) (D.Disk.may_leave self.new.journal.disk)
             × Keeps self.new.journal.at (D.Disk.seen self.new.journal.disk) (D.Disk.may_leave self.new.journal.disk) header
             (with_seal copied entries))) }
+        ensures stays { (header : LogHeader) (entries : List Entry)
+            → Keeps self.old.journal.at (D.Disk.seen self.old.journal.disk) (D.Disk.may_leave self.old.journal.disk) header entries
+            → IsTrue (may_ask self.new.journal.is_given_up (D.Disk.is_usable self.new.journal.disk))
+            → OnErr result (Keeps self.new.journal.at (D.Disk.seen self.new.journal.disk) (D.Disk.may_leave self.new.journal.disk) header entries) }
     {
         let copied = match &self.other {
             Other::Needed { copied, .. } => *copied,

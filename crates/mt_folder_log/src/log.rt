@@ -1,11 +1,11 @@
 //! The log of a folder: commits are appended and made durable.
 
-ghost use Rattle.std.specs.Prelude.{◌≡◌, ◌+◌, List, length, OnOk, OnErr, IfOk, IsTrue, IsFalse};
+ghost use Rattle.std.specs.Prelude.{◌≡◌, ◌⊎◌, ◌+◌, ◌^◌, ◌≤◌, List, length, OnOk, OnErr, IfOk, IsTrue, IsFalse};
 ghost use Rattle.mt_frame.specs.declared.entry.Entry.{Entry};
 ghost use Rattle.mt_frame.specs.declared.entry.LogHeader.{LogHeader};
 ghost use Rattle.mt_journal.specs.Appending.{with_commits};
-ghost use Rattle.mt_journal.specs.Causes.{may_ask, GoesOn, SyncHasCause};
-ghost use Rattle.mt_folder_log.specs.Moving.{round_of, IsOfSpare};
+ghost use Rattle.mt_journal.specs.Causes.{may_ask, next_commits, AppendHasCause, GoesOn, IsTooLong, SyncHasCause};
+ghost use Rattle.mt_folder_log.specs.Moving.{disk_of, round_of, IsOfSpare};
 ghost use Rattle.mt_journal.specs.Keeping.{AllAreLogs, AllSurvive, Keeps};
 
 use crate::checkpoint::{Other, Round};
@@ -89,6 +89,11 @@ impl<D: Disk + Drop> FolderLog<D> {
             → OnErr result (Keeps self.new.journal.at (D.Disk.seen self.new.journal.disk) (D.Disk.may_leave self.new.journal.disk) header entries) }
         ensures newest { OnOk result (self.new.journal.at.newest ≡ self.old.journal.at.newest + length records) }
         ensures number { IfOk result (λ number. number ≡ self.old.journal.at.newest + length records) }
+        ensures cause { AppendHasCause result
+            (may_ask self.old.journal.is_given_up (D.Disk.is_usable self.old.journal.disk))
+            ((2 ^ 64 ≤ self.old.journal.at.newest + length records + 1)
+            ⊎ IsTooLong self.old.journal.at (next_commits self.old.journal.at records))
+            (D.Disk.faults self.old.journal.disk) (D.Disk.faults self.new.journal.disk) }
         ensures goes_on { GoesOn result (may_ask self.old.journal.is_given_up (D.Disk.is_usable self.old.journal.disk))
             (may_ask self.new.journal.is_given_up (D.Disk.is_usable self.new.journal.disk)) }
     {
@@ -145,7 +150,8 @@ impl<D: Disk + Drop> FolderLog<D> {
 
     /// Returns the disk of the log, and that of the other file, unless it has failed. Ends the use of the log.
     pub fn into_disks(self) -> (D, Option<D>)
-        ensures { result.0 ≡ self.journal.disk }
+        ensures log { result.0 ≡ self.journal.disk }
+        ensures other { result.1 ≡ disk_of self.other }
     {
         let FolderLog { journal, other, .. } = self;
         (journal.into_disk(), other.into_disk())

@@ -4,6 +4,7 @@
 
 pub mod address;
 pub mod buffers;
+pub mod descriptors;
 pub mod durability;
 pub mod fault;
 pub mod limits;

@@ -64,6 +64,11 @@ pub enum Report<'a> {
     TurnedAway {
         most: u64,
     },
+    /// At most this number of connections is served at once, since the system allows no more descriptors.
+    FewDescriptors {
+        connections: u64,
+        descriptors: u64,
+    },
     /// A connection was not accepted.
     NotAccepted(&'a io::Error),
     /// The disk of the log has no room.
@@ -109,6 +114,7 @@ pub enum Kind {
     Ended,
     WrongSecret,
     TurnedAway,
+    FewDescriptors,
     NotAccepted,
     DiskFull,
     DiskUsable,
@@ -124,11 +130,12 @@ pub enum Kind {
 }
 
 /// The kinds, in their order.
-pub const KINDS: [Kind; 16] = [
+pub const KINDS: [Kind; 17] = [
     Kind::Listening,
     Kind::Ended,
     Kind::WrongSecret,
     Kind::TurnedAway,
+    Kind::FewDescriptors,
     Kind::NotAccepted,
     Kind::DiskFull,
     Kind::DiskUsable,
@@ -156,6 +163,7 @@ impl Kind {
             Kind::Ended
             | Kind::WrongSecret
             | Kind::TurnedAway
+            | Kind::FewDescriptors
             | Kind::MemoryFull
             | Kind::NotShortened => "warn",
             Kind::NotAccepted | Kind::DiskFull | Kind::LogFailed | Kind::Unwritten | Kind::Failed =>
@@ -171,6 +179,7 @@ impl fmt::Display for Kind {
             Kind::Ended => "ended",
             Kind::WrongSecret => "wrong_secret",
             Kind::TurnedAway => "turned_away",
+            Kind::FewDescriptors => "few_descriptors",
             Kind::NotAccepted => "accept_failed",
             Kind::DiskFull => "disk_full",
             Kind::DiskUsable => "disk_usable",
@@ -195,6 +204,7 @@ impl Report<'_> {
             Report::Ended { .. } => Kind::Ended,
             Report::WrongSecret { .. } => Kind::WrongSecret,
             Report::TurnedAway { .. } => Kind::TurnedAway,
+            Report::FewDescriptors { .. } => Kind::FewDescriptors,
             Report::NotAccepted(_) => Kind::NotAccepted,
             Report::DiskFull => Kind::DiskFull,
             Report::DiskUsable => Kind::DiskUsable,
@@ -267,6 +277,13 @@ impl fmt::Display for Report<'_> {
                 write!(f, "{named} wrong_secrets={count} {peer}")
             }
             Report::TurnedAway { most } => write!(f, "{kind} connections={most}"),
+            Report::FewDescriptors {
+                connections,
+                descriptors,
+            } => write!(
+                f,
+                "{kind} connections={connections} descriptors={descriptors}"
+            ),
             Report::MemoryFull { resident, most } | Report::MemoryUsable { resident, most } => {
                 write!(f, "{kind} resident_bytes={resident} most={most}")
             }

@@ -1,7 +1,8 @@
-//! The lines that a server writes on standard error: plain ones, or dated ones of which only some a second are written.
+//! The lines that a server writes on standard error, plain ones or dated ones. Of each kind only some a second are written.
 
 use crate::report::{KINDS, Kind, Report};
 use crate::utc::Utc;
+use std::io;
 use std::sync::atomic::{AtomicBool, Ordering};
 use std::sync::{Mutex, Wait};
 use std::time::Clock;
@@ -84,29 +85,45 @@ impl Reporter {
 
     /// Writes a line, if reports of this kind are written in its form, and not too many were in this second.
     pub fn say<R: Wait + Clock + Eprint>(&self, rt: &R, report: &Report<'_>) {
-        match self.form {
-            LineForm::Plain => say_plainly(rt, report),
-            LineForm::Pairs => self.say_dated(rt, report),
-        }
-    }
-
-    // Writes a line with its time, unless too many of its kind were written in this second.
-    fn say_dated<R: Wait + Clock + Eprint>(&self, rt: &R, report: &Report<'_>) {
-        let now = Utc::now(rt);
         let kind = report.kind();
+        if self.form == LineForm::Plain && !is_plain(kind) {
+            return;
+        }
+        let now = Utc::now(rt);
         let mut counts = self.counts.lock(rt);
         let Some(count) = counts.get_mut(kind as usize) else {
             return;
         };
         if let Some(left_out) = count.take_left_out(now.seconds, false) {
-            say_left_out(rt, now, kind, left_out);
+            self.say_left_out(rt, now, kind, left_out);
         }
         if count.allows(now.seconds) {
-            let level = kind.level();
-            let _ = eprintln!(rt; "{now} {level} {report}");
+            self.write(rt, now, report);
         } else {
             self.has_left_out.store(true, Ordering::SeqCst);
         }
+    }
+
+    // Writes a line in its form.
+    fn write<R: Eprint>(&self, rt: &R, now: Utc, report: &Report<'_>) {
+        let _ = match self.form {
+            LineForm::Plain => say_plainly(rt, report),
+            LineForm::Pairs => {
+                let level = report.kind().level();
+                eprintln!(rt; "{now} {level} {report}")
+            }
+        };
+    }
+
+    // Writes how many lines of a kind were left out.
+    fn say_left_out<R: Eprint>(&self, rt: &R, now: Utc, kind: Kind, left_out: u64) {
+        let _ = match self.form {
+            LineForm::Plain => eprintln!(rt; "left out: {left_out} lines of {kind}"),
+            LineForm::Pairs => {
+                let level = kind.level();
+                eprintln!(rt; "{now} {level} {kind} left_out={left_out}")
+            }
+        };
     }
 
     /// Returns whether lines were left out, and no line has said so yet.
@@ -132,7 +149,7 @@ impl Reporter {
         let mut counts = self.counts.lock(rt);
         for (kind, count) in KINDS.iter().zip(counts.iter_mut()) {
             if let Some(left_out) = count.take_left_out(now.seconds, is_last) {
-                say_left_out(rt, now, *kind, left_out);
+                self.say_left_out(rt, now, *kind, left_out);
             }
             has_more = has_more || count.left_out > 0;
         }
@@ -140,17 +157,41 @@ impl Reporter {
     }
 }
 
-fn say_left_out<R: Eprint>(rt: &R, now: Utc, kind: Kind, left_out: u64) {
-    let level = kind.level();
-    let _ = eprintln!(rt; "{now} {level} {kind} left_out={left_out}");
+// Whether reports of this kind have a plain line.
+fn is_plain(kind: Kind) -> bool {
+    match kind {
+        Kind::Ended
+        | Kind::FewDescriptors
+        | Kind::NotAccepted
+        | Kind::DiskFull
+        | Kind::MemoryFull
+        | Kind::NotShortened
+        | Kind::LogFailed
+        | Kind::Unwritten => true,
+        Kind::Listening
+        | Kind::WrongSecret
+        | Kind::TurnedAway
+        | Kind::DiskUsable
+        | Kind::MemoryUsable
+        | Kind::Shortened
+        | Kind::Stopping
+        | Kind::Stopped
+        | Kind::Failed => false,
+    }
 }
 
-// Writes the plain line of a fault or an error.
-fn say_plainly<R: Eprint>(rt: &R, report: &Report<'_>) {
-    let _ = match report {
+// Writes the plain line of a report, if it has one.
+fn say_plainly<R: Eprint>(rt: &R, report: &Report<'_>) -> io::Result<()> {
+    match report {
         Report::Ended { fault, .. } => {
             eprintln!(rt; "session fault {}: {fault}", fault.number())
         }
+        Report::FewDescriptors {
+            connections,
+            descriptors,
+        } => eprintln!(rt;
+            "connections: at most {connections}, since the system allows {descriptors} descriptors"
+        ),
         Report::NotAccepted(error) => eprintln!(rt; "accept failed: {error}"),
         Report::DiskFull => eprintln!(rt; "log: the disk is full, and rows can't be changed"),
         Report::MemoryFull { resident, most } => eprintln!(rt;
@@ -168,5 +209,5 @@ fn say_plainly<R: Eprint>(rt: &R, report: &Report<'_>) {
         | Report::Stopping(_)
         | Report::Stopped { .. }
         | Report::Failed(_) => Ok(()),
-    };
+    }
 }

@@ -4,7 +4,7 @@ mod Frames
 mod Writes
 -- What a crash leaves of a log, and the steps of a journal.
 mod Torn
-mod Kept
+pub mod Kept
 -- Recovery.
 mod Reading
 mod Repairs

@@ -34,7 +34,9 @@ pub struct Journal<D: Disk> {
 }
 
 impl<D: Disk + Drop> Journal<D> {
-    pub(crate) fn new(disk: D, at: Position) -> Journal<D>
+    /// Returns the journal of the log that this disk has, which ends there: as [`crate::opening::start`] made it, or
+    /// [`crate::opening::recover`] read it.
+    pub fn new(disk: D, at: Position) -> Journal<D>
         ensures disk { result.disk ≡ disk }
         ensures at { result.at ≡ at }
         ensures asks { IsFalse result.is_given_up }

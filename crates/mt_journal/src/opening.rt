@@ -1,6 +1,6 @@
 //! Logs, made and opened.
 
-ghost use Rattle.std.specs.Prelude.{◌≡◌, ◌⊎◌, ◌++◌, ◌+◌, ◌<◌, ◌≤◌, ◌^◌, ℕ, List, [], length, replicate, true, OnOk, IfOk, IfErr, IsTrue};
+ghost use Rattle.std.specs.Prelude.{◌≡◌, ◌⊎◌, ◌++◌, ◌+◌, ◌<◌, ◌≤◌, ◌^◌, ℕ, List, [], length, replicate, true, Err, OnOk, IfOk, IfErr, IsTrue};
 ghost use Rattle.mt_frame.specs.declared.entry.Entry.{Entry};
 ghost use Rattle.mt_frame.specs.declared.entry.LogHeader.{LogHeader};
 ghost use Rattle.sqlite_disk.specs.Disk.{Only, CountsFault};
@@ -174,6 +174,7 @@ fn put_header<D: Disk>(
         → Keeps at (D.Disk.seen disk.new) (D.Disk.may_leave disk.new) header.now []) }
     ensures usable { OnOk result (IsTrue (D.Disk.is_usable disk.new)) }
     ensures cause { OpenHasCause result true (λ error. ⊥) (D.Disk.faults disk.old) (D.Disk.faults disk.new) }
+    ensures again { result ≡ Err JournalError.NoMemory → IsTrue (D.Disk.is_usable disk.new) }
     ensures clean { IsTrue (D.Disk.is_clean disk.new) → IsTrue (D.Disk.is_clean disk.old) }
 {
     disk.write_at(0, frame)?;
@@ -187,12 +188,44 @@ fn put_header<D: Disk>(
     })
 }
 
-/// Makes a log with this header and no entries, over whatever the file has. Six calls of the disk. The log is there only
-/// if the call returns `Ok`: after a crash before, the file can be anything.
+/// Makes a log with this header and no entries, over whatever the file has, and returns its end: [`Journal::new`] continues
+/// it. Six calls of the disk. The log is there only if the call returns `Ok`: after a crash before, the file can be anything.
+/// If the call fails, it can be made again as long as the disk may be used.
 ///
 /// # Errors
 ///
 /// `Disk`: the disk failed. `GivenUp` if a sync of the file failed before. `NoMemory` if an allocation is refused.
+pub fn start<D: Disk>(
+    alloc: Global,
+    disk: &mut D,
+    header: LogHeader,
+) -> Result<Position, JournalError>
+    ensures kept { IfOk result (λ at. Keeps at (D.Disk.seen disk.new) (D.Disk.may_leave disk.new) header []) }
+    ensures usable { OnOk result (IsTrue (D.Disk.is_usable disk.new)) }
+    ensures clean { IsTrue (D.Disk.is_clean disk.new) → IsTrue (D.Disk.is_clean disk.old) }
+    ensures cause { OpenHasCause result (D.Disk.is_usable disk.old) (λ error. ⊥) (D.Disk.faults disk.old) (D.Disk.faults disk.new) }
+
+    // Memory that is refused leaves the disk usable.
+    ensures again { result ≡ Err JournalError.NoMemory → IsTrue (D.Disk.is_usable disk.new) }
+{
+    if !disk.may_be_used() {
+        return Err(JournalError::GivenUp);
+    }
+    let frame = encode(alloc, 0, 0, &Entry::Header(header))?;
+    let room = disk.len()?.max(ZEROS_AHEAD);
+    if room <= frame.len() {
+        return Err(JournalError::TooLong);
+    }
+    disk.write_at(0, &zeros(alloc, room)?)?;
+    disk.sync()?;
+    put_header(disk, &frame, &header, room)
+}
+
+/// Makes a log as [`start`] does, and returns its journal. If the call fails, the disk is dropped.
+///
+/// # Errors
+///
+/// Those of [`start`].
 pub fn create<D: Disk + Drop>(
     alloc: Global,
     mut disk: D,
@@ -205,16 +238,6 @@ pub fn create<D: Disk + Drop>(
     // `last` is the disk as the call leaves it.
     ensures cause { (last : D) × OpenHasCause result (D.Disk.is_usable disk) (λ error. ⊥) (D.Disk.faults disk) (D.Disk.faults last) }
 {
-    if !disk.may_be_used() {
-        return Err(JournalError::GivenUp);
-    }
-    let frame = encode(alloc, 0, 0, &Entry::Header(header))?;
-    let room = disk.len()?.max(ZEROS_AHEAD);
-    if room <= frame.len() {
-        return Err(JournalError::TooLong);
-    }
-    disk.write_at(0, &zeros(alloc, room)?)?;
-    disk.sync()?;
-    let at = put_header(&mut disk, &frame, &header, room)?;
+    let at = start(alloc, &mut disk, header)?;
     Ok(Journal::new(disk, at))
 }

@@ -17,7 +17,7 @@ module _ {S : Type 0} {g : calls.Ghosts HostFile} where
   abbrev pub model_of : {start : Ghosts S} → Modelled HostFile S g start → Model
   model_of {start} disk = replay (start_of start disk) (events_of (calls_of disk))
 
-  -- its members `seen`, `may_leave`, `is_usable`, `is_clean` and `is_mixing`
+  -- its members `seen`, `may_leave`, `is_usable`, `faults`, `is_clean` and `is_mixing`
   abbrev pub log_seen : {start : Ghosts S} → Modelled HostFile S g start → List ℕ
   log_seen disk = (model_of disk).seen
 
@@ -26,6 +26,9 @@ module _ {S : Type 0} {g : calls.Ghosts HostFile} where
 
   abbrev pub log_is_usable : {start : Ghosts S} → Modelled HostFile S g start → Bool
   log_is_usable disk = (model_of disk).is_usable
+
+  abbrev pub log_faults : {start : Ghosts S} → Modelled HostFile S g start → ℕ
+  log_faults disk = (model_of disk).faults
 
   abbrev pub log_is_clean : {start : Ghosts S} → Modelled HostFile S g start → Bool
   log_is_clean disk = (model_of disk).is_honest

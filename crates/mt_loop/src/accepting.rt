@@ -6,6 +6,7 @@ use crate::stop::Stop;
 use mio::unix::SourceFd;
 use mio::{Events, Interest, Poll, Token};
 use mt_host::address::{Address, Listener};
+use mt_host::descriptors::connections_within;
 use mt_host::report::{Asker, Origin, Report, unserved};
 use mt_host::stream::Stream;
 use std::alloc::Global;
@@ -32,8 +33,9 @@ pub struct Acceptor {
     poll: Poll,
     events: Events,
     listeners: Vec<Listener>,
-    // The most connections that are open at once.
+    // The most connections that are open at once, and the limit of descriptors, if they are fewer because of it.
     most: u64,
+    descriptors: Option<u64>,
     // How many more sessions there are to be, if they are counted.
     left: Option<u64>,
     // Whether an accept of the last round failed, so that the next one is made without an event.
@@ -41,23 +43,30 @@ pub struct Acceptor {
 }
 
 impl Acceptor {
-    /// Returns what accepts connections of these listeners: at most `most` at once, and `sessions` in all if that is a number.
+    /// Returns what accepts connections of these listeners: at most `most` at once, or as many as may be of `descriptors`, the
+    /// limit of the system if there is one; and `sessions` in all if that is a number.
     pub fn new(
         alloc: Global,
         poll: Poll,
         listeners: Vec<Listener>,
         most: u64,
+        descriptors: Option<u64>,
         sessions: Option<u64>,
     ) -> io::Result<Acceptor> {
         let mut listeners = listeners;
         for listener in &mut listeners {
             listener.register(poll.registry(), LISTENERS)?;
         }
+        let within = match descriptors {
+            Some(descriptors) => connections_within(most, descriptors),
+            None => most,
+        };
         Ok(Acceptor {
             poll,
             events: Events::with_capacity(alloc, 16)?,
             listeners,
-            most,
+            most: within,
+            descriptors: if within < most { descriptors } else { None },
             left: sessions,
             has_failed: false,
         })
@@ -76,7 +85,7 @@ impl Acceptor {
     }
 
     /// Prints where each listener listens, in the order of these addresses: `listening PORT` or `listening unix:PATH`.
-    /// Then reports it.
+    /// Then reports it, and how many connections there may be, if descriptors are few.
     pub fn say<R: Wait + Clock + Eprint>(
         &self,
         gauge: &Gauge<'_, R>,
@@ -91,6 +100,13 @@ impl Acceptor {
         }
         for (listener, address) in self.listeners.iter().zip(addresses) {
             let report = Report::Listening(listener.place(*address)?);
+            gauge.reporter.say(rt, &report);
+        }
+        if let Some(descriptors) = self.descriptors {
+            let report = Report::FewDescriptors {
+                connections: self.most,
+                descriptors,
+            };
             gauge.reporter.say(rt, &report);
         }
         Ok(())

@@ -4,7 +4,9 @@ use crate::logging::Log;
 use bytes::Bytes;
 use mt_frame::entry::LogHeader;
 use mt_journal::error::JournalError;
-use mt_journal::opening::create;
+use mt_journal::journal::Journal;
+use mt_journal::opening::start;
+use mt_journal::position::Position;
 use mt_logger::copying::Copied;
 use mt_logger::error::LoggerError;
 use mt_logger::logger::Logger;
@@ -62,15 +64,17 @@ fn first_key() -> Result<Key, LoggerError> {
     }
 }
 
-// The file without its bytes, so that only as many zeros are written to it as to a new one.
-fn emptied<D: Disk + Drop>(file: D) -> Result<D, LoggerError> {
-    let mut file = file;
-    if file.may_be_used() {
-        if let Err(error) = file.set_len(0) {
-            return Err(LoggerError::Journal(JournalError::Disk(error)));
-        }
+// Makes a log in the file. Its bytes go first, so that only as many zeros are written to it as to a new one.
+fn start_over<D: Disk>(
+    alloc: Global,
+    file: &mut D,
+    header: LogHeader,
+) -> Result<Position, JournalError> {
+    if !file.may_be_used() {
+        return Err(JournalError::GivenUp);
     }
-    Ok(file)
+    file.set_len(0)?;
+    start(alloc, file, header)
 }
 
 impl<D: Disk + Drop> Checkpoints<D> {
@@ -113,14 +117,33 @@ impl<D: Disk + Drop> Log<D> {
         !matches!(self.checkpoints.stage, Stage::Waits { .. })
     }
 
+    // Whether the log is so long that it moves to the other file.
+    fn is_due(&self) -> bool {
+        match self.checkpoints.stage {
+            Stage::Waits { most } => self.checkpoints.least > 0
+                && self.logger.position().end >= most
+                && self.checkpoints.spare.is_some(),
+            _ => false,
+        }
+    }
+
+    // The file to which the log couldn't move stays the spare one. It is tried again when the log has grown as much once more.
+    fn give_back(&mut self, spare: D, end: usize) {
+        let mut spare = spare;
+        if !spare.may_be_used() {
+            return;
+        }
+        // (so that what was written of it takes no room of a full disk)
+        let _cut = spare.set_len(0);
+        self.checkpoints.spare = Some(spare);
+        self.checkpoints.stage = Stage::Waits {
+            most: end.saturating_add(self.checkpoints.least),
+        };
+    }
+
     // Makes the log durable and moves it to the other file, if it is long enough.
     fn begin(&mut self, columns: u8) -> Result<Round, LoggerError> {
-        let is_due = match self.checkpoints.stage {
-            Stage::Waits { most } => self.checkpoints.least > 0
-                && self.logger.position().end >= most,
-            _ => false,
-        };
-        if !is_due || self.checkpoints.spare.is_none() {
+        if !self.is_due() {
             return Ok(Round::Waits);
         }
         let at = self.logger.position();
@@ -134,22 +157,25 @@ impl<D: Disk + Drop> Log<D> {
         let Some(spare) = self.checkpoints.spare.take() else {
             return Ok(Round::Waits);
         };
-        let spare = emptied(spare)?;
-        let alloc = self.checkpoints.alloc;
+        let mut spare = spare;
         let header = LogHeader {
             columns,
             generation,
             base: at.newest,
             run: 0,
         };
-        match create(alloc, spare, header) {
-            Ok(journal) => {
-                let old = mem::replace(&mut self.logger, Logger::new(alloc, journal));
+        match start_over(self.checkpoints.alloc, &mut spare, header) {
+            Ok(position) => {
+                let logger = Logger::new(self.checkpoints.alloc, Journal::new(spare, position));
+                let old = mem::replace(&mut self.logger, logger);
                 self.checkpoints.before = Some(old.into_disk());
                 self.checkpoints.stage = Stage::Copies { next, rows: 0 };
                 Ok(Round::Goes)
             }
-            Err(error) => Err(LoggerError::Journal(error)),
+            Err(error) => {
+                self.give_back(spare, at.end);
+                Err(LoggerError::Journal(error))
+            }
         }
     }
 

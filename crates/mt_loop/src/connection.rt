@@ -17,6 +17,9 @@ use std::alloc::Global;
 use std::io::{ErrorKind, Read, Write};
 use std::mem;
 
+// The most bytes of a frame that are kept before it is whole, of a client that wasn't admitted. A hello has fewer.
+const MOST_UNADMITTED: usize = 2_048;
+
 // From how many bytes on that are to go no more frames are answered.
 const MOST_OUTPUT: usize = 1_048_576;
 
@@ -236,6 +239,8 @@ impl Connection {
             Ok(false) => {
                 if self.has_ended && !self.talk.is_between_frames() {
                     self.fail(ConnectionFault::Cut);
+                } else if self.role.is_none() && self.kept_input() > MOST_UNADMITTED {
+                    self.fail(ConnectionFault::NoHello);
                 }
             }
             Err(fault) => self.fail(ConnectionFault::from(fault)),

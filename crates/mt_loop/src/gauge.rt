@@ -272,7 +272,8 @@ impl<'a, R: Wait + Clock> Gauge<'a, R> {
         }
     }
 
-    /// Returns what the server is now, as far as this query asks for it. The worker holds no lock.
+    /// Returns what the server is now, as far as this query asks for it: without one nothing of the index. The worker holds no
+    /// lock.
     pub fn facts(&self, alloc: Global, query: Option<&ServerQuery>) -> Facts
         ensures lists { IfSome result.views ListsSomewhere }
     {
@@ -300,7 +301,9 @@ impl<'a, R: Wait + Clock> Gauge<'a, R> {
             watched: None,
             durable: self.durable(),
         };
-        self.read_index(alloc, query, &mut facts);
+        if query.is_some() {
+            self.read_index(alloc, query, &mut facts);
+        }
         facts
     }
 }

@@ -12,6 +12,7 @@ use crate::worker::{Worker, work};
 use mio::Poll;
 use mt_host::address::{Address, Listener, remove_sockets};
 use mt_host::buffers::Buffers;
+use mt_host::descriptors::most_descriptors;
 use mt_host::durability::Durability;
 use mt_host::limits::Limits;
 use mt_host::memory::Memory;
@@ -258,7 +259,14 @@ where
     let addresses = access.addresses;
     let listeners = listen_all(rt, alloc, addresses)?;
     let most = plan.limits.connections;
-    let mut acceptor = Acceptor::new(alloc, Poll::new(rt)?, listeners, most, plan.sessions)?;
+    let mut acceptor = Acceptor::new(
+        alloc,
+        Poll::new(rt)?,
+        listeners,
+        most,
+        most_descriptors(rt),
+        plan.sessions,
+    )?;
     if plan.watches_input {
         acceptor.watch_input()?;
     }

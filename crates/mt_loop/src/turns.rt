@@ -13,7 +13,7 @@ use mt_talk::server::Keeper;
 use mt_talk::serving::Server;
 use mt_talk::tokens::Token;
 use mt_types::event::Event;
-use mt_wire::server::Role;
+use mt_wire::server::{Role, ServerQuery};
 use slab::Slab;
 use std::alloc::Global;
 use std::mem;
@@ -79,7 +79,14 @@ impl Turns {
             return false;
         }
         shared.hold(Hold::Nothing);
-        let facts = gauge.facts(self.alloc, query);
+        // (for a client that wasn't admitted the index is read for a hello alone)
+        let is_hello = matches!(query, Some(ServerQuery::Hello { .. }));
+        let asked = if is_hello || connection.role.is_some() {
+            query
+        } else {
+            None
+        };
+        let facts = gauge.facts(self.alloc, asked);
         let is_lost = gauge.has_lost_log();
         let waits = !self.is_stopping && connection.waits(&facts, gauge.now(), is_lost);
         self.server.keeper.facts = facts;

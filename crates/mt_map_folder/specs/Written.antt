@@ -1,6 +1,8 @@
 -- What is written of the commits and of the rows of a map.
-use Rattle.std.specs.Prelude.{◌≡◌, ℕ, List, [], ◌∷◌, map, take, drop}
+use Rattle.std.specs.Prelude.{◌≡◌, ◌⊎◌, ◌+◌, ◌^◌, ◌≤◌, ℕ, Bool, List, [], ◌∷◌, length, map, take, drop, Option, MatchOption, Result, Ok, Err}
 use Rattle.mt_types.specs.declared.limits.TheConstants.{MAX_RANGE}
+use Rattle.mt_types.specs.declared.refusal.Refusal.{Refusal}
+use Rattle.mt_types.specs.declared.refusal.Refusal.TheVariants.{NoMemory}
 use Rattle.mt_frame.specs.declared.entry.Entry.{Entry}
 use Rattle.mt_frame.specs.declared.entry.Part.{Part}
 use Rattle.mt_frame.specs.declared.entry.Record.{Record}
@@ -12,6 +14,10 @@ use Rattle.mt_folder_log.specs.declared.checkpoint.TheConstants.{PART}
 use Rattle.mt_index.specs.Stands.{MachineView, Stands}
 use Rattle.mt_journal.specs.declared.position.Position.{Position}
 use Rattle.mt_journal.specs.Appending.{with_commits}
+use Rattle.mt_journal.specs.Causes.{next_commits, AppendHasCause, IsTooLong}
+use Rattle.mt_journal.specs.declared.error.JournalError.{JournalError}
+use Rattle.mt_map_folder.specs.declared.error.LogError.{LogError}
+use Rattle.mt_map_folder.specs.declared.error.LogError.TheVariants.{Refused, Journal}
 use Rattle.mt_replay.specs.Replay.{record_of}
 
 -- what the commits after the first `from` left, of at most MAX_RANGE of them
@@ -27,3 +33,15 @@ entries_with at (first ∷ more) entries = with_commits at (first ∷ more) entr
 pub record AreOfMap (s : MachineView) (start : List ℕ) (part : Part) : Type 0 where
   pub at : part.at ≡ newest s.log
   pub are : (h : History) → Stands s h → IsRangeOfMap (rows s.columns (moment h)) [] start PART part.rows
+
+-- commits that can't be written there: their numbers are spent, or they have no frame or no place
+pub record AreTooLong (at : Position) : Type 0 where
+  pub records : List Record
+  pub long : (2 ^ 64 ≤ at.newest + length records + 1) ⊎ IsTooLong at (next_commits at records)
+
+-- THE CAUSE of what a write has returned. The map is asked for its next commits with this fault, the log might ask its disk if
+-- `asks`, and `same` is that the log is as before
+abbrev pub WriteHasCause : {T : Type 0} → Result T LogError → Option Refusal → Type 0 → Bool → Position → ℕ → ℕ → Type 0
+WriteHasCause (Ok x) fault same asks at old new = new ≡ old
+WriteHasCause (Err (Refused refusal)) fault same asks at old new = MatchOption fault (refusal ≡ NoMemory) (λ first. refusal ≡ first) × same
+WriteHasCause {T} (Err (Journal error)) fault same asks at old new = AppendHasCause (the (Result T JournalError) (Err error)) asks (AreTooLong at) old new

@@ -5,16 +5,18 @@ ghost use Rattle.mt_commit.specs.Log.{newest};
 ghost use Rattle.mt_frame.specs.declared.entry.Entry.{Entry};
 ghost use Rattle.mt_frame.specs.declared.entry.LogHeader.{LogHeader};
 ghost use Rattle.mt_frame.specs.declared.entry.Part.{Part};
-ghost use Rattle.mt_folder_log.specs.Moving.{end_of, round_of, start_of, IfFree, IfNeeded, IsAfter, IsFree, Needs};
+ghost use Rattle.mt_folder_log.specs.Moving.{disk_of, end_of, round_of, start_of, IfFree, IfNeeded, IsAfter, IsFree, Needs};
 ghost use Rattle.mt_folder_log.specs.declared.checkpoint.TheConstants.{PART};
+ghost use Rattle.mt_index.specs.Feed.{feed_fault};
 ghost use Rattle.mt_index.specs.Stands.{Stands};
 ghost use Rattle.mt_journal.specs.Appending.{with_part, with_seal};
 ghost use Rattle.mt_journal.specs.Causes.{may_ask};
 ghost use Rattle.mt_journal.specs.Keeping.{AllAreLogs, AllSurvive, Keeps};
 ghost use Rattle.mt_journal.specs.Recovery.{Mixes};
 ghost use Rattle.mt_promise.specs.History.{History};
+ghost use Rattle.mt_types.specs.declared.limits.TheConstants.{MAX_RANGE as MAX_LIMIT};
 ghost use Rattle.mt_map_folder.specs.Rounds.{acts, is_going, next_of, IfCopies, IfMoves, IfSeals};
-ghost use Rattle.mt_map_folder.specs.Written.{entries_with, left_after, AreOfMap};
+ghost use Rattle.mt_map_folder.specs.Written.{entries_with, left_after, AreOfMap, WriteHasCause};
 
 use crate::error::LogError;
 use mt_folder_log::checkpoint::{PART, Round};
@@ -24,6 +26,7 @@ use mt_journal::error::JournalError;
 use mt_map::map::Map;
 use mt_replay::records::records_of;
 use mt_types::limits::MAX_RANGE;
+use mt_types::refusal::Refusal;
 use sqlite_disk::Disk;
 use std::alloc::Global;
 
@@ -87,12 +90,23 @@ impl<D: Disk + Drop> MapLog<D> {
             → Keeps self.old.log.journal.at (D.Disk.seen self.old.log.journal.disk) (D.Disk.may_leave self.old.log.journal.disk) header entries
             → IsTrue (may_ask self.new.log.journal.is_given_up (D.Disk.is_usable self.new.log.journal.disk))
             → OnErr result (Keeps self.new.log.journal.at (D.Disk.seen self.new.log.journal.disk) (D.Disk.may_leave self.new.log.journal.disk) header entries) }
+        ensures cause { WriteHasCause result (feed_fault map.now.machine.log self.old.log.journal.at.newest MAX_LIMIT) (self.new ≡ self.old)
+            (may_ask self.old.log.journal.is_given_up (D.Disk.is_usable self.old.log.journal.disk)) self.old.log.journal.at
+            (D.Disk.faults self.old.log.journal.disk) (D.Disk.faults self.new.log.journal.disk) }
     {
-        let deltas = map.feed(self.log.position().newest, MAX_RANGE)?;
+        let deltas = match map.feed(self.log.position().newest, MAX_RANGE) {
+            Ok(deltas) => deltas,
+            Err(refusal) => return Err(LogError::Refused(refusal)),
+        };
         if deltas.is_empty() {
             return Ok(());
         }
-        self.log.append(records_of(self.alloc, &deltas)?)?;
+        let Ok(records) = records_of(self.alloc, &deltas) else {
+            return Err(LogError::Refused(Refusal::NoMemory));
+        };
+        if let Err(error) = self.log.append(records) {
+            return Err(LogError::Journal(error));
+        }
         Ok(())
     }
 
@@ -126,6 +140,10 @@ impl<D: Disk + Drop> MapLog<D> {
             × Keeps self.new.log.journal.at (D.Disk.seen self.new.log.journal.disk) (D.Disk.may_leave self.new.log.journal.disk) header
             (with_part part entries)) }
         ensures newest { OnOk result (self.new.log.journal.at.newest ≡ self.old.log.journal.at.newest) }
+        ensures stays { (header : LogHeader) (entries : List Entry)
+            → Keeps self.old.log.journal.at (D.Disk.seen self.old.log.journal.disk) (D.Disk.may_leave self.old.log.journal.disk) header entries
+            → IsTrue (may_ask self.new.log.journal.is_given_up (D.Disk.is_usable self.new.log.journal.disk))
+            → OnErr result (Keeps self.new.log.journal.at (D.Disk.seen self.new.log.journal.disk) (D.Disk.may_leave self.new.log.journal.disk) header entries) }
     {
         let start = self.log.start()?;
         let at = map.commits();
@@ -154,6 +172,10 @@ impl<D: Disk + Drop> MapLog<D> {
             × Keeps self.new.log.journal.at (D.Disk.seen self.new.log.journal.disk) (D.Disk.may_leave self.new.log.journal.disk) header
             (with_seal copied entries)))) }
         ensures newest { OnOk result (self.new.log.journal.at.newest ≡ self.old.log.journal.at.newest) }
+        ensures stays { (header : LogHeader) (entries : List Entry)
+            → Keeps self.old.log.journal.at (D.Disk.seen self.old.log.journal.disk) (D.Disk.may_leave self.old.log.journal.disk) header entries
+            → IsTrue (may_ask self.new.log.journal.is_given_up (D.Disk.is_usable self.new.log.journal.disk))
+            → OnErr result (Keeps self.new.log.journal.at (D.Disk.seen self.new.log.journal.disk) (D.Disk.may_leave self.new.log.journal.disk) header entries) }
     {
         match round {
             Round::Rests | Round::Moves => self.log.begin()?,
@@ -212,6 +234,10 @@ impl<D: Disk + Drop> MapLog<D> {
         ensures going { IsTrue (acts self.old.log map.now.machine begins)
             → IfOk result (λ going. going ≡ is_going (next_of self.new.log)) }
         ensures newest { OnOk result (self.new.log.journal.at.newest ≡ self.old.log.journal.at.newest) }
+        ensures stays { (header : LogHeader) (entries : List Entry)
+            → Keeps self.old.log.journal.at (D.Disk.seen self.old.log.journal.disk) (D.Disk.may_leave self.old.log.journal.disk) header entries
+            → IsTrue (may_ask self.new.log.journal.is_given_up (D.Disk.is_usable self.new.log.journal.disk))
+            → OnErr result (Keeps self.new.log.journal.at (D.Disk.seen self.new.log.journal.disk) (D.Disk.may_leave self.new.log.journal.disk) header entries) }
     {
         if !self.acts(map, begins) {
             return Ok(false);
@@ -224,7 +250,8 @@ impl<D: Disk + Drop> MapLog<D> {
     /// Returns the disk of the log, and that of the other file, unless it has failed. Ends the use of the log, which isn't
     /// synced by that.
     pub fn into_disks(self) -> (D, Option<D>)
-        ensures { result.0 ≡ self.log.journal.disk }
+        ensures log { result.0 ≡ self.log.journal.disk }
+        ensures other { result.1 ≡ disk_of self.log.other }
     {
         let MapLog { log, .. } = self;
         log.into_disks()

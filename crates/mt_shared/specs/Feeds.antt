@@ -1,10 +1,12 @@
--- What the feed of a shared index returns, and the copy of one of its views.
+-- What the feed of a shared index returns, the copy of one of its views, and how many rows it has.
 use Rattle.std.specs.Prelude.{ℕ, ◌≡◌, List, Result, Err, Some, IfOk, IfErr, MatchOption, take, drop}
+use Rattle.std.specs.FinMap.{len}
 use Rattle.std.specs.Global.{Vec}
 use Rattle.mt_types.specs.declared.row.Delta.{Delta}
 use Rattle.mt_types.specs.declared.refusal.Refusal.{Refusal}
 use Rattle.mt_types.specs.declared.refusal.Refusal.TheVariants.{NoMemory, NoSuchView}
-use Rattle.mt_promise.specs.History.{History, moment}
+use Rattle.mt_promise.specs.History.{History, moment, rows}
+use Rattle.mt_commit.specs.Log.{newest}
 use Rattle.mt_commit.specs.Logged.{deltas_of}
 use Rattle.mt_view.specs.State.{StateView}
 use Rattle.mt_view.specs.Views.{state_at}
@@ -12,6 +14,7 @@ use Rattle.mt_index.specs.Feed.{feed_fault}
 use Rattle.mt_index.specs.Viewing.{CopiesView}
 use Rattle.mt_index.specs.Stands.{MachineView, Stands}
 use Rattle.mt_shared.specs.Inner.{InnerView, IsInner, IsRefusedBy}
+use Rattle.mt_shared.specs.declared.answers.At.{At}
 
 -- at each history at which the machine is, these are the deltas of its commits after the first `from`, at most `limit`
 abbrev pub AreNext : MachineView → ℕ → ℕ → List Delta → Type 0
@@ -43,3 +46,15 @@ pub record CopiesSomewhere (view : ℕ) (result : Result (ℕ × StateView) Refu
   pub kept : InnerView
   pub keeps : IsInner kept
   pub copies : Copies kept.machine view result
+
+-- How many rows a machine has, with the number of the commits after which it has them, at each history at which it is.
+pub record CountsRows (m : MachineView) (result : At ℕ) : Type 0 where
+  pub value : (h : History) → Stands m h → result.value ≡ len (rows m.columns (moment h))
+  pub from : result.from ≡ newest m.log
+  pub to : result.to ≡ newest m.log
+
+-- how many rows something has that the lock keeps
+pub record CountsRowsSomewhere (result : At ℕ) : Type 0 where
+  pub kept : InnerView
+  pub keeps : IsInner kept
+  pub counts : CountsRows kept.machine result

@@ -10,7 +10,6 @@ ghost use Rattle.mt_types.specs.declared.event.Request.TheVariants.{Build, Get, 
 ghost use Rattle.mt_asked.specs.Borrowed.{request_of, sets_of, spec_of};
 ghost use Rattle.mt_asked.specs.Bounds.{start_key};
 ghost use Rattle.mt_shared.specs.Clients.{Changes, Drives, Reads, ReadsPage, answer_at, built_of, removed_of, row_of, rows_of, rows_within, stored_of, tidied_of};
-ghost use Rattle.mt_shared.specs.Feeds.{FeedsSomewhere};
 ghost use Rattle.mt_shared.specs.Turns.{IsStopped, KeepsUp, drop_outcome};
 
 pub use crate::answers::At;
@@ -19,7 +18,6 @@ use crate::answers::{
 };
 use crate::asking::ask;
 use crate::changing::drive_and_keep;
-use crate::door::Door;
 use crate::driving::{NoGate, Shared, drive};
 use crate::pass::Pass;
 use crate::views;
@@ -31,10 +29,9 @@ use mt_types::event::{Reply, TidyRule};
 use mt_types::limits::{MAX_RANGE, page_fault};
 use mt_types::numbers::ViewNo;
 use mt_types::refusal::Refusal;
-use mt_types::row::{Delta, Pairs, Row};
+use mt_types::row::{Pairs, Row};
 use mt_types::view::Page;
 use std::alloc::Global;
-use std::sync::Wait;
 
 /// The most turns by which a client keeps up views after a change, unless its field `turns` is set.
 pub const TURNS: u64 = 64;
@@ -373,22 +370,5 @@ impl<S: Shared> Client<S> {
         ensures turns { self.new.turns ≡ self.old.turns }
     {
         views::keep_views(self.alloc, &mut self.shared, &mut self.pass, turns)
-    }
-}
-
-impl<'a, W: Wait> Client<Door<'a, W>> {
-    /// Returns the deltas of the commits after the first `from`, at most `limit`: [`Door::feed`].
-    ///
-    ///     for delta in client.feed(seen, 100)?.iter() {
-    ///         println!(rt; "commit {}", delta.number)?;
-    ///     }
-    ///
-    /// # Errors
-    ///
-    /// Those of [`Door::feed`].
-    pub fn feed(&self, from: u64, limit: u16) -> Result<Vec<Delta>, Refusal>
-        ensures { FeedsSomewhere from limit result }
-    {
-        self.shared.feed(self.alloc, from, limit)
     }
 }

@@ -1,12 +1,14 @@
-//! The methods of a client that read of one moment: many keys, the last rows before a bound, a count.
+//! The methods of a client that read of one moment: many keys, the last rows before a bound, counts, the next deltas.
 
 ghost use Rattle.std.specs.Prelude.{◌≡◌, IfOk};
 ghost use Rattle.std.specs.Option.{option_copied};
 ghost use Rattle.mt_reads.specs.declared.quiet.QuietRead.TheVariants.{Gets, RangeBack, Count};
+ghost use Rattle.mt_shared.specs.Feeds.{CountsRowsSomewhere, FeedsSomewhere};
 ghost use Rattle.mt_shared.specs.Quiet.{ReadsQuietly, count_of, found_of, now_or_none, pairs_of, valued_now};
 
 use crate::answers::At;
 use crate::client::Client;
+use crate::door::Door;
 use crate::driving::Shared;
 use crate::quiet::read_quiet;
 use bytes::Bytes;
@@ -15,8 +17,9 @@ use mt_reads::quiet::{QuietAnswer, QuietRead};
 use mt_types::copying::TryCopy;
 use mt_types::items::Items;
 use mt_types::refusal::{NoMemory, Refusal};
-use mt_types::row::{Pairs, Row};
+use mt_types::row::{Delta, Pairs, Row};
 use std::alloc::Global;
+use std::sync::Wait;
 
 fn found_of(answer: QuietAnswer) -> Option<Items<Option<Row>>>
     ensures { result ≡ found_of answer }
@@ -179,5 +182,31 @@ impl<S: Shared> Client<S> {
             Some(Err(refusal)) => Err(refusal),
             None => Ok(None),
         }
+    }
+}
+
+impl<'a, W: Wait> Client<Door<'a, W>> {
+    /// Returns the deltas of the commits after the first `from`, at most `limit`: [`Door::feed`].
+    ///
+    ///     for delta in client.feed(seen, 100)?.iter() {
+    ///         println!(rt; "commit {}", delta.number)?;
+    ///     }
+    ///
+    /// # Errors
+    ///
+    /// Those of [`Door::feed`].
+    pub fn feed(&self, from: u64, limit: u16) -> Result<Vec<Delta>, Refusal>
+        ensures { FeedsSomewhere from limit result }
+    {
+        self.shared.feed(self.alloc, from, limit)
+    }
+
+    /// Returns how many rows there are, and after how many commits: [`Door::len`].
+    ///
+    ///     println!(rt; "{} rows", client.len().value)?;
+    pub fn len(&self) -> At<usize>
+        ensures { CountsRowsSomewhere result }
+    {
+        self.shared.len()
     }
 }

@@ -1,12 +1,13 @@
 //! The access of one thread to a map that many threads share.
 
-ghost use Rattle.mt_shared.specs.Feeds.{CopiesSomewhere, FeedsSomewhere};
+ghost use Rattle.mt_shared.specs.Feeds.{CopiesSomewhere, CountsRowsSomewhere, FeedsSomewhere};
 ghost use Rattle.mt_shared.specs.Inner.{DoesSomewhere};
 ghost use Rattle.mt_shared.specs.Pages.{PagesSomewhere};
 ghost use Rattle.mt_shared.specs.Quiet.{QuietReadsSomewhere};
 ghost use Rattle.mt_shared.specs.Reads.{ReadsSomewhere};
 ghost use Rattle.mt_shared.specs.Tidies.{LooksSomewhere};
 
+use crate::answers::At;
 use crate::changing::Changed;
 use crate::driving::{Hold, Shared, Started};
 use crate::map::SharedMap;
@@ -73,6 +74,15 @@ impl<'a, W: Wait> Door<'a, W> {
     {
         let index = self.index;
         index.kept.read(self.wait).view_copy(alloc, view)
+    }
+
+    /// Returns how many rows there are, and after how many commits. Holds the lock once, together with other reads. Makes no
+    /// event.
+    pub fn len(&self) -> At<usize>
+        ensures { CountsRowsSomewhere result }
+    {
+        let index = self.index;
+        index.kept.read(self.wait).count_rows()
     }
 
     /// Takes the lock, together with other reads, and returns the index as it is at this moment. The lock is held until

@@ -11,8 +11,11 @@ ghost use Rattle.mt_view.specs.Views.{state_at};
 ghost use Rattle.mt_index.specs.Viewing.{CopiesView, ListsViews};
 ghost use Rattle.mt_index.specs.Alone.{IsQuiet};
 ghost use Rattle.mt_index.specs.Stands.{Stands};
+ghost use Rattle.mt_shared.specs.Feeds.{CountsRows};
+ghost use Rattle.mt_shared.specs.Inner.{IsInner};
 ghost use Rattle.mt_shared.specs.Moments.{machine_of};
 
+use crate::answers::At;
 use crate::inner::Inner;
 use mt_index::machine::Machine;
 use mt_types::numbers::ViewNo;
@@ -103,6 +106,19 @@ impl Inner {
             → result ≡ len (rows self.now.machine.columns (moment h)) }
     {
         self.machine.len()
+    }
+
+    // How many rows there are, and after how many commits.
+    pub(crate) fn count_rows(&self) -> At<usize>
+        ensures counts { CountsRows self.now.machine result }
+        ensures kept { IsInner self.now }
+    {
+        let commits = self.machine.commits();
+        At {
+            value: self.machine.len(),
+            from: commits,
+            to: commits,
+        }
     }
 
     fn views(&self) -> Iter<'_, u64, ViewState>

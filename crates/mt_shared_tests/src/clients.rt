@@ -40,6 +40,7 @@ fn changes_of_a_client(rt: HostRuntime) -> Result<(), Fail> {
     let mut client = Client::new(rt.alloc(), Door::new(&map, &rt, 64), pass);
     assert_eq!(rt; told(client.put(b"apple", &RED)), Ok((1, 0, 1)));
     assert_eq!(rt; told(client.put_if(b"apple", &RED, 1)), Ok((2, 1, 2)));
+    assert_eq!(rt; told(Ok(client.len())), Ok((1, 2, 2)));
     assert_eq!(rt; told(client.remove(b"apple")), Ok((Some(3), 2, 3)));
     assert_eq!(rt; told(client.tidy(b"apple")), Ok((TidyRule::Nothing, 3, 3)));
     assert_eq!(rt; client.feed(1, 10)?.len(), 2);

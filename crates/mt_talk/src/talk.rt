@@ -116,6 +116,7 @@ impl Talk {
         ensures taken { OnOk result (self.old.fault ≡ None → (self.new.bytes ≡ self.old.bytes ++ piece.now)
             × (self.new.fault ≡ None)) }
         ensures output { (self.new.output ≡ self.old.output) × (self.new.is_found ≡ self.old.is_found) }
+        ensures stopped { IsSome self.old.fault → IsOk result × (self.new ≡ self.old) }
         ensures err { OnErr result (self.new ≡ self.old) }
     {
         match self.decoder.feed(piece) {
@@ -195,6 +196,7 @@ impl Talk {
         ensures fault { IfErr result (λ fault. fault ≢ WireFault.NoMemory → FaultStands fault self.old.bytes
             × (self.new.bytes ≡ self.old.bytes) × (self.new.output ≡ self.old.output)
             × (shared.new ≡ shared.old) × (pass.new ≡ pass.old)) }
+        ensures unasked { IfErr result (λ fault. fault ≢ WireFault.NoMemory → answerer.new ≡ answerer.old) }
         ensures memory { IsErrOf result WireFault.NoMemory
             → GivesUp (A.gives_up answerer.old) shared.old pass.old self.old self.new shared.new pass.new }
     {

@@ -1,5 +1,7 @@
 -- What each call does with the log that a handle holds, and what it reports.
-use Rattle.std.specs.Prelude.{ℕ, ◌≡◌, ◌⊎◌, ◌-◌, Bool, true, false, List, IsTrue, Result, Ok, Err, Option, Some, None}
+use Rattle.std.specs.Prelude.{ℕ, ◌≡◌, ◌⊎◌, ◌-◌, Bool, true, false, List, IsTrue, Result, Ok, Err, Option, Some, None, if◌then◌else◌}
+use Rattle.std.specs.declared.io.Error.{Error}
+use Rattle.sqlite_disk.specs.Refusal.{is_no_room}
 use Rattle.mt_types.specs.RefusalNumbers.{refusal_number}
 use Rattle.mt_commit.specs.Log.{newest}
 use Rattle.mt_folder.specs.declared.error.FolderError.{FolderError}
@@ -12,7 +14,7 @@ use Rattle.mt_load.specs.Loaded.{IsLoaded}
 use Rattle.mt_load.specs.declared.error.LoadError.{LoadError}
 use Rattle.mt_load.specs.declared.error.LoadError.TheVariants.{Refused as LoadRefused, Impossible}
 use Rattle.mt_map.specs.Tidies.{MapView}
-use Rattle.mt_log_disk.specs.Disks.{log_is_clean, log_is_mixing, log_is_usable, log_leaves, log_seen}
+use Rattle.mt_log_disk.specs.Disks.{log_faults, log_is_clean, log_is_mixing, log_is_usable, log_leaves, log_seen}
 use Rattle.mt_map_folder.specs.Promises.{Advances, Syncs, Writes}
 use Rattle.mt_map_folder.specs.Read.{AreClean, IsReadFrom, KeepsRows}
 use Rattle.mt_map_folder.specs.declared.error.LogError.{LogError}
@@ -34,16 +36,20 @@ abbrev pub log_status : LogError → ℕ
 log_status (LogRefused refusal) = refusal_number refusal
 log_status (LogFailed error) = journal_status error
 
+-- of a call of a file that fails as a folder is opened
+abbrev pub unopened_file_status : Error → ℕ
+unopened_file_status error = if is_no_room error then DISK_FULL else FOLDER_FAILED
+
 -- of a log that isn't opened: a disk that fails, or files that are no logs of such an index
 abbrev pub unopened_status : JournalError → ℕ
 unopened_status NoMemory = 1
 unopened_status DiskFull = DISK_FULL
-unopened_status (Disk error) = FOLDER_FAILED
+unopened_status (Disk error) = unopened_file_status error
 unopened_status GivenUp = FOLDER_FAILED
 unopened_status _ = FOLDER_DAMAGED
 
 abbrev pub folder_status : FolderError → ℕ
-folder_status (Io error) = FOLDER_FAILED
+folder_status (Io error) = unopened_file_status error
 folder_status Busy = FOLDER_BUSY
 folder_status (OfLog file error) = unopened_status error
 folder_status (Lost file commit place) = FOLDER_DAMAGED
@@ -95,7 +101,7 @@ SyncsLog (Some s) next status told = (t : FileLog) × (next ≡ Some t) × Syncs
 -- THE NEXT COMMITS ARE WRITTEN, as `MapLog::write` does it: reported is how many of the index's the log lacks still
 pub record WritesFile (m : MapView) (s t : FileLog) (status told : ℕ) : Type 0 where
   pub written : Result (Unit {0}) LogError
-  pub writes : Writes log_seen log_leaves log_is_usable log_is_mixing m.machine s.log t.log written
+  pub writes : Writes log_seen log_leaves log_is_usable log_is_mixing log_faults m.machine s.log t.log written
   pub tells : Tells (log_end written) (newest m.machine.log - t.log.log.journal.at.newest) status told
 
 abbrev pub WritesLog : Option MapView → Option FileLog → Option FileLog → ℕ → ℕ → Type 0
@@ -106,7 +112,7 @@ WritesLog (Some m) (Some s) next status told = (t : FileLog) × (next ≡ Some t
 -- A ROUND OF A CHECKPOINT IS MADE, as `MapLog::advance` does it: reported is 1 if it has to be continued
 pub record AdvancesFile (m : MapView) (begins : Bool) (s t : FileLog) (status told : ℕ) : Type 0 where
   pub advanced : Result Bool LogError
-  pub advances : Advances log_seen log_leaves log_is_mixing m.machine begins s.log t.log advanced
+  pub advances : Advances log_seen log_leaves log_is_usable log_is_mixing m.machine begins s.log t.log advanced
   pub tells : TellsRound advanced status told
 
 abbrev pub AdvancesLog : Option MapView → Bool → Option FileLog → Option FileLog → ℕ → ℕ → Type 0

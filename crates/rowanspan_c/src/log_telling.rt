@@ -1,15 +1,17 @@
 //! What a call of a log returns to its caller: a status, a number, and the text of an error.
 
 ghost use Rattle.std.specs.Prelude.{◌≡◌};
-ghost use Rattle.rowanspan_c.specs.Logs.{journal_status, log_end, log_status, open_status, folder_status, load_status, unopened_status, TellsRound, TellsSynced};
+ghost use Rattle.rowanspan_c.specs.Logs.{journal_status, log_end, log_status, open_status, folder_status, load_status, unopened_file_status, unopened_status, TellsRound, TellsSynced};
 
 use crate::status::{DISK_FAILED, DISK_FULL, DONE, FOLDER_BUSY, FOLDER_DAMAGED, FOLDER_FAILED};
 use mt_folder::error::FolderError;
 use mt_journal::error::JournalError;
 use mt_load::error::LoadError;
 use mt_map_folder::error::{LogError, OpenError};
+use sqlite_disk::is_no_room;
 use std::alloc::Global;
 use std::fmt::Display;
+use std::io;
 
 // Out of memory, and a counter at its greatest value: the numbers of these refusals.
 const NO_MEMORY: u16 = 1;
@@ -38,6 +40,17 @@ fn log_status(error: &LogError) -> u16
     }
 }
 
+// The status of a call of a file that failed as a folder was opened.
+fn unopened_file_status(error: &io::Error) -> u16
+    ensures { result ≡ unopened_file_status error.now }
+{
+    if is_no_room(error) {
+        DISK_FULL
+    } else {
+        FOLDER_FAILED
+    }
+}
+
 // The status of a log that wasn't opened.
 fn unopened_status(error: &JournalError) -> u16
     ensures { result ≡ unopened_status error.now }
@@ -45,7 +58,8 @@ fn unopened_status(error: &JournalError) -> u16
     match error {
         JournalError::NoMemory => NO_MEMORY,
         JournalError::DiskFull => DISK_FULL,
-        JournalError::Disk(_) | JournalError::GivenUp => FOLDER_FAILED,
+        JournalError::Disk(error) => unopened_file_status(error),
+        JournalError::GivenUp => FOLDER_FAILED,
         _ => FOLDER_DAMAGED,
     }
 }
@@ -55,7 +69,7 @@ fn folder_status(error: &FolderError) -> u16
     ensures { result ≡ folder_status error.now }
 {
     match error {
-        FolderError::Io(_) => FOLDER_FAILED,
+        FolderError::Io(error) => unopened_file_status(error),
         FolderError::Busy => FOLDER_BUSY,
         FolderError::Journal { error, .. } => unopened_status(error),
         FolderError::Lost { .. } | FolderError::Begins { .. } => FOLDER_DAMAGED,

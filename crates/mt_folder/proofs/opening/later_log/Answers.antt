@@ -1,6 +1,7 @@
 use Rattle.std.proofs.Common.{◌∙◌}
 use Rattle.mt_journal.specs.Appending.{with_end}
-use Rattle.mt_folder.proofs.EndLemmas.{closed_same, unless_err}
+use Rattle.mt_journal.proofs.Kept.{unless_err}
+use Rattle.mt_folder.proofs.EndLemmas.{closed_same}
 use Rattle.mt_folder.proofs.opening.later_log.Goals as goal
 
 -- the end that was appended leaves the same rows

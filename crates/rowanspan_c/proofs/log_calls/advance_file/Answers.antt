@@ -9,6 +9,7 @@ returns c =
         moves = advance.moves;
         copies = advance.copies;
         seals = advance.seals;
+        stays = advance.stays;
         rests = advance.rests;
         going = advance.going;
         newest = advance.newest;

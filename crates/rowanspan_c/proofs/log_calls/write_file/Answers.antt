@@ -5,6 +5,6 @@ returns c =
     let write = c.write-written.ensures in
     record {
       written = c.write-written.result;
-      writes = record { kept = write.kept; crash = write.crash; stays = write.stays };
+      writes = record { kept = write.kept; crash = write.crash; stays = write.stays; cause = write.cause };
       tells = (c.tell_written.ensures, c.lacking.ensures);
     }
