@@ -5,3 +5,4 @@ pub mod Sides
 pub mod Laws
 pub mod Spares
 pub mod Kept
+pub mod Looking

@@ -74,6 +74,12 @@ pub enum FolderError {
 }
 
 impl From<io::Error> for FolderError {
+    ghost use Rattle.std.specs.Prelude.{◌≡◌, ◌⊎◌};
+    ghost use Rattle.mt_types.specs.declared.refusal.Refusal.TheVariants.{NoMemory};
+    ghost use Rattle.mt_folder.specs.declared.error.FolderError.TheVariants.{Io, Refused};
+
+    ghost from_gives = { λ error made. (made ≡ Io error) ⊎ (made ≡ Refused NoMemory) };
+
     fn from(error: io::Error) -> FolderError {
         if error.kind() == ErrorKind::OutOfMemory {
             FolderError::Refused(Refusal::NoMemory)
@@ -84,6 +90,12 @@ impl From<io::Error> for FolderError {
 }
 
 impl From<AllocError> for FolderError {
+    ghost use Rattle.std.specs.Prelude.{◌≡◌};
+    ghost use Rattle.mt_types.specs.declared.refusal.Refusal.TheVariants.{NoMemory};
+    ghost use Rattle.mt_folder.specs.declared.error.FolderError.TheVariants.{Refused};
+
+    ghost from_gives = { λ _ made. made ≡ Refused NoMemory };
+
     fn from(_: AllocError) -> FolderError {
         FolderError::Refused(Refusal::NoMemory)
     }

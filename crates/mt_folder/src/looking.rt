@@ -1,8 +1,9 @@
 //! What is looked at in the file of a log before it is opened: whether a crash alone can have left it so.
 
-ghost use Rattle.std.specs.Prelude.{◌≡◌, ◌<◌, min, length, IsTrue, IfOk, OnOk};
+ghost use Rattle.std.specs.Prelude.{◌≡◌, ◌<◌, min, length, IsTrue, IfErr, IfOk, OnOk};
 ghost use Rattle.sqlite_disk.specs.Disk.{Holds};
 ghost use Rattle.mt_folder.specs.Files.{is_blank, HeaderOf};
+ghost use Rattle.mt_folder.specs.Looking.{entry_says_more, is_frame, may_begin, says_more, IsFirstFrame, IsFirstLost, IsRefusedRightly, LacksNone};
 ghost use Rattle.mt_folder.specs.declared.looking.TheConstants.{HEADER as HEADER_BYTES};
 
 use crate::error::{FolderError, LogFile};
@@ -119,13 +120,23 @@ pub fn look_for_nothing<D: Disk>(
     Err(FolderError::Journal { file, error })
 }
 
+// Whether these bytes may begin with a frame.
+fn may_begin(bytes: &[u8]) -> bool
+    ensures { result ≡ may_begin bytes.now }
+{
+    match bytes.first() {
+        Some(byte) => *byte >= FIRST,
+        None => false,
+    }
+}
+
 // Whether the bytes at the front are a whole frame of a log of this generation.
-fn is_frame(
-    alloc: Global,
-    generation: u64,
-    bytes: &[u8],
-    place: usize,
-) -> Result<bool, AllocError> {
+fn is_frame(alloc: Global, generation: u64, bytes: &[u8], place: usize) -> Result<bool, AllocError>
+    ensures { IfOk result (λ is. is ≡ is_frame generation place bytes.now) }
+{
+    if !may_begin(bytes) {
+        return Ok(false);
+    }
     match decode(alloc, generation, place as u64, bytes) {
         Ok(Some(_)) => Ok(true),
         Ok(None) | Err(DecodeError::Faulty(_)) => Ok(false),
@@ -133,8 +144,20 @@ fn is_frame(
     }
 }
 
-/// Returns the place of a whole frame of a log of this generation in a file that has no header. A crash never leaves one.
-/// Reads the file once.
+// The place of the first whole frame of a log of this generation. O(n) in the bytes that may begin one.
+fn first_frame(alloc: Global, bytes: &[u8], generation: u64) -> Result<Option<usize>, AllocError>
+    ensures { IfOk result (IsFirstFrame generation bytes.now) }
+{
+    for place in 0..bytes.len() {
+        if is_frame(alloc, generation, &bytes[place..], place)? {
+            return Ok(Some(place));
+        }
+    }
+    Ok(None)
+}
+
+/// Returns the place of the first whole frame of a log of this generation in a file that has no header. A crash never leaves
+/// one. Reads the file once.
 ///
 /// # Errors
 ///
@@ -145,34 +168,45 @@ pub fn frame_without_header<D: Disk>(
     generation: u64,
 ) -> Result<Option<usize>, FolderError>
     requires { IsTrue (D.Disk.is_usable disk.old) }
+    ensures first { IfOk result (λ found. IsTrue (D.Disk.is_clean disk.new) → IsFirstFrame generation (D.Disk.seen disk.old) found) }
     ensures clean { IsTrue (D.Disk.is_clean disk.new) → IsTrue (D.Disk.is_clean disk.old) }
     ensures usable { IsTrue (D.Disk.is_usable disk.new) }
 {
     let bytes = bytes_of(alloc, disk)?;
-    for place in 0..bytes.len() {
-        let rest = &bytes[place..];
-        if rest[0] >= FIRST && is_frame(alloc, generation, rest, place)? {
-            return Ok(Some(place));
-        }
+    Ok(first_frame(alloc, &bytes, generation)?)
+}
+
+// Whether an entry says that more commits than these were durable.
+fn entry_says_more(entry: &Entry, newest: u64) -> bool
+    ensures { result ≡ entry_says_more newest entry.now }
+{
+    match entry {
+        Entry::Commits(commits) => commits.durable > newest,
+        _ => false,
     }
-    Ok(None)
 }
 
 // Whether the bytes at the front are a whole frame of commits that says that more were durable than `newest`.
-fn says_more(alloc: Global, bytes: &[u8], at: &Position, place: usize) -> Result<bool, AllocError> {
+fn says_more(alloc: Global, bytes: &[u8], at: &Position, place: usize) -> Result<bool, AllocError>
+    ensures { IfOk result (λ says. says ≡ says_more at.now.generation at.now.newest place bytes.now) }
+{
+    if !may_begin(bytes) {
+        return Ok(false);
+    }
     match decode(alloc, at.generation, place as u64, bytes) {
-        Ok(Some((Entry::Commits(commits), _))) => Ok(commits.durable > at.newest),
-        Ok(_) | Err(DecodeError::Faulty(_)) => Ok(false),
+        Ok(Some((entry, _))) => Ok(entry_says_more(&entry, at.newest)),
+        Ok(None) | Err(DecodeError::Faulty(_)) => Ok(false),
         Err(DecodeError::NoMemory) => Err(AllocError),
     }
 }
 
-// The place of a frame after the end of a log by which synced commits are missing. A crash never leaves one. O(n) in the
-// bytes that aren't zero.
-fn lost_frame(alloc: Global, bytes: &[u8], at: &Position) -> Result<Option<usize>, AllocError> {
+// The place of the first frame after the end of a log by which synced commits are missing. A crash never leaves one. O(n) in
+// the bytes that may begin one.
+fn lost_frame(alloc: Global, bytes: &[u8], at: &Position) -> Result<Option<usize>, AllocError>
+    ensures { IfOk result (IsFirstLost at.now bytes.now) }
+{
     for place in at.end..bytes.len() {
-        let rest = &bytes[place..];
-        if rest[0] >= FIRST && says_more(alloc, rest, at, place)? {
+        if says_more(alloc, &bytes[place..], at, place)? {
             return Ok(Some(place));
         }
     }
@@ -191,6 +225,8 @@ pub fn look<D: Disk>(
     columns: u8,
 ) -> Result<(), FolderError>
     requires { IsTrue (D.Disk.is_usable disk.old) }
+    ensures whole { OnOk result (IsTrue (D.Disk.is_clean disk.new) → LacksNone columns (D.Disk.seen disk.old)) }
+    ensures refused { IfErr result (λ error. IsTrue (D.Disk.is_clean disk.new) → IsRefusedRightly columns (D.Disk.seen disk.old) error) }
     ensures clean { IsTrue (D.Disk.is_clean disk.new) → IsTrue (D.Disk.is_clean disk.old) }
     ensures seen { D.Disk.seen disk.new ≡ D.Disk.seen disk.old }
     ensures usable { IsTrue (D.Disk.is_usable disk.new) }

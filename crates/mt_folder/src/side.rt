@@ -1,8 +1,9 @@
 //! One of the two files of a folder, with the log that it has.
 
-ghost use Rattle.std.specs.Prelude.{◌≡◌, ◌↔◌, [], None as NoneOf, IsSome, IsTrue, IsFalse, IfOk, OnOk};
+ghost use Rattle.std.specs.Prelude.{◌≡◌, ◌↔◌, ◌+◌, ◌<◌, ◌^◌, [], None as NoneOf, IsSome, IsTrue, IsFalse, IfOk, OnOk};
 ghost use Rattle.mt_folder.specs.Files.{is_blank, HeaderOf, Says};
 ghost use Rattle.mt_folder.specs.Logs.{last_number};
+ghost use Rattle.mt_folder.specs.Looking.{IsFirstFrame, LacksNone};
 ghost use Rattle.mt_journal.specs.Keeping.{Keeps};
 ghost use Rattle.mt_folder.specs.Sides.{IsNewer, IsNoNewer};
 
@@ -100,6 +101,8 @@ impl<D: Disk + Drop> Side<D> {
     /// `Lost` if it has; and if the disk fails.
     pub fn look_for_later(&mut self, alloc: Global, at: &Position) -> Result<(), FolderError>
         requires { IsTrue (D.Disk.is_usable self.old.disk) }
+        ensures none { self.old.header ≡ NoneOf → at.now.generation + 1 < 2 ^ 64 → OnOk result (IsTrue (D.Disk.is_clean self.new.disk)
+            → IsFirstFrame (at.now.generation + 1) (D.Disk.seen self.old.disk) NoneOf) }
         ensures clean { IsTrue (D.Disk.is_clean self.new.disk) → IsTrue (D.Disk.is_clean self.old.disk) }
     {
         if self.header.is_some() {
@@ -140,6 +143,7 @@ impl<D: Disk + Drop> Side<D> {
     pub fn read(self, alloc: Global, columns: u8) -> Result<OpenedSide<D>, FolderError>
         requires { IsTrue (D.Disk.is_usable self.disk) }
         ensures says { IfOk result (λ opened. IsTrue (D.Disk.is_clean opened.journal.disk) → Says columns (D.Disk.seen self.disk) opened.log) }
+        ensures whole { IfOk result (λ opened. IsTrue (D.Disk.is_clean opened.journal.disk) → LacksNone columns (D.Disk.seen self.disk)) }
         ensures newest { IfOk result (λ opened. IsTrue (D.Disk.is_clean opened.journal.disk)
             → opened.journal.at.newest ≡ last_number opened.log) }
         ensures clean { IfOk result (λ opened. IsTrue (D.Disk.is_clean opened.journal.disk) → IsTrue (D.Disk.is_clean self.disk)) }
