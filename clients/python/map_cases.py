@@ -141,12 +141,12 @@ class MapCases:
         with self.assertRaises(ColumnTooLong):
             index.setdefault(b"c", bytes(65))
 
-        def after_another(key: bytes, sets: Sets, version: int) -> int:
+        def after_another(key: bytes, sets: Sets, version: int, *, durable: bool = False) -> int:
             index.put(key, b"other")
-            return put_if(key, sets, version)
+            return put_if(key, sets, version, durable=durable)
 
-        def before_a_remove(key: bytes, sets: Sets, version: int) -> int:
-            commit = put_if(key, sets, version)
+        def before_a_remove(key: bytes, sets: Sets, version: int, *, durable: bool = False) -> int:
+            commit = put_if(key, sets, version, durable=durable)
             if commit == 3:
                 index.remove(key)
             return commit

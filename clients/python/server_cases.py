@@ -345,7 +345,7 @@ def waits_of_many(start: Start) -> None:
 
 
 def nothing_is_durable(start: Start) -> None:
-    """A server without a folder refuses at once to wait for a durable commit."""
+    """A server without a folder refuses at once to wait for a durable commit, and no change that is to wait is made."""
     with start(TOKENS) as port, client(port, token=WRITER) as index, client(port, token=READER) as reader:
         index.put(b"a", b"v")
         for asker in (index, reader):
@@ -354,6 +354,12 @@ def nothing_is_durable(start: Start) -> None:
                     raise AssertionError(f"{call()} is answered")
                 except InMemory as refusal:
                     want_same("its detail", refusal.detail, None)
+        for change in (lambda: index.put(b"a", b"w", durable=True), lambda: index.remove(b"a", durable=True),
+                       lambda: index.put_if(b"a", b"w", 1, durable=True)):
+            try:
+                raise AssertionError(f"{change()} is answered")
+            except InMemory:
+                want_same("the row", index.get(b"a"), Row(1, (b"v", b"")))
         want_same("what info says", index.info()["durable"], 0)
         both = index.call_all([WaitDurable(), Get(b"a")])
         want_refused("a wait beside a get", both[0], TooMuchAtOnce)

@@ -97,6 +97,12 @@ class StandIn:
 
     def __exit__(self, kind: Optional[Type[BaseException]], fault: Optional[BaseException],
                  trace: Optional[TracebackType]) -> None:
+        try:
+            # (a worker that waits for a connection would wait on after a close, and keep the number of a file)
+            self._listener.shutdown(socket.SHUT_RDWR)
+        except OSError:
+            # (it was stopped before)
+            pass
         self._listener.close()
 
     def stop(self) -> None:

@@ -2,12 +2,15 @@
 from __future__ import annotations
 
 import asyncio
+import inspect
 import socket
 import unittest
-from typing import Any, Callable, Coroutine, List, Tuple
+from typing import Any, Callable, Coroutine, List, Optional, Sequence, Set, Tuple
+from unittest import mock
 
-from rowanspan import (AtLeast, BadLimit, BadReply, Behind, Closed, ConnectionLost, Get, GetRange, NoSuchView,
-                       OtherVersion, Page, Prefix, Put, Range, Refused, Reply, Row, Tidied, TooLong, aio)
+from rowanspan import (AtLeast, BadLimit, BadReply, Behind, Client, Closed, ColumnTooLong, ConnectionLost, Get,
+                       GetRange, NoSuchView, OtherVersion, Page, Prefix, Put, Range, Refused, Reply, Row, Tidied,
+                       TooLong, aio)
 from rowanspan.wire import MAX_REQUEST_BODY
 from stand_in import Options, StandIn
 from test_wire import framed
@@ -54,6 +57,10 @@ class Silent:
         self.written[0].write(piece)
 
 
+def names_of(kind: type) -> Set[str]:
+    return {name for name in dir(kind) if not name.startswith("_")}
+
+
 class AioTest(unittest.TestCase):
     def run_with(self, body: Body, columns: int = 2, timeout: float = SECONDS) -> None:
         async def run() -> None:
@@ -61,6 +68,7 @@ class AioTest(unittest.TestCase):
                 await body(index)
 
         with StandIn(Options(columns=columns)) as server:
+            self.server = server
             asyncio.run(run())
 
     def test_rows(self) -> None:
@@ -88,6 +96,54 @@ class AioTest(unittest.TestCase):
 
         self.run_with(body)
 
+    def test_pop(self) -> None:
+        async def body(index: aio.Client) -> None:
+            await index.put(b"a", b"v")
+            self.assertEqual((await index.pop(b"a"), await index.pop(b"a", 5), await index.pop(b"a", None)),
+                             (Row(1, (b"v", b"")), 5, None))
+            with self.assertRaises(KeyError) as met:
+                await index.pop(b"a")
+            self.assertEqual((met.exception.args, await index.ping()), ((b"a",), 2))
+            # (another caller removes the row in between)
+            await index.put(b"a", b"v")
+            with mock.patch.object(index, "remove", return_value=None):
+                self.assertIsNone(await index.pop(b"a", None))
+
+        self.run_with(body)
+
+    def test_setdefault(self) -> None:
+        async def body(index: aio.Client) -> None:
+            self.assertEqual(await index.setdefault(b"a", {1: b"w"}), Row(1, (b"", b"w")))
+            self.assertEqual(await index.setdefault(b"a", b"x"), Row(1, (b"", b"w")))
+            with self.assertRaises(ColumnTooLong):
+                await index.setdefault(b"c", bytes(65))
+            get = index.get
+
+            async def before_another(key: bytes, columns: Optional[Sequence[int]] = None) -> Optional[Row]:
+                row = await get(key)
+                await index.put(key, b"other")
+                return row
+
+            with mock.patch.object(index, "get", before_another):
+                self.assertEqual(await index.setdefault(b"b", b"x"), Row(2, (b"other", b"")))
+            wrong: Any = index
+            for sets in ("x", 5, None):
+                with self.assertRaises(TypeError):
+                    await wrong.setdefault(b"a", sets)
+
+        self.run_with(body)
+
+    def test_names_of_the_client(self) -> None:
+        """What a client has, with the same parameters, but for a frame, a pipeline, and what a pool asks of it."""
+        ours, theirs = names_of(aio.Client), names_of(Client)
+        self.assertEqual(theirs - ours, {"exchange", "is_lost", "is_usable", "pipeline"})
+        self.assertEqual(ours - theirs, {"connect", "len"})
+        for name in ours & theirs - {"hello"}:
+            own, other = (inspect.signature(getattr(kind, name)) for kind in (aio.Client, Client))
+            self.assertEqual([(one.name, one.kind, one.default) for one in own.parameters.values()],
+                             [(one.name, one.kind, one.default) for one in other.parameters.values()], name)
+            self.assertTrue(inspect.getdoc(getattr(aio.Client, name)), name)
+
     def test_ranges(self) -> None:
         keys = [b"a"] + [b"b%04d" % number for number in range(1500)] + [b"c", b"\xff"]
 
@@ -99,6 +155,11 @@ class AioTest(unittest.TestCase):
             await index.call_all([Put(key, b"v") for key in keys])
             self.assertEqual(await found(), keys)
             self.assertEqual([key async for key, _ in index.items()], keys)
+            self.assertEqual([key async for key in index.keys()], keys)
+            self.assertEqual([row async for row in index.values()],
+                             [Row(number, (b"v", b"")) for number in range(1, len(keys) + 1)])
+            asked = [query for query in self.server.index.asked if isinstance(query, GetRange)]
+            self.assertEqual([tuple(query.columns) for query in asked[-4:]], [(0,)] * 2 + [()] * 2)
             self.assertEqual(await found(prefix=b"b1"), keys[1001:1501])
             self.assertEqual(await found(start=b"b0998", stop=b"b1001"), keys[999:1002])
             self.assertEqual(await found(start=b"b", limit=3), keys[1:4])

@@ -213,7 +213,7 @@ class RefusalTest(DurableTest):
             self.assertEqual(server.faults, [12])
 
 
-class PoolTest(DurableTest):
+class PoolCases(DurableTest):
     def pool(self, size: int = 2) -> Pool:
         pool = Pool(self.server.port, size=size, timeout=SECONDS)
         self.addCleanup(pool.close)
@@ -225,6 +225,8 @@ class PoolTest(DurableTest):
             assert client._connection is not None
             client._connection.shutdown(socket.SHUT_RDWR)
 
+
+class PoolTest(PoolCases):
     def test_calls(self) -> None:
         pool = self.pool()
         self.assertEqual((pool.put(b"a", b"v"), pool.durable()), (1, 0))
@@ -291,7 +293,7 @@ class PoolTest(DurableTest):
 Body = Callable[[aio.Client], Coroutine[Any, Any, None]]
 
 
-class AioTest(DurableTest):
+class AioCases(DurableTest):
     def run_with(self, body: Body, port: Optional[int] = None) -> None:
         async def run() -> None:
             async with aio.Client(self.server.port if port is None else port, timeout=SECONDS) as index:
@@ -299,6 +301,8 @@ class AioTest(DurableTest):
 
         asyncio.run(run())
 
+
+class AioTest(AioCases):
     def test_calls(self) -> None:
         async def body(index: aio.Client) -> None:
             self.assertEqual((await index.durable(), await index.put(b"a", b"v")), (0, 1))

@@ -17,8 +17,8 @@ from pathlib import Path
 from typing import Any, Callable, Dict, Iterator, List, Set
 from unittest import mock
 
-from rowanspan import (BadColumn, BadLimit, Behind, Closed, DiskFull, FolderBusy, FolderDamaged,
-                       FolderFailed, InMemory, NoSuchView, NotWritten, Prefix, RowanspanError, TooLong)
+from rowanspan import (BadColumn, BadLimit, Behind, Closed, DiskFull, FolderBusy, FolderDamaged, FolderFailed,
+                       InMemory, NoSuchView, NotDurable, NotWritten, Prefix, RowanspanError, TooLong)
 from rowanspan.embedded import Index, Row
 from rowanspan.native import NoCalls
 from test_embedded_native import CALLS, outcome
@@ -189,12 +189,32 @@ class FolderTest(unittest.TestCase):
             self.raises(Closed, call)
         index.close()
 
+    def test_changes_that_are_to_be_durable(self) -> None:
+        with Index(folder=self.folder) as index:
+            changes: List[Callable[[], Any]] = [
+                lambda: index.put(b"a", b"v", durable=True), lambda: index.put_if(b"a", b"w", 1, durable=True),
+                lambda: index.update(b"a", lambda row: b"x", durable=True), lambda: index.remove(b"a", durable=True)]
+            for number, change in enumerate(changes, 1):
+                self.assertEqual((change(), index.durable()), (number, number))
+            self.assertEqual((index.setdefault(b"a", b"v", durable=True), index.durable()), (Row(5, (b"v",)), 5))
+            self.assertEqual((index.pop(b"a", durable=True), index.durable()), (Row(5, (b"v",)), 6))
+            # (what finds no row settles what it saw, and no other call settles)
+            self.assertEqual((index.put(b"a", b"v"), index.durable()), (7, 6))
+            self.assertEqual((index.pop(b"b", 5, durable=True), index.durable()), (5, 6))
+            self.assertEqual((index.remove(b"b", durable=True), index.durable()), (None, 7))
+            index._native = NoCalls()
+            self.assertEqual((index.put(b"b", b"v", durable=True), index.durable()), (8, 8))
+            self.assertEqual((index.remove(b"b", durable=True), index.durable()), (9, 9))
+        self.raises(Closed, lambda: index.put(b"a", b"v", durable=True))
+
     def test_in_memory_alone(self) -> None:
         with Index() as index:
             index.put(b"a", b"v")
-            for call in (index.settle, index.durable, index.checkpoint):
+            for call in (index.settle, index.durable, index.checkpoint, lambda: index.put(b"a", b"w", durable=True),
+                         lambda: index.put_if(b"a", b"w", 1, durable=True), lambda: index.remove(b"a", durable=True),
+                         lambda: index.pop(b"a", durable=True)):
                 self.assertEqual(str(self.raises(InMemory, call)), "the rows are in memory alone")
-            self.assertEqual(index.commits(), 1)
+            self.assertEqual((index.commits(), index[b"a"]), (1, Row(1, (b"v",))))
 
     # -- why a folder isn't opened
 
@@ -246,7 +266,8 @@ class FolderTest(unittest.TestCase):
                 self.assertEqual(len(index), 1)
 
     def test_faults_are_copied(self) -> None:
-        for fault in (FolderFailed("why"), FolderBusy("why"), FolderDamaged("even-wal: why"), NotWritten(7)):
+        for fault in (FolderFailed("why"), FolderBusy("why"), FolderDamaged("even-wal: why"), NotWritten(7),
+                      NotDurable(7)):
             again = pickle.loads(pickle.dumps(fault))
             self.assertEqual((type(again), str(again), vars(again)), (type(fault), str(fault), vars(fault)))
         self.assertEqual((str(NotWritten(7)), NotWritten(7).commit),

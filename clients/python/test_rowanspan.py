@@ -16,6 +16,7 @@ import test_bad_input
 import test_board
 import test_board_server
 import test_durable
+import test_durable_changes
 import test_mapping
 import test_mirror
 import test_mirror_model
@@ -305,8 +306,8 @@ def main() -> int:
     load = unittest.defaultTestLoader.loadTestsFromModule
     modules = (test_wire, sys.modules[__name__], test_server_queries, test_reads, test_pool, test_aio, test_aio_server,
                test_mapping, test_names, test_shell, test_server_command, test_bad_input, test_board,
-               test_board_server, test_durable, test_mirror_rows, test_mirror, test_mirror_reading, test_mirror_model,
-               test_stand_in_log, test_wheel)
+               test_board_server, test_durable, test_durable_changes, test_mirror_rows, test_mirror,
+               test_mirror_reading, test_mirror_model, test_stand_in_log, test_wheel)
     return run_counted(unittest.TestSuite(load(module) for module in modules))
 
 

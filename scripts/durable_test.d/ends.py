@@ -1,14 +1,15 @@
 """Cases: what is there after a server has ended and was started again, and what it says of itself."""
 from __future__ import annotations
 
+import asyncio
 import signal
 import time
-from typing import Callable, Dict, Tuple
+from typing import Callable, Dict, List, Tuple
 
 from histories import History
 from running import SECONDS, Server, Setting, want, want_raised, want_same
 
-from rowanspan import InMemory, Pool, Prefix, Put, Role, Row, read_replies, receive_body, request_frame
+from rowanspan import InMemory, Pool, Prefix, Put, Role, Row, aio, read_replies, receive_body, request_frame
 
 # of each policy: the words for it, and whether each commit is durable before it is answered
 POLICIES: Dict[str, Tuple[Tuple[str, ...], bool]] = {
@@ -222,12 +223,45 @@ def waits_of_others(setting: Setting) -> None:
         want_same("a wait", index.wait(1, timeout=0, durable=True), True)
 
 
+def changes_that_wait(setting: Setting) -> None:
+    """A change of each client that is to be durable is that when it returns, and is there after a kill."""
+    commits, tasks = 0, 20
+    for words in ((), ("--sync", "50")):
+        with setting.server(*words) as server, server.index() as index, Pool(server.port, timeout=SECONDS) as pool:
+            for asker in (index, pool):
+                calls: Tuple[Callable[[], object], ...] = (
+                    lambda: asker.put(b"a", {0: b"v"}, durable=True),
+                    lambda: asker.put_if(b"a", {0: b"w"}, commits, durable=True),
+                    lambda: asker.update(b"a", lambda row: {1: b"x"}, durable=True),
+                    lambda: asker.remove(b"a", durable=True))
+                for call in calls:
+                    found, commits = call(), commits + 1
+                    want_same("the commit", found, commits)
+                    want(asker.durable() >= commits, f"commit {commits} isn't durable")
+                want_same("a remove of nothing", asker.remove(b"a", durable=True), None)
+            found = asyncio.run(put_by_tasks(server.port, tasks))
+            want_same("the commits of tasks", sorted(found), list(range(commits + 1, commits + tasks + 1)))
+            server.kill()
+        commits += tasks
+        with setting.server() as server, server.index() as index:
+            want_same("the commits and the rows", (index.ping(), len(index)), (commits, tasks))
+            server.kill()
+
+
+async def put_by_tasks(port: int, count: int) -> List[int]:
+    """The commits of puts that tasks make at once."""
+    async with aio.Client(port, timeout=SECONDS) as index:
+        return await asyncio.gather(*(index.put(b"%d" % number, {0: b"v"}, durable=True) for number in range(count)))
+
+
 def in_memory(setting: Setting) -> None:
-    """Without a folder nothing is durable."""
+    """Without a folder nothing is durable, and no change that is to be durable is made."""
     with setting.server_in_memory() as server, server.index() as index:
         index.put(b"a", {0: b"v"})
-        for call in (index.durable, index.settle, lambda: index.wait(1, timeout=0, durable=True)):
+        for call in (index.durable, index.settle, lambda: index.wait(1, timeout=0, durable=True),
+                     lambda: index.put(b"a", {0: b"w"}, durable=True), lambda: index.remove(b"a", durable=True)):
             want_raised("a wait", call, InMemory)
+        want_same("the row", index[b"a"], Row(1, (b"v", b"")))
         want_same("info", index.info()["durable"], 0)
         server.stop()
     with setting.server_in_memory() as server, server.index() as index:
@@ -236,4 +270,4 @@ def in_memory(setting: Setting) -> None:
 
 CASES = (each_end_under_each_policy, sigterm_of_rowan_serve, frames_that_came_before_a_stop, kills_between_answers,
          info_and_hello, views_are_built_again, greatest_rows, tidies_and_many_keys, waits_with_milliseconds,
-         waits_without_syncs, waits_of_others, in_memory)
+         waits_without_syncs, waits_of_others, changes_that_wait, in_memory)

@@ -4,21 +4,23 @@ from __future__ import annotations
 import random
 import re
 import subprocess
-from dataclasses import dataclass
+from dataclasses import dataclass, replace
 from pathlib import Path
 from typing import List, Optional
 
 from frames import Closed, Commits, Header, LogOf, Sealed, bytes_of, log_of
 from histories import History, Rows
 from later_logs import folder_of, padded
-from logs import end_of
+from logs import end_of, want_refused
 from moving import logs_of
-from running import COLUMNS, FILES, LOG, OTHER, SECONDS, Setting, Skipped, files_of, want, want_same
+from running import COLUMNS, FILES, LOG, OTHER, SECONDS, Failed, Setting, Skipped, files_of, want, want_same
 
 from rowanspan import Row
 
 # the greatest generation of a log
 LAST_GENERATION = (1 << 64) - 1
+# formats of logs that no server knows; the bytes of some are escaped in a frame
+OTHER_FORMATS = 0, 2, 257, 65_535
 
 
 @dataclass(frozen=True)
@@ -200,6 +202,35 @@ def faults_that_are_named(setting: Setting) -> str:
     return f"{name}, and {other}"
 
 
+def unknown_formats(setting: Setting) -> str:
+    """A log has another format, and its frames are right: the file and the reason are said, and nothing is changed."""
+    folder, reason = folder_of(setting, 58), "the log has an unknown format"
+    for number in OTHER_FORMATS:
+        others = {name: of_format(folder.files[name], number) for name in FILES}
+        for names in ((LOG,), (OTHER,), FILES):
+            what = f"the format {number} of {' and '.join(names)}"
+            folder.restore()
+            for name in names:
+                folder.write(name, others[name])
+            want_same(what, want_refused(setting, what), f"mtserve: the data folder: {names[0]}: {reason}\n")
+            want_faults(setting, what, *(f"{name}: {reason}" for name in names))
+            want_same(f"{what}: show", [line for line in said(setting, "show").lines[:-1] if line.endswith(reason)],
+                      [f"{name} {reason}" for name in names])
+    folder.restore()
+    want_opened(setting, folder.history)
+    return f"{3 * len(OTHER_FORMATS)} folders"
+
+
+def of_format(whole: bytes, number: int) -> bytes:
+    """A file with the log of this one, whose header says another format. All digests are right."""
+    log = log_of(whole)
+    if log is None:
+        raise Failed("a file has no log")
+    entries = [frame.entry for frame in log.frames]
+    want(bytes_of(log.header, entries) == whole[:log.end], "the log isn't spelled as the server has written it")
+    return padded(bytes_of(replace(log.header, format=number), entries))
+
+
 def greatest_generations(setting: Setting) -> None:
     """No log continues one of the greatest generation, which is the newer one."""
     with setting.server() as server, server.index():
@@ -270,4 +301,4 @@ def wrong_words(setting: Setting) -> None:
 
 
 CASES = (folders_that_are_shown, torn_folders_that_are_shown, checkpoints_that_are_shown, faults_that_are_named,
-         greatest_generations, folders_that_are_in_use, folders_that_are_missing, wrong_words)
+         unknown_formats, greatest_generations, folders_that_are_in_use, folders_that_are_missing, wrong_words)

@@ -25,9 +25,10 @@ class Header:
     generation: int
     base: int
     run: int = 0
+    format: int = FORMAT
 
     def spelled(self) -> bytes:
-        return b"\1" + TITLE + struct.pack(">HBQQQ", FORMAT, self.columns, self.generation, self.base, self.run)
+        return b"\1" + TITLE + struct.pack(">HBQQQ", self.format, self.columns, self.generation, self.base, self.run)
 
 
 @dataclass(frozen=True)

@@ -15,19 +15,18 @@ from __future__ import annotations
 import asyncio
 from collections import deque
 from types import TracebackType
-from typing import TYPE_CHECKING, Any, Callable, Deque, List, Optional, Sequence, Tuple, Type, TypeVar, Union
+from typing import TYPE_CHECKING, Any, Deque, List, Optional, Sequence, Tuple, Type, TypeVar, Union
 
 from .address import Port, checked_address
 from .aio_asked import MAX_MESSAGES, Asked, answered
-from .aio_reads import ReadCalls, RowPairs, scanned
-from .aio_server import ServerCalls
-from .core import (MAX_LIMIT, BadReply, Closed, ConnectionLost, NoSuchView, OtherVersion, Page, Pairs, Refused,
-                   RowanspanError, Row, Sets, Tidied, ViewNo, ViewSpec, WrongIndex, checked_key, checked_number,
-                   checked_view)
+from .aio_changes import ChangeCalls
+from .aio_reads import RowPairs, scanned
+from .core import (MAX_LIMIT, BadReply, Closed, ConnectionLost, NoSuchView, Page, Pairs, Refused, RowanspanError,
+                   Tidied, ViewNo, ViewSpec, WrongIndex, checked_key, checked_number, checked_view)
 from .server import Greeting, HelloUnanswered
 from .server_queries import Hello, Token, commits_shown, hello_of
-from .wire import (MAX_QUERIES, MAX_REPLY_BODY, Build, Outcome, Put, PutIf, Query, Remove, Reply, Tidy, ViewDrop,
-                   ViewRead, frame_version, read_replies, request_frame)
+from .wire import (MAX_QUERIES, MAX_REPLY_BODY, Build, Outcome, Query, Reply, Tidy, ViewDrop, ViewRead, frame_version,
+                   read_replies, request_frame)
 
 if TYPE_CHECKING:
     import ssl
@@ -40,11 +39,12 @@ Value = TypeVar("Value")
 MAX_SENT = 16
 
 
-class Client(ReadCalls, ServerCalls):
+class Client(ChangeCalls):
     """A connection to a server, for all tasks of one event loop.
 
     Queries that tasks ask meanwhile go together, up to 64 in a frame, and are answered in the order in which they were
-    asked. So many tasks that ask little are as fast as a pipeline. Other clients' queries may come in between.
+    asked. So tasks that ask at once are as fast as a pipeline, and there is no `pipeline`: a task that has several
+    queries gives them to `call_all`. Other clients' queries may come in between.
 
     `timeout` is for how many seconds a call, or a connect, may wait (None: without end); after that the call raises
     `asyncio.TimeoutError`. A call that was sent and is cancelled, or has timed out, may have been done; the answer is
@@ -91,6 +91,7 @@ class Client(ReadCalls, ServerCalls):
         except (OSError, asyncio.TimeoutError, ValueError) as fault:
             raise ConnectionLost(f"no connection to {self._address.described()}: {fault}") from fault
         self._writer, self._ended, self._greeting, self._commits_shown = writer, None, None, 0
+        self._begin_changes()
         self._reading = asyncio.ensure_future(self._read(reader))
         if self._own_hello is not None:
             await self._greet_or_close()
@@ -238,34 +239,7 @@ class Client(ReadCalls, ServerCalls):
             if not one.answer.done():
                 one.answer.set_exception(now or later)
 
-    # -- changes
-
-    async def put(self, key: bytes, sets: Sets) -> int:
-        """Sets columns of a key's row, by their numbers; plain bytes are column 0. Returns the number of the commit."""
-        return (await self.call(Put(key, sets))).value
-
-    async def put_if(self, key: bytes, sets: Sets, version: int) -> int:
-        """Sets columns only if the key's row is of this version, or if `version` is 0 and it has none. Returns the
-        number of the commit. Otherwise raises `OtherVersion`, whose detail is the version that the row has."""
-        return (await self.call(PutIf(key, sets, version))).value
-
-    async def update(self, key: bytes, change: Callable[[Optional[Row]], Optional[Sets]]) -> Optional[int]:
-        """Changes a key's row by what it is: `change` gets the row (None: there is none), and returns the columns to
-        set (None: nothing is put). If another caller has changed the row meanwhile, it is called again. Returns the
-        number of the commit, or None if nothing was put."""
-        while True:
-            row = await self.get(key)
-            sets = change(row)
-            if sets is None:
-                return None
-            try:
-                return await self.put_if(key, sets, row.version if row else 0)
-            except OtherVersion:
-                pass
-
-    async def remove(self, key: bytes) -> Optional[int]:
-        """Removes a key's row. Returns the number of the commit, or None if there was no row."""
-        return (await self.call(Remove(key))).value
+    # -- nodes
 
     async def tidy(self, key: bytes) -> Tidied:
         """Takes out at most one node that is no longer wanted near the place of a key; returns which kind."""

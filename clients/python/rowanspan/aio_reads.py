@@ -72,6 +72,14 @@ class ReadCalls(abc.ABC):
         """All keys with their rows, in the order of the keys."""
         return self.range()
 
+    def keys(self) -> AsyncIterator[bytes]:
+        """All keys in their order, as of `items`."""
+        return (key async for key, _ in self.range(columns=(0,)))
+
+    def values(self) -> AsyncIterator[Row]:
+        """All rows in the order of their keys, as of `items`."""
+        return (row async for _, row in self.range())
+
     async def first_item(self, prefix: bytes = b"") -> Optional[Tuple[bytes, Row]]:
         """The least key that begins with `prefix`, and its row; None if there is none."""
         begin, end = bounds_of(b"", None, prefix)

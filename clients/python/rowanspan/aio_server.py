@@ -86,14 +86,19 @@ class ServerCalls(abc.ABC):
         Raises `InMemory`."""
         time_left, commit = checked_wait(timeout), self._shown()
         async with self._another() as waiting:
-            if (await waiting.hello()).run != (await self.hello()).run:
-                raise ConnectionLost("the server was started again: its commits may be others")
+            await want_same_run(self, waiting)
             return await until_durable(waiting, commit, time_left)
 
     async def stop(self, at_once: bool = False) -> int:
         """Ends the server: frames that came are answered first, unless it is to end at once. Returns the number of
         commits. Raises `NotAllowed` if the role of the client's token isn't `Role.ALL`."""
         return (await self.call(Stop(at_once))).value
+
+
+async def want_same_run(index: ServerCalls, other: ServerCalls) -> None:
+    """Raises `ConnectionLost` if two clients of a server are of different runs of it."""
+    if (await other.hello()).run != (await index.hello()).run:
+        raise ConnectionLost("the server was started again: its commits may be others")
 
 
 async def until_durable(index: ServerCalls, commit: Optional[int], timeout: Optional[float]) -> bool:

@@ -9,14 +9,15 @@ import time
 from typing import TYPE_CHECKING, Any, Dict, Iterable, List, Optional, Sequence, TypeVar, Union
 
 from .address import Port, checked_address
-from .core import (MAX_LIMIT, MAX_NUMBER, BadReply, Closed, ConnectionLost, Page, Pairs, Refused, Row, Sets, Tidied,
-                   ViewNo, ViewSpec)
+from .core import (MAX_LIMIT, MAX_NUMBER, BadReply, Closed, ConnectionLost, NotDurable, Page, Pairs, Refused, Row, Sets,
+                   Tidied, ViewNo, ViewSpec)
 from .mapping import RowMap, View, number_of_view
 from .pipeline import Pipeline
 from .reads import GetMany, GetRangeBack, count_of
 from .server import Greeting, HelloUnanswered, StandingView
 from .server_queries import (SERVER_VERSION, GetInfo, Hello, ListViews, Ping, Stop, Token, Wait, WaitDurable,
-                             checked_wait, commits_shown, hello_of, next_durable, next_of, parts, want_one_end)
+                             checked_wait, commit_to_settle, commits_shown, hello_of, next_durable, next_of, parts,
+                             parts_while_it_lasts, want_one_end)
 from .wire import (MAX_REPLY_BODY, Build, Get, GetRange, Outcome, Put, PutIf, Query, Remove, Reply, Tidy, ViewDrop,
                    ViewRead, frame_version, read_replies, request_frame, spelled_query)
 
@@ -26,6 +27,8 @@ if TYPE_CHECKING:
 __all__ = ["receive", "receive_body", "Asker", "Client"]
 
 Value = TypeVar("Value")
+# what a change returns: the number of its commit, or None if it has made none
+Commit = TypeVar("Commit", bound=Optional[int])
 
 
 # ---- streams
@@ -64,6 +67,14 @@ class Asker(RowMap):
         """The greatest number of a commit that an answer has shown. Raises `ConnectionLost` if it isn't known whether
         the server still has this commit."""
 
+    @abc.abstractmethod
+    def _change_durably(self, query: Query[Commit]) -> Commit:
+        """Makes a change, and waits until its commit is durable; if it made none, those that it saw. Both are asked by
+        one connection: of another run of the server the number may be another's."""
+
+    def _change(self, query: Query[Commit], durable: bool) -> Commit:
+        return self._change_durably(query) if durable else self.call(query).value
+
     def call(self, query: Query[Value]) -> Reply[Value]:
         """Asks one query; returns its value, with the numbers of commits at its begin and end. Raises `Refused`."""
         outcome = self.call_all([query])[0]
@@ -92,14 +103,14 @@ class Asker(RowMap):
             return []
         return self.call(GetMany(asked, () if columns is None else columns)).value.rows
 
-    def put(self, key: bytes, sets: Sets) -> int:
-        return self.call(Put(key, sets)).value
+    def put(self, key: bytes, sets: Sets, *, durable: bool = False) -> int:
+        return self._change(Put(key, sets), durable)
 
-    def put_if(self, key: bytes, sets: Sets, version: int) -> int:
-        return self.call(PutIf(key, sets, version)).value
+    def put_if(self, key: bytes, sets: Sets, version: int, *, durable: bool = False) -> int:
+        return self._change(PutIf(key, sets, version), durable)
 
-    def remove(self, key: bytes) -> Optional[int]:
-        return self.call(Remove(key)).value
+    def remove(self, key: bytes, *, durable: bool = False) -> Optional[int]:
+        return self._change(Remove(key), durable)
 
     def first(self, start: bytes = b"", limit: int = MAX_LIMIT, columns: Optional[Sequence[int]] = None) -> Pairs:
         return self.call(GetRange(start, limit, () if columns is None else columns)).value
@@ -200,7 +211,8 @@ class Client(Asker):
     the server doesn't admit it, it raises `NotAllowed`.
 
     A call sends one frame and waits for its answer: one round trip. `range` makes as many calls as it needs, each of
-    which returns up to 1000 rows. `pipeline` sends up to 64 queries in one frame.
+    which returns up to 1000 rows. `pipeline` sends up to 64 queries in one frame. A change with `durable=True` takes a
+    second round trip, and the first one of a client a third.
     """
 
     def __init__(self, port: Port, host: str = "127.0.0.1", timeout: Optional[float] = None,
@@ -210,6 +222,8 @@ class Client(Asker):
         self._is_lost = False
         # the greatest number of a commit of an answer
         self._commits_shown = 0
+        # the greatest number of a commit that is known to be durable (None: no change was to be durable)
+        self._commits_settled: Optional[int] = None
         self._timeout = timeout
         self._address = checked_address(port, host, timeout, tls)
         own_hello = hello_of(token, name)
@@ -265,6 +279,25 @@ class Client(Asker):
 
     def _shown(self) -> int:
         return self._commits_shown
+
+    def _change_durably(self, query: Query[Commit]) -> Commit:
+        if self._commits_settled is None:
+            # (what can't be sent, and a server that keeps no commits, are raised before anything is changed)
+            request_frame([spelled_query(query)], frame_version([query]))
+            self._commits_settled = self.durable()
+        reply = self.call(query)
+        commit = commit_to_settle(reply.value, reply.to)
+        if self._commits_settled < commit:
+            self._commits_settled = self._settled(commit)
+        return reply.value
+
+    def _settled(self, commit: int) -> int:
+        """Waits until a commit is durable. Returns how many are."""
+        for part in parts_while_it_lasts():
+            now = self.call(WaitDurable(commit, part)).value
+            if now.is_reached:
+                return now.durable
+        raise NotDurable(commit)
 
     @staticmethod
     def _exchange_patiently(connection: socket.socket, frame: bytes, queries: Sequence[Query[Any]],

@@ -9,7 +9,8 @@ from typing import Any, ClassVar, Dict, List, Mapping, NewType, Optional, Sequen
 
 __all__ = [
     "MAX_KEY_BYTES", "MAX_LIMIT", "MAX_NUMBER", "RowanspanError", "TooLong", "Closed", "WrongIndex", "NoLibrary",
-    "FolderFailed", "FolderBusy", "FolderDamaged", "NotWritten", "ConnectionLost", "BadReply", "Unanswered", "Refused",
+    "FolderFailed", "FolderBusy", "FolderDamaged", "NotWritten", "NotDurable", "ConnectionLost", "BadReply",
+    "Unanswered", "Refused",
     "NoMemory", "KeyTooLong", "BadColumn", "ColumnTooLong", "BadLimit", "ArenaFull", "FeedFull", "TooManyCalls",
     "NoSuchCall", "TooManyViews", "NoSuchView", "Behind", "BadRange", "Spent", "WrongPass", "OtherVersion", "REFUSALS",
     "ViewNo", "Row", "Pairs", "Page", "Totals", "Delta", "Tidied", "AnyRow", "Equals", "AtLeast", "RowTest", "Range",
@@ -67,6 +68,19 @@ class NotWritten(RowanspanError, OSError):
     def __init__(self, commit: int) -> None:
         self.commit = commit
         super().__init__(f"the change is in memory, and its commit {commit} was not written to the log")
+
+    def __reduce__(self) -> Tuple[Any, ...]:
+        return type(self), (self.commit,)
+
+
+class NotDurable(RowanspanError, OSError):
+    """A change with `durable=True` was made, and it isn't known to be durable: a crash may undo it. `commit` is the
+    number of its commit; of a remove of a key without a row, that of the last commit which it saw. `__cause__` is why,
+    or None if a server ended the wait: it stops, or its disk has failed."""
+
+    def __init__(self, commit: int) -> None:
+        self.commit = commit
+        super().__init__(f"commit {commit} is made, and isn't known to be durable")
 
     def __reduce__(self) -> Tuple[Any, ...]:
         return type(self), (self.commit,)

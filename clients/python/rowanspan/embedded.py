@@ -26,12 +26,12 @@ from __future__ import annotations
 import ctypes
 from pathlib import Path
 from types import TracebackType
-from typing import Any, Iterable, List, Optional, Sequence, Tuple, Type, Union
+from typing import Any, Callable, Iterable, List, Optional, Sequence, Tuple, Type, TypeVar, Union
 
 from . import core, mapping
 # (the names that both list in their `__all__` are names of this module too)
 from .core import *  # noqa: F401,F403
-from .core import (MAX_LIMIT, REFUSALS, Closed, Delta, NoLibrary, NotWritten, Page, Pairs, Prefix, Refused,
+from .core import (MAX_LIMIT, REFUSALS, Closed, Delta, NoLibrary, NotDurable, NotWritten, Page, Pairs, Prefix, Refused,
                    RowanspanError, Row, Sets, Tidied, Totals, ViewNo, ViewSpec, checked_bytes, checked_count,
                    checked_limit, checked_number, checked_spec, checked_view)
 from .folder import CommitLog, Folder
@@ -46,6 +46,9 @@ from .scans import bounds_of
 __all__ = ["Index"]
 __all__ += core.__all__
 __all__ += mapping.__all__
+
+# what a change returns: the number of its commit, or None if it has made none
+Commit = TypeVar("Commit", bound=Optional[int])
 
 # how many bytes of an answer there is room for at first
 FIRST_ROOM = 4096
@@ -187,6 +190,21 @@ class Index(RowMap):
                 self._log.end(number)
             return number
 
+    def _durably(self, change: Callable[[], Commit]) -> Commit:
+        """Makes a change, and its commit durable; if it made none, those that it saw. No call of another thread comes
+        in between."""
+        with self._lock:
+            self._log.want_open()
+            number = change()
+            made: Optional[int] = number
+            commit = self.commits() if made is None else made
+            if self._log.durable() < commit:
+                try:
+                    self._log.sync()
+                except RowanspanError as fault:
+                    raise NotDurable(commit) from fault
+            return number
+
     def _not_written(self, commit: int, status: int) -> None:
         """Raises what a change of the extension module does whose commit wasn't written."""
         with self._lock:
@@ -260,29 +278,35 @@ class Index(RowMap):
                 rows.append(row)
         return rows
 
-    def put(self, key: bytes, sets: Sets) -> int:
+    def put(self, key: bytes, sets: Sets, *, durable: bool = False) -> int:
+        if durable:
+            return self._durably(lambda: self.put(key, sets))
         number: int = self._native.put(self, key, sets)
         if number is not NotImplemented:
             return number
         return self._made(self._commit("put", *spelled(key, "a key"), *column_sets(sets)))
 
-    def put_if(self, key: bytes, sets: Sets, version: int) -> int:
+    def put_if(self, key: bytes, sets: Sets, version: int, *, durable: bool = False) -> int:
+        if durable:
+            return self._durably(lambda: self.put_if(key, sets, version))
         number: int = self._native.put_if(self, key, sets, version)
         if number is not NotImplemented:
             return number
         return self._made(self._commit("put_if", *spelled(key, "a key"), *column_sets(sets),
                                        checked_number(version, "a version")))
 
-    def remove(self, key: bytes) -> Optional[int]:
+    def remove(self, key: bytes, *, durable: bool = False) -> Optional[int]:
+        if durable:
+            return self._durably(lambda: self.remove(key))
         number: Optional[int] = self._native.remove(self, key)
         if number is not NotImplemented:
             return number
         return self._commit("remove", *spelled(key, "a key"))
 
-    def _taken(self, key: bytes) -> Optional[Row]:
+    def _taken(self, key: bytes, durable: bool) -> Optional[Row]:
         # a get and a remove, between which no other thread's call comes
         with self._lock:
-            return super()._taken(key)
+            return super()._taken(key, durable)
 
     def first(self, start: bytes = b"", limit: int = MAX_LIMIT, columns: Optional[Sequence[int]] = None) -> Pairs:
         pairs: Pairs = self._native.range(start, limit, columns)

@@ -82,20 +82,27 @@ class RowMap(abc.ABC):
         fit its 262,144 bytes."""
 
     @abc.abstractmethod
-    def put(self, key: bytes, sets: Sets) -> int:
+    def put(self, key: bytes, sets: Sets, *, durable: bool = False) -> int:
         """Sets columns of a key's row, by their numbers; plain bytes are column 0. The others stay as they were; those
-        of a new row are empty. Returns the number of the commit."""
+        of a new row are empty. Returns the number of the commit.
+
+        With `durable` it returns only after the commit is durable: no crash undoes it. A client waits for that, without
+        end, as `wait` does: it isn't bound by the client's timeout. An index in this process makes all commits durable,
+        as `settle` does. Raises `InMemory` if the rows are in memory alone; then nothing was changed. If the change was
+        made, and its commit doesn't become durable, raises `NotDurable`."""
 
     @abc.abstractmethod
-    def put_if(self, key: bytes, sets: Sets, version: int) -> int:
+    def put_if(self, key: bytes, sets: Sets, version: int, *, durable: bool = False) -> int:
         """Sets columns as `put` does, but only if the key's row is of this version, or if `version` is 0 and the key
         has no row. Returns the number of the commit, which is the row's new version. Otherwise raises `OtherVersion`,
-        whose detail is the version that the row has."""
+        whose detail is the version that the row has. `durable` is as of `put`."""
 
-    def update(self, key: bytes, change: Callable[[Optional[Row]], Optional[Sets]]) -> Optional[int]:
+    def update(self, key: bytes, change: Callable[[Optional[Row]], Optional[Sets]], *,
+               durable: bool = False) -> Optional[int]:
         """Changes a key's row by what it is: `change` gets the row (None: there is none), and returns the columns to
         set (None: nothing is put). If another caller has changed the row meanwhile, it is called again, without a
-        bound: so let it do nothing else. Returns the number of the commit, or None if nothing was put."""
+        bound: so let it do nothing else. Returns the number of the commit, or None if nothing was put. `durable` is as
+        of `put`; if nothing is put, it waits for nothing."""
         if not callable(change):
             raise TypeError(f"what changes a row must be callable, not {type(change).__name__}")
         while True:
@@ -104,49 +111,52 @@ class RowMap(abc.ABC):
             if sets is None:
                 return None
             try:
-                return self.put_if(key, sets, row.version if row else 0)
+                return self.put_if(key, sets, row.version if row else 0, durable=durable)
             except OtherVersion:
                 pass
 
     @abc.abstractmethod
-    def remove(self, key: bytes) -> Optional[int]:
-        """Removes a key's row. Returns the number of the commit, or None if there was no row."""
+    def remove(self, key: bytes, *, durable: bool = False) -> Optional[int]:
+        """Removes a key's row. Returns the number of the commit, or None if there was no row. `durable` is as of `put`;
+        if there was no row, it waits for the commits that the call saw, so that no crash brings the row back."""
 
-    def _taken(self, key: bytes) -> Optional[Row]:
+    def _taken(self, key: bytes, durable: bool) -> Optional[Row]:
         """Removes a key's row. Returns it as it was, or None if there was no row."""
         row = self._row(key, None)
-        return None if row is None or self.remove(key) is None else row
+        return None if row is None or self.remove(key, durable=durable) is None else row
 
     @overload
-    def pop(self, key: bytes) -> Row:
+    def pop(self, key: bytes, *, durable: bool = False) -> Row:
         ...
 
     @overload
-    def pop(self, key: bytes, default: Default) -> Union[Row, Default]:
+    def pop(self, key: bytes, default: Default, *, durable: bool = False) -> Union[Row, Default]:
         ...
 
-    def pop(self, key: bytes, default: Any = NoDefault.NONE) -> Any:
+    def pop(self, key: bytes, default: Any = NoDefault.NONE, *, durable: bool = False) -> Any:
         """Removes a key's row, and returns it. If there is none, returns `default`, or raises KeyError without one.
+        `durable` is as of `put`; if there is no row, it waits for nothing.
 
         On an embedded index it is one call for all threads. On a client it is two, a get and a remove: a put of another
         client in between is removed too, and the row before it is returned. A row is returned to one caller only."""
-        row = self._taken(key)
+        row = self._taken(key, durable)
         if row is not None:
             return row
         if default is NoDefault.NONE:
             raise KeyError(key)
         return default
 
-    def setdefault(self, key: bytes, sets: Sets) -> Row:
+    def setdefault(self, key: bytes, sets: Sets, *, durable: bool = False) -> Row:
         """The row of a key. If there is none, sets these columns first, by `put_if`: so the row of another caller is
-        never changed. If another caller removes the row before it was read, it is put again."""
+        never changed. If another caller removes the row before it was read, it is put again. `durable` is as of `put`;
+        if the row is there, it waits for nothing."""
         pairs = set_pairs(sets)
         while True:
             row = self._row(key, None)
             if row is not None:
                 return row
             try:
-                self.put_if(key, pairs, 0)
+                self.put_if(key, pairs, 0, durable=durable)
             except OtherVersion:
                 pass
 

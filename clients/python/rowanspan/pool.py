@@ -7,7 +7,7 @@ import time
 from typing import TYPE_CHECKING, Any, List, Optional, Sequence, Tuple
 
 from .address import Port, checked_address
-from .client import Asker, Client
+from .client import Asker, Client, Commit
 from .core import Closed, ConnectionLost, RowanspanError, checked_count
 from .reads import CountRange, GetMany, GetRangeBack
 from .server import Greeting
@@ -104,6 +104,13 @@ class Pool(Asker):
         finally:
             self._give_back(client)
 
+    def _change_durably(self, query: Query[Commit]) -> Commit:
+        client = self._take()
+        try:
+            return client._change_durably(query)
+        finally:
+            self._give_back(client)
+
     def settle(self, timeout: Optional[float] = None) -> bool:
         """Waits until all commits are durable that any thread was shown, as `Client.settle`. Raises `ConnectionLost`,
         once, if a connection has ended that had shown commits which aren't known to be durable."""
@@ -183,6 +190,7 @@ class Pool(Asker):
     def _note(self, client: Client, has_ended: bool) -> None:
         """What a connection has shown, after a call, or when it has ended."""
         self._commits_shown = max(self._commits_shown, client._shown())
+        self._commits_settled = max(self._commits_settled, client._commits_settled or 0)
         if has_ended and client._shown() > self._commits_settled:
             self._has_lost = True
 

@@ -258,6 +258,21 @@ def parts(timeout: Optional[float]) -> Iterator[int]:
             return
 
 
+def parts_while_it_lasts() -> Iterator[int]:
+    """For how many milliseconds one call after the other waits, without end; but no further one after an answer that
+    came long before its time: the server stops, or its disk has failed."""
+    for milliseconds in parts(None):
+        began = time.monotonic()
+        yield milliseconds
+        if time.monotonic() - began < milliseconds / 2000:
+            return
+
+
+def commit_to_settle(commit: Optional[int], seen: Optional[int]) -> int:
+    """The number of the commit that a change has made; of one that made none, that of the last commit which it saw."""
+    return (seen or 0) if commit is None else commit
+
+
 def next_durable(now: Settled) -> int:
     """The commit after those that are durable now."""
     return min(now.durable + 1, MAX_NUMBER)
