@@ -8,7 +8,7 @@ from .aio_reads import ReadCalls
 from .aio_server import ServerCalls, want_same_run
 from .core import Closed, NotDurable, OtherVersion, Refused, Row, Sets, set_pairs
 from .mapping import NoDefault
-from .server_queries import WaitDurable, commit_to_settle, parts_while_it_lasts
+from .server_queries import WaitDurable, commit_to_settle, parts
 from .wire import Put, PutIf, Query, Remove, frame_version, request_frame, spelled_query
 
 Default = TypeVar("Default")
@@ -137,7 +137,7 @@ class ChangeCalls(ReadCalls, ServerCalls):
 
 async def durable_commits(index: ServerCalls, commit: int) -> int:
     """Waits until a commit is durable. Returns how many are."""
-    for part in parts_while_it_lasts():
+    for part in parts(None):
         now = (await index.call(WaitDurable(commit, part))).value
         if now.is_reached:
             return now.durable

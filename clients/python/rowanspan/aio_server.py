@@ -61,8 +61,8 @@ class ServerCalls(abc.ABC):
                    timeout: Optional[float] = None, *, durable: bool = False) -> bool:
         """Waits until there are `commit` commits; with a view of this index, or its number, until that is at this commit;
         with `durable` until no crash undoes this commit. Without `commit` it waits for the next one. Returns whether it
-        was reached in `timeout` seconds (None: waits without end). It uses a connection of its own, so the other calls
-        don't wait for it. Raises `NoSuchView` and `InMemory`."""
+        was reached in `timeout` seconds (None: waits without end, as `Client.wait`). It uses a connection of its own, so
+        the other calls don't wait for it. Raises `NoSuchView` and `InMemory`."""
         want_one_end(view, durable)
         number, time_left = None if view is None else self._number_of(view), checked_wait(timeout)
         async with self._another() as waiting:
@@ -82,8 +82,8 @@ class ServerCalls(abc.ABC):
 
     async def settle(self, timeout: Optional[float] = None) -> bool:
         """Waits until all commits are durable that the answers so far have shown, also those of other clients. Returns
-        whether they were in `timeout` seconds (None: waits without end). It uses a connection of its own, as `wait`.
-        Raises `InMemory`."""
+        whether they were in `timeout` seconds (None: waits without end, as `Client.settle`). It uses a connection of its
+        own, as `wait`. Raises `InMemory`."""
         time_left, commit = checked_wait(timeout), self._shown()
         async with self._another() as waiting:
             await want_same_run(self, waiting)

@@ -16,8 +16,7 @@ from .pipeline import Pipeline
 from .reads import GetMany, GetRangeBack, count_of
 from .server import Greeting, HelloUnanswered, StandingView
 from .server_queries import (SERVER_VERSION, GetInfo, Hello, ListViews, Ping, Stop, Token, Wait, WaitDurable,
-                             checked_wait, commit_to_settle, commits_shown, hello_of, next_durable, next_of, parts,
-                             parts_while_it_lasts, want_one_end)
+                             checked_wait, commit_to_settle, commits_shown, hello_of, next_durable, next_of, parts, want_one_end)
 from .wire import (MAX_REPLY_BODY, Build, Get, GetRange, Outcome, Put, PutIf, Query, Remove, Reply, Tidy, ViewDrop,
                    ViewRead, frame_version, read_replies, request_frame, spelled_query)
 
@@ -163,8 +162,9 @@ class Asker(RowMap):
              timeout: Optional[float] = None, *, durable: bool = False) -> bool:
         """Waits until there are `commit` commits; with a view of this index, or its number, until that is at this commit;
         with `durable` until no crash undoes this commit. Without `commit` it waits for the next one. Returns whether it
-        was reached in `timeout` seconds (None: waits without end). The server says so when it is reached, so nothing is
-        asked in between. Raises `NoSuchView` and `InMemory`."""
+        was reached in `timeout` seconds (None: waits without end, unless the server stops, or its disk fails and the
+        commit is to be durable). The server says so when it is reached, so nothing is asked in between. Raises
+        `NoSuchView` and `InMemory`."""
         want_one_end(view, durable)
         number, time_left = None if view is None else number_of_view(self, view), checked_wait(timeout)
         if durable:
@@ -181,7 +181,8 @@ class Asker(RowMap):
 
     def settle(self, timeout: Optional[float] = None) -> bool:
         """Waits until all commits are durable that the answers so far have shown, also those of other clients. Returns
-        whether they were in `timeout` seconds (None: waits without end). Raises `InMemory`."""
+        whether they were in `timeout` seconds (None: waits without end, unless the server stops or its disk fails).
+        Raises `InMemory`."""
         time_left, commit = checked_wait(timeout), self._shown()
         for part in parts(time_left):
             is_reached = self.call(WaitDurable(commit, part)).value.is_reached
@@ -293,7 +294,7 @@ class Client(Asker):
 
     def _settled(self, commit: int) -> int:
         """Waits until a commit is durable. Returns how many are."""
-        for part in parts_while_it_lasts():
+        for part in parts(None):
             now = self.call(WaitDurable(commit, part)).value
             if now.is_reached:
                 return now.durable

@@ -248,23 +248,17 @@ def next_of(now: Waited, view: Optional[int]) -> int:
 
 
 def parts(timeout: Optional[float]) -> Iterator[int]:
-    """For how many milliseconds one call waits, query by query, until the time is over (None: without end)."""
+    """For how many milliseconds one call waits after the other, until the time is over (None: without end); but no further
+    one after an answer that came long before its time: the server stops, or its disk has failed."""
     until = None if timeout is None else time.monotonic() + timeout
     rest: Optional[float] = timeout
     while True:
-        yield math.ceil(1000 * (LONGEST_WAIT if rest is None else min(rest, LONGEST_WAIT)))
-        rest = None if until is None else until - time.monotonic()
-        if rest is not None and rest <= 0:
-            return
-
-
-def parts_while_it_lasts() -> Iterator[int]:
-    """For how many milliseconds one call after the other waits, without end; but no further one after an answer that
-    came long before its time: the server stops, or its disk has failed."""
-    for milliseconds in parts(None):
+        milliseconds = math.ceil(1000 * (LONGEST_WAIT if rest is None else min(rest, LONGEST_WAIT)))
         began = time.monotonic()
         yield milliseconds
-        if time.monotonic() - began < milliseconds / 2000:
+        now = time.monotonic()
+        rest = None if until is None else until - now
+        if now - began < milliseconds / 2000 or rest is not None and rest <= 0:
             return
 
 

@@ -1,14 +1,13 @@
 -- The first entries of a log that has no seal.
-use Rattle.std.proofs.Common.{◌≡◌, ◌∙◌, ◌∷◌, ◌++◌, ◌+◌, ◌-◌, ◌||◌, ◌==◌, ℕ, Bool, true, false, List, [], length, take, drop, refl, sym, ap, arith, append_assoc, IsTrue, inl, inr}
+use Rattle.std.proofs.Common.{◌≡◌, ◌∙◌, ◌++◌, ◌+◌, ◌-◌, ◌||◌, ◌==◌, ℕ, Bool, true, false, List, length, take, drop, refl, sym, ap, arith, append_assoc, IsTrue, inl, inr}
 use Rattle.std.specs.List.{list_any}
 use Rattle.std.proofs.Math.Seq.{take-append_seam}
 use Rattle.std.proofs.lemmas.Bool.Decides.{eqb_tells}
-use Rattle.std.proofs.lemmas.List.{length-append, take-append-drop}
+use Rattle.std.proofs.lemmas.List.{take-append-drop}
 use Rattle.std.proofs.lemmas.List.Folds.{list_any-append}
 use Rattle.mt_types.specs.declared.row.Change.{Change}
 use Rattle.mt_frame.specs.declared.entry.Entry.{Entry}
 use Rattle.mt_frame.specs.declared.entry.Record.{Record}
-use Rattle.mt_journal.specs.Log.{last_number}
 use Rattle.mt_replay.specs.Redo.{is_seal, number_after}
 use Rattle.mt_replay.specs.RedoLaws.{HaveCommits}
 use Rattle.mt_replay.specs.Replay.{records_in, records_of}

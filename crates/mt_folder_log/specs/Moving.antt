@@ -7,7 +7,6 @@ use Rattle.mt_folder_log.specs.declared.checkpoint.Other.{Other}
 use Rattle.mt_folder_log.specs.declared.checkpoint.Other.TheVariants.{Free, Needed, Gone}
 use Rattle.mt_folder_log.specs.declared.checkpoint.Round.{Round}
 use Rattle.mt_folder_log.specs.declared.checkpoint.Round.TheVariants.{Rests, Moves, Copies, Seals}
-use Rattle.mt_folder_log.specs.declared.checkpoint.TheConstants.{PART}
 use Rattle.mt_frame.specs.declared.entry.LogHeader.{LogHeader}
 use Rattle.mt_frame.specs.declared.entry.Part.{Part}
 use Rattle.mt_journal.specs.declared.error.JournalError.{JournalError}

@@ -3,7 +3,7 @@ use Rattle.std.proofs.lemmas.Result.{on_err_weaker, on_ok_weaker}
 use Rattle.std.specs.Prelude.{OnOk}
 use Rattle.mt_frame.specs.declared.entry.LogHeader.{LogHeader}
 use Rattle.mt_journal.specs.declared.position.Position.{Position}
-use Rattle.mt_journal.specs.Keeping.{AllAreLogs, Keeps}
+use Rattle.mt_journal.specs.Keeping.{Keeps}
 use Rattle.mt_folder_log.proofs.MovingLemmas.{if_free, needs_of}
 use Rattle.mt_folder_log.specs.Moving.{continued}
 use Rattle.mt_folder_log.proofs.log.FolderLog.begin.Goals as goal
