@@ -157,23 +157,35 @@ static void full_disk(void) {
     ends("full_disk");
 }
 
-/* An index isn't opened on a full disk, and is once there is room. */
-static void opened_on_a_full_disk(void) {
-    static char zeros[4 * MIB];
-    rowanspan *index;
-    int ballast;
-    begins_anew();
+/* Mounts a disk of 4 MiB. */
+static bool mounts_disk(const char *name) {
     WANT(mkdir(path_of("disk"), 0777) == 0);
     if (mount("tmpfs", path_of("disk"), "tmpfs", 0, "size=4m") != 0) {
-        printf("skipped opened_on_a_full_disk: no file system can be mounted: %s\n", strerror(errno));
-        return;
+        printf("skipped %s: no file system can be mounted: %s\n", name, strerror(errno));
+        return false;
     }
-    ballast = open(path_of("disk/ballast"), O_WRONLY | O_CREAT, 0666);
+    return true;
+}
+
+/* Takes the room that the disk has. */
+static void fill_disk(void) {
+    static char zeros[4 * MIB];
+    int ballast = open(path_of("disk/ballast"), O_WRONLY | O_CREAT, 0666);
     while (write(ballast, zeros, sizeof zeros) > 0) {
     }
     close(ballast);
+}
+
+/* An index isn't opened on a full disk, and is once there is room. */
+static void opened_on_a_full_disk(void) {
+    rowanspan *index;
+    begins_anew();
+    if (!mounts_disk("opened_on_a_full_disk")) {
+        return;
+    }
+    fill_disk();
     WANT_SAME(rowanspan_open_folder(&index, path_of("disk/rows"), 1, 1, 0, 0, message, sizeof message),
-              ROWANSPAN_FOLDER_FAILED);
+              ROWANSPAN_DISK_FULL);
     WANT(index == NULL && strstr(message, "space"));
     WANT_SAME(unlink(path_of("disk/ballast")), 0);
     WANT_SAME(rowanspan_open_folder(&index, path_of("disk/rows"), 1, 1, 0, 0, message, sizeof message), ROWANSPAN_OK);
@@ -183,10 +195,36 @@ static void opened_on_a_full_disk(void) {
     ends("opened_on_a_full_disk");
 }
 
+/* A checkpoint for which there is no room leaves the log where it is, and is made once there is room. */
+static void checkpoint_on_a_full_disk(void) {
+    rowanspan *index;
+    begins_anew();
+    if (!mounts_disk("checkpoint_on_a_full_disk")) {
+        return;
+    }
+    WANT_SAME(rowanspan_open_folder(&index, path_of("disk/rows"), 1, 1, 0, 0, message, sizeof message), ROWANSPAN_OK);
+    put_row(index, "a", "v");
+    fill_disk();
+    WANT_SAME(rowanspan_checkpoint(index), ROWANSPAN_DISK_FULL);
+    put_row(index, "b", "v");
+    WANT_SAME(rowanspan_checkpoint(index), ROWANSPAN_DISK_FULL);
+    WANT_SAME(unlink(path_of("disk/ballast")), 0);
+    WANT_SAME(rowanspan_checkpoint(index), ROWANSPAN_OK);
+    WANT_SAME(rowanspan_durable(index), 2);
+    put_row(index, "c", "v");
+    rowanspan_close(index);
+    WANT_SAME(rowanspan_open_folder(&index, path_of("disk/rows"), 1, 1, 0, 0, message, sizeof message), ROWANSPAN_OK);
+    WANT_SAME(rowanspan_len(index), 3);
+    rowanspan_close(index);
+    WANT_SAME(umount(path_of("disk")), 0);
+    ends("checkpoint_on_a_full_disk");
+}
+
 int main(void) {
     make_place();
     disk_failed();
     full_disk();
     opened_on_a_full_disk();
+    checkpoint_on_a_full_disk();
     return all_told_of_folders();
 }

@@ -118,9 +118,9 @@ static void no_memory_for_changes(bool is_remove) {
     ends(is_remove ? "no_memory_for_removes" : "no_memory_for_puts");
 }
 
-/* A checkpoint that is refused can be made again, at the latest when the folder was opened again. No commit is lost. */
+/* A checkpoint that is refused can be made again. No commit is lost. */
 static void no_memory_for_checkpoints(void) {
-    rowanspan_status status = ROWANSPAN_NO_MEMORY, again;
+    rowanspan_status status = ROWANSPAN_NO_MEMORY;
     long allocations;
     begins();
     for (allocations = 0; status == ROWANSPAN_NO_MEMORY && allocations < MOST; allocations++) {
@@ -134,8 +134,7 @@ static void no_memory_for_checkpoints(void) {
         memory_ends_after(-1);
         WANT(status == ROWANSPAN_OK || status == ROWANSPAN_NO_MEMORY);
         put_row(index, "a", "v");
-        again = rowanspan_checkpoint(index);
-        WANT(again == ROWANSPAN_OK || again == ROWANSPAN_DISK_FAILED);
+        WANT_SAME(rowanspan_checkpoint(index), ROWANSPAN_OK);
         WANT_SAME(rowanspan_sync(index, NULL), ROWANSPAN_OK);
         WANT_SAME(rowanspan_durable(index), commits + 1);
         rowanspan_close(index);

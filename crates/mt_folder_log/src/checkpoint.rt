@@ -169,7 +169,11 @@ fn end_of(alloc: Global, part: &Part) -> Result<Option<Key>, JournalError>
 }
 
 // Makes a log in a file. Its bytes go first, so that only as many zeros are written to it as to a new one.
-fn start_over<D: Disk>(alloc: Global, file: &mut D, header: LogHeader) -> Result<Position, JournalError>
+fn start_over<D: Disk>(
+    alloc: Global,
+    file: &mut D,
+    header: LogHeader,
+) -> Result<Position, JournalError>
     ensures kept { IfOk result (λ at. Keeps at (D.Disk.seen file.new) (D.Disk.may_leave file.new) header []) }
     ensures newest { IfOk result (λ at. at.newest ≡ header.base) }
     ensures again { result ≡ Err JournalError.NoMemory → IsTrue (D.Disk.is_usable file.new) }

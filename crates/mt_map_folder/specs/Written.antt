@@ -44,4 +44,4 @@ pub record AreTooLong (at : Position) : Type 0 where
 abbrev pub WriteHasCause : {T : Type 0} → Result T LogError → Option Refusal → Type 0 → Bool → Position → ℕ → ℕ → Type 0
 WriteHasCause (Ok x) fault same asks at old new = new ≡ old
 WriteHasCause (Err (Refused refusal)) fault same asks at old new = MatchOption fault (refusal ≡ NoMemory) (λ first. refusal ≡ first) × same
-WriteHasCause {T} (Err (Journal error)) fault same asks at old new = AppendHasCause (the (Result T JournalError) (Err error)) asks (AreTooLong at) old new
+WriteHasCause {T} (Err (Journal error)) fault same asks at old new = let failed : Result T JournalError = Err error in AppendHasCause failed asks (AreTooLong at) old new

@@ -32,7 +32,7 @@ returns-in-Some-clause-refused g c = λ clean.
       };
       newest = refl;
       first = subst (λ (l : List ℕ). IsFirstLost read.at l (Some c.in-Some.place)) (c.deref-in-Ok.ensures.value ∙ c.in_ok-bytes.ensures.bytes clean)
-        (subst (λ (found : Option ℕ). IsFirstLost read.at c.deref-in-Ok.result.now found) c.in-Some.is c.in_ok-place-in-Ok.ensures);
+          (subst (λ (found : Option ℕ). IsFirstLost read.at c.deref-in-Ok.result.now found) c.in-Some.is c.in_ok-place-in-Ok.ensures);
     }
 
 pub returns-in-Ok-clause-whole : goal.returns-in-Ok-clause-whole
@@ -47,5 +47,5 @@ returns-in-Ok-clause-whole g c = λ clean.
         read = subst (λ (l : List ℕ). HasReadAll read.header read.entries.items read.at l) bytes c.in-Ok.ensures.read;
       };
       none = subst (λ (l : List ℕ). IsFirstLost read.at l None) (c.deref-in-Ok.ensures.value ∙ c.in_ok-bytes.ensures.bytes clean)
-        (subst (λ (found : Option ℕ). IsFirstLost read.at c.deref-in-Ok.result.now found) c.in-None.is c.in_ok-place-in-Ok.ensures);
+          (subst (λ (found : Option ℕ). IsFirstLost read.at c.deref-in-Ok.result.now found) c.in-None.is c.in_ok-place-in-Ok.ensures);
     }
