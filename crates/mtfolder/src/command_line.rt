@@ -23,12 +23,12 @@ is what a server finds that starts over a copy of the folder.
            helps, the last line is `cut --at COMMIT leaves`, and how many rows and commits a server finds after it
   rows     how many rows and commits there are, and then a line for each row, KEY:VERSION:VALUES, in the order of the keys.
            Keys and values are hex, `-` is empty, and commas are between values
-  cut      makes a folder whose logs are damaged, or lack durable commits, one that a server opens, with the rows after the
-           first COMMIT commits. Of a damaged log all that follows the last frame that can be read is set to zero; of a log
-           whose commits come after that gap, all. Later commits are lost: copy the folder before. Prints a line for each
-           file that was cut, with the byte from which on it is zero and how many bytes that weren't zero are gone, and then
-           how many rows and commits are left. COMMIT must be the number that verify says. Else nothing is changed, as also
-           if a server opens the folder or no cut helps
+  cut      makes a folder that isn't opened, because a log is damaged or durable commits are missing, one that a server opens.
+           It sets to zero what follows the last frame that can be read, and all of a log whose commits come after that gap.
+           The rows after the first COMMIT commits are left, and COMMIT must be the number that verify prints. Later commits
+           are lost: copy the folder first. A line for each file that was cut has the byte from which on it is zero, and how
+           many bytes that weren't zero are gone; the last line has how many rows and commits are left. Nothing is changed
+           if COMMIT is another number, a server opens the folder, or no cut helps
 
 The status is 0; 1 if a server would not open the folder (of verify and rows), or if no cut helps or is needed (of cut); 2 for
 a bad command line; 3 if the folder can't be read or written, a server has it, printing failed, or memory was refused; 4 if
