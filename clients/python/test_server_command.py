@@ -188,6 +188,7 @@ class CommandTest(unittest.TestCase):
             self.assertEqual(run("folder", "show", "a"),
                              (3, "", f"rowan: there is no program mtfolder at {program}s\n"))
         self.assertIn("rowan folder show | verify | rows FOLDER", run("--help")[1])
+        self.assertIn("rowan folder cut FOLDER --at COMMIT", run("--help")[1])
 
     def test_the_board(self) -> None:
         server = self.stand_in(tokens=TOKENS)

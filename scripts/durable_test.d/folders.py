@@ -94,11 +94,15 @@ def read(word: str) -> bytes:
     return b"" if word == "-" else bytes.fromhex(word)
 
 
-def want_faults(setting: Setting, what: str, *parts: str) -> None:
-    """The folder isn't opened: `verify` and `rows` say so by the status 1, and `verify` has a line with each part."""
+def want_faults(setting: Setting, what: str, *parts: str, left: Optional[History] = None) -> None:
+    """The folder isn't opened: `verify` and `rows` say so by the status 1, and `verify` has a line with each part, and
+    one that says what a cut leaves, if it leaves something."""
     verified = said(setting, "verify")
     want_same(f"{what}: verify: the status, and {verified}", verified.status, 1)
-    want_same(f"{what}: verify: how many lines, {verified.lines}", len(verified.lines), len(parts))
+    cuts = [] if left is None else [
+        f"cut --at {left.commits} leaves rows {len(left.rows)} commits {left.commits}"]
+    want_same(f"{what}: what a cut leaves, {verified.lines}", verified.lines[len(parts):], cuts)
+    want_same(f"{what}: verify: how many lines, {verified.lines}", len(verified.lines), len(parts) + len(cuts))
     for part, line in zip(parts, verified.lines):
         want(part in line, f"{what}: verify says {line!r}, without {part!r}")
     printed = said(setting, "rows")
@@ -184,7 +188,8 @@ def faults_that_are_named(setting: Setting) -> str:
     changed = bytearray(folder.whole)
     changed[frame.end - 1] ^= 0x40
     folder.write(name, bytes(changed))
-    want_faults(setting, "a changed byte", f"{name}: the log is damaged at byte {frame.begin}: ")
+    before = folder.history.front(folder.earlier.commits)
+    want_faults(setting, "a changed byte", f"{name}: the log is damaged at byte {frame.begin}: ", left=before)
     # (then both logs are needed, and each has a fault)
     folder.restore()
     folder.set_current([entry for entry in folder.entries_before(folder.seal.end) if not isinstance(entry, Sealed)])
@@ -196,7 +201,7 @@ def faults_that_are_named(setting: Setting) -> str:
     want_faults(setting, "no log before", f"{name}: the log begins after commit {folder.logs.current.header.base}, ")
     folder.restore()
     folder.write(name, b"\0" + folder.whole[1:])
-    want_faults(setting, "a lost header", f"{name}: commits after {folder.earlier.commits} are missing")
+    want_faults(setting, "a lost header", f"{name}: commits after {folder.earlier.commits} are missing", left=before)
     folder.restore()
     want_opened(setting, folder.history)
     return f"{name}, and {other}"
@@ -290,13 +295,15 @@ def wrong_words(setting: Setting) -> None:
     if setting.reads is None:
         raise Skipped("no mtfolder is named")
     setting.data.mkdir()
-    for words in ([], ["show"], ["shows", str(setting.data)], ["rows", str(setting.data), "more"], ["--columns", "2"]):
+    for words in ([], ["show"], ["shows", str(setting.data)], ["rows", str(setting.data), "more"], ["--columns", "2"],
+                  ["cut", str(setting.data)], ["show", str(setting.data), "--at", "1"],
+                  ["cut", str(setting.data), "--at", "one"], ["cut", str(setting.data), "--at", str(1 << 64)]):
         done = subprocess.run([setting.reads, *words], capture_output=True, timeout=SECONDS, check=False)
         want_same(f"the status with {words}", (done.returncode, done.stdout), (2, b""))
         want(done.stderr != b"", f"it says nothing with {words}")
     done = subprocess.run([setting.reads, "--help"], capture_output=True, timeout=SECONDS, check=False)
     want_same("the status of --help", done.returncode, 0)
-    for task in (b"show", b"verify", b"rows"):
+    for task in (b"show", b"verify", b"rows", b"cut"):
         want(re.search(rb"\b" + task + rb"\b", done.stdout) is not None, f"--help doesn't name {task.decode()}")
 
 

@@ -24,6 +24,7 @@ USES = """\
 rowan [-p PORT [OPTION ..] | --embedded [--columns N]] [--text] [WORD ..]
        rowan serve [OPTION ..]
        rowan folder show | verify | rows FOLDER
+       rowan folder cut FOLDER --at COMMIT
        rowan info | views [--text] | ping [--wait SECONDS] | stop [--now] -p PORT [OPTION ..]
        rowan board -p PORT [OPTION ..]
        rowan mirror postgres | etcd -p PORT [OPTION ..]

@@ -1,1 +1,2 @@
--- What proofs share.
+-- What cuts leave, and what writes make of a file.
+mod CutLemmas

@@ -1,5 +1,9 @@
 //! The two files of a folder, copied into memory: what is done with the copies changes no file.
 
+ghost use Rattle.std.specs.Prelude.{◌≡◌, IfOk};
+ghost use Rattle.sqlite_disk.specs.Memory.{memory_bytes};
+ghost use Rattle.mtfolder.specs.Cuts.{bytes_in, Finds};
+
 use mt_folder::error::{FolderError, LogFile};
 use mt_folder::opening::{OpenedLog, open_log};
 use mt_frame::entry::LogHeader;
@@ -29,7 +33,9 @@ pub struct FolderCopy {
 /// # Errors
 ///
 /// If out of memory.
-pub fn disk_of(alloc: Global, bytes: &[u8]) -> io::Result<Memory> {
+pub fn disk_of(alloc: Global, bytes: &[u8]) -> io::Result<Memory>
+    ensures { IfOk result (λ disk. memory_bytes disk ≡ bytes.now) }
+{
     let mut disk = Memory::new(alloc);
     if !bytes.is_empty() {
         disk.write_at(0, bytes)?;
@@ -65,6 +71,16 @@ fn header_or_none(alloc: Global, bytes: &[u8]) -> Option<LogHeader> {
 }
 
 impl FolderCopy {
+    /// Returns the bytes of a file.
+    pub fn bytes(&self, file: LogFile) -> &[u8]
+        ensures { result.now ≡ bytes_in file self.now }
+    {
+        match file {
+            LogFile::Even => &self.even,
+            LogFile::Odd => &self.odd,
+        }
+    }
+
     /// Returns how many columns the newer log has; 1 if there is none.
     pub fn columns(&self, alloc: Global) -> u8 {
         let even = header_or_none(alloc, &self.even);
@@ -82,7 +98,9 @@ impl FolderCopy {
     /// # Errors
     ///
     /// Those of a server.
-    pub fn opened(&self, alloc: Global) -> Result<OpenedLog<Memory>, FolderError> {
+    pub fn opened(&self, alloc: Global) -> Result<OpenedLog<Memory>, FolderError>
+        ensures { IfOk result (λ opened. Finds self.now.even.items self.now.odd.items opened.source opened.read) }
+    {
         let even = disk_of(alloc, &self.even)?;
         let odd = disk_of(alloc, &self.odd)?;
         open_log(alloc, even, odd, self.columns(alloc))

@@ -1,6 +1,7 @@
 //! What is printed of logs and rows.
 
 use crate::copies::header_in;
+use crate::cutting::{Cut, Plan};
 use mt_folder::error::LogFile;
 use mt_folder::opening::OpenedLog;
 use mt_folder::reading::RowsRead;
@@ -102,6 +103,29 @@ pub fn print_source(rt: &impl Print, opened: &OpenedLog<Memory>) -> io::Result<(
         None => println!(rt; "reads no log")?,
     }
     println!(rt; "{}", row_count(&opened.read))
+}
+
+fn print_cut(rt: &impl Print, file: LogFile, cut: Option<Cut>) -> io::Result<()> {
+    match cut {
+        Some(Cut { from, gone }) => println!(rt; "{file} cut from {from} gone {gone}"),
+        None => Ok(()),
+    }
+}
+
+/// Prints what was cut off each file, how many rows are left, and how many commits led to them.
+pub fn print_cuts(rt: &impl Print, plan: &Plan) -> io::Result<()> {
+    print_cut(rt, LogFile::Even, plan.cuts.even)?;
+    print_cut(rt, LogFile::Odd, plan.cuts.odd)?;
+    println!(rt; "left {}", row_count(&plan.read))
+}
+
+/// Prints what a cut would leave.
+pub fn print_plan(rt: &impl Print, plan: &Plan) -> io::Result<()> {
+    println!(rt;
+        "cut --at {} leaves {}",
+        plan.read.commits,
+        row_count(&plan.read)
+    )
 }
 
 // Bytes as hex; `-` for none.
