@@ -192,6 +192,7 @@ static void opened_on_a_full_disk(void) {
     put_row(index, "a", "v");
     rowanspan_close(index);
     WANT_SAME(umount(path_of("disk")), 0);
+    WANT_SAME(rmdir(path_of("disk")), 0);
     ends("opened_on_a_full_disk");
 }
 
@@ -217,6 +218,7 @@ static void checkpoint_on_a_full_disk(void) {
     WANT_SAME(rowanspan_len(index), 3);
     rowanspan_close(index);
     WANT_SAME(umount(path_of("disk")), 0);
+    WANT_SAME(rmdir(path_of("disk")), 0);
     ends("checkpoint_on_a_full_disk");
 }
 
