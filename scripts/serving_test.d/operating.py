@@ -23,6 +23,7 @@ from rowanspan import (Build, Client, Get, GetRange, Hello, NoMemory, Prefix, Pu
 SECONDS = 60.0
 # as many lines of a kind are written in a second at most
 MOST = 10
+FORMS = ("plain", "pairs")
 BAD_FRAME = b"\0\0\0\x02\x01\x00"
 READER, OWNER = b"reader-0123456789", b"owner-0123456789a"
 
@@ -111,47 +112,71 @@ def lines_of_the_end_of_input(start: Start) -> None:
         next_read(server, "stopped", "info")
 
 
+def left_out_by(line: str, fault: int, form: str) -> int:
+    """How many ends of connections a line counts that were left out; 0 if it tells of one, by this fault."""
+    if form == "plain":
+        counts = re.fullmatch(r"left out: (\d+) lines of ended", line)
+        want(counts is not None or line.startswith(f"session fault {fault}: "), f"{line!r} instead of fault {fault}")
+        return 0 if counts is None else int(counts[1])
+    _, level, word, pairs = read_line(line)
+    want_same(f"the word and the level of {line!r}", (word, level), ("ended", "warn"))
+    want_same(f"the fault of {line!r}", pairs.get("fault", str(fault)), str(fault))
+    return int(pairs.get("left_out", 0))
+
+
+def ends_told(server: Any, count: int, fault: int, form: str = "pairs") -> Tuple[int, int]:
+    """Reads lines until they tell of so many ends by this fault. Returns how many lines that were, and how many of the
+    ends they count alone."""
+    lines = told = left_out = 0
+    while told < count:
+        more = left_out_by(server.next_line(), fault, form)
+        lines, told, left_out = lines + 1, told + (more or 1), left_out + more
+    want_same("how many ends were told of", told, count)
+    return lines, left_out
+
+
 def many_bad_frames(start: Start) -> None:
     """Of a thousand faults at most ten a second are written, and a line of a later second counts the others."""
     count = 1000
-    with start("--log", "pairs", "--workers", "2") as server:
-        next_read(server, "listening", "info")
-        began = time.monotonic()
-        for _ in range(count):
-            send_bad(server.port)
-        seconds = int(time.monotonic() - began) + 2
-        written = left_out = lines = 0
-        while written + left_out < count:
-            pairs = next_read(server, "ended", "warn")
-            lines += 1
-            left_out += int(pairs.get("left_out", 0))
-            written += "connection" in pairs
-        want_same("how many faults were told of", written + left_out, count)
-        want(lines <= MOST * (seconds + 1), f"{lines} lines in {seconds} seconds")
-        want(left_out > 0, "no line was left out")
-        with Client(server.port, timeout=SECONDS) as index:
-            want_same("a put afterwards", index.put(b"a", b"v"), 1)
+    for form in FORMS:
+        with start("--log", form, "--workers", "2") as server:
+            if form == "pairs":
+                next_read(server, "listening", "info")
+            began = time.monotonic()
+            for _ in range(count):
+                send_bad(server.port)
+            seconds = int(time.monotonic() - began) + 2
+            lines, left_out = ends_told(server, count, 6, form)
+            want(lines <= MOST * (seconds + 1), f"{lines} lines in {seconds} seconds with --log {form}")
+            want(left_out > 0, f"no line was left out with --log {form}")
+            with Client(server.port, timeout=SECONDS) as index:
+                want_same("a put afterwards", index.put(b"a", b"v"), 1)
 
 
 def faults_at_the_end(start: Start) -> None:
     """At its end a server says how many lines it has left out, also in the last second."""
-    with start("--log", "pairs", "--stop-at-end-of-input", stdin=subprocess.PIPE) as server:
-        next_read(server, "listening", "info")
-        for _ in range(100):
-            send_bad(server.port)
-        server.process.stdin.close()
-        server.ended()
-        lines = [read_line(line) for line in server.rest_of_lines()]
-        ends = [pairs for _, _, word, pairs in lines if word == "ended"]
-        want_same("how many faults were told of", sum(int(pairs.get("left_out", 1)) for pairs in ends), 100)
-        want_same("the last line", lines[-1][2], "stopped")
+    for form in FORMS:
+        with start("--log", form, "--stop-at-end-of-input", stdin=subprocess.PIPE) as server:
+            if form == "pairs":
+                next_read(server, "listening", "info")
+            for _ in range(100):
+                send_bad(server.port)
+            server.process.stdin.close()
+            server.ended()
+            lines = server.rest_of_lines()
+            if form == "pairs":
+                words = [read_line(line)[2] for line in lines]
+                want_same("the last line", words[-1], "stopped")
+                lines = [line for line, word in zip(lines, words) if word == "ended"]
+            told = sum(left_out_by(line, 6, form) or 1 for line in lines)
+            want_same(f"how many faults were told of with --log {form}", told, 100)
 
 
 def standard_error_that_fails(start: Start) -> None:
     """A server whose standard error is closed serves, whatever it has to say."""
     with start() as server:
         program = server.process.args[0]
-    for form in ("plain", "pairs"):
+    for form in FORMS:
         words = [program, "--log", form, "--forever"]
         with subprocess.Popen(words, stdout=subprocess.DEVNULL, stderr=subprocess.PIPE) as process:
             try:

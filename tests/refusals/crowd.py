@@ -234,9 +234,9 @@ def one_crowd(serving: ModuleType, shim: Shim, check: str, seed: int) -> Tuple[i
         receipts = audit(serving, members, check)
         lost = sum(member.lost for member in members)
         want(server.process.poll() is None, "the server has ended")
-    faults = server.rest_of_lines()
-    want(faults == [serving.fault_line(7)] * lost,
-         f"{lost} sessions were lost, and it says {faults[:3]}, {len(faults)} lines")
+        server.want_faults(lost, 7)
+    more = server.rest_of_lines()
+    want(more == [], f"{lost} sessions were lost, and it also says {more[:3]}, {len(more)} lines")
     return receipts, sum(member.refused for member in members), lost
 
 
