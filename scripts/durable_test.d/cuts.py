@@ -6,7 +6,7 @@ import subprocess
 from dataclasses import dataclass
 from typing import Dict, Sequence
 
-from folders import Said, said, want_faults, want_opened
+from folders import Said, said, want_opened
 from frames import Commits, Entry, Header, Sealed, bytes_of
 from histories import History
 from later_logs import Folder, folder_of, padded
