@@ -67,6 +67,8 @@ pub struct Connection {
     pub(crate) is_woken: bool,
     // How many bytes were read and written since they were counted.
     moved: (usize, usize),
+    // How many bytes at the front of what is to go have gone already.
+    gone: usize,
     // What its client may do, if it was admitted.
     pub(crate) role: Option<Role>,
     /// Whether that frame has a put or a remove.
@@ -120,6 +122,7 @@ impl Connection {
             awaited: None,
             is_woken: false,
             moved: (0, 0),
+            gone: 0,
             role,
             changes: false,
             moves: false,
@@ -304,43 +307,62 @@ impl Connection {
         self.held.is_none() && self.ends_at.is_none() && !self.talk.output().is_empty()
     }
 
-    // Writes what is to go, as much as the system takes. Returns how much that was.
+    // Writes what is to go, as much as the system takes. Returns the place up to which it has gone.
     fn write_some(&mut self) -> Result<usize, ConnectionFault> {
-        let mut sent = 0usize;
+        let mut gone = self.gone;
         let len = self.talk.output().len();
         for _ in 0..=len {
             let output = self.talk.output();
-            if sent >= output.len() {
+            if gone >= output.len() {
                 break;
             }
-            match self.stream.write(&output[sent..]) {
+            match self.stream.write(&output[gone..]) {
                 Ok(0) => return Err(ConnectionFault::Write),
-                Ok(taken) => sent = sent.saturating_add(taken),
+                Ok(taken) => gone = gone.saturating_add(taken),
                 Err(error) if error.kind() == ErrorKind::WouldBlock => break,
                 Err(error) if error.kind() == ErrorKind::Interrupted => {}
                 Err(_) => return Err(ConnectionFault::Write),
             }
         }
-        Ok(sent)
+        Ok(gone)
+    }
+
+    // Nothing is to go any more.
+    pub(crate) fn drop_output(&mut self) {
+        self.gone = 0;
+        self.talk.clear_output();
+    }
+
+    // Takes off what has gone, once that is no less than the rest. So each byte is copied once at most, however slowly a
+    // client reads.
+    fn cut_output(&mut self) {
+        let len = self.talk.output().len();
+        let gone = self.gone.min(len);
+        if gone < len - gone {
+            return;
+        }
+        self.gone = 0;
+        if self.talk.sent(gone).is_err() {
+            self.fail(ConnectionFault::NoMemory);
+            self.drop_output();
+        }
     }
 
     // Writes what is to go, as much as the system takes. After a failed write nothing is to go.
     fn flush(&mut self, now: u64) {
         match self.write_some() {
-            Ok(sent) => {
-                let count = sent.min(self.talk.output().len());
+            Ok(gone) => {
+                let count = gone.saturating_sub(self.gone);
                 if count > 0 {
                     self.went = now;
                     self.moved.1 = self.moved.1.saturating_add(count);
                 }
-                if self.talk.sent(count).is_err() {
-                    self.fail(ConnectionFault::NoMemory);
-                    self.talk.clear_output();
-                }
+                self.gone = gone;
+                self.cut_output();
             }
             Err(fault) => {
                 self.fail(fault);
-                self.talk.clear_output();
+                self.drop_output();
             }
         }
     }

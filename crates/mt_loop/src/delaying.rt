@@ -85,7 +85,7 @@ impl Connection {
     /// If its answers wait for the disk, they never go, and its session is broken off.
     pub fn lose(&mut self) {
         if self.held.take().is_some() {
-            self.talk.clear_output();
+            self.drop_output();
             self.fail(ConnectionFault::NotDurable);
         }
     }

@@ -35,7 +35,7 @@ impl Connection {
         self.note_kept(buffers);
         if !buffers.has_room(0) {
             self.fail(ConnectionFault::TooMuchOutput);
-            self.talk.clear_output();
+            self.drop_output();
             self.talk.free_output();
             self.note_kept(buffers);
         }
