@@ -1,5 +1,5 @@
 """Cases of clients that a server has to bear, over a build of mtserve: strangers, connections that are too many or say
-nothing, views that are left behind, puts without end, and giant answers that nobody reads.
+nothing, views that are left behind, puts without end, and giant answers that nobody reads, or slowly.
 
 `CASES` are functions of a `Start`, as those of operating.py.
 """
@@ -11,6 +11,7 @@ import select
 import socket
 import subprocess
 import tempfile
+import threading
 import time
 from contextlib import ExitStack, contextmanager
 from pathlib import Path
@@ -442,7 +443,46 @@ def long_rows_that_nobody_reads(start: Start) -> None:
         want(now <= before + BUFFERS, f"{now} bytes are resident at the end, and {before} were before")
 
 
+# how many clients read giant answers slowly, for how many seconds, and how many gets of another client are answered meanwhile
+SLOW, READING, SERVED = 7, 6.0, 100
+
+
+def read_slowly(opened: socket.socket, until: float) -> None:
+    """Reads a little, again and again, until a time."""
+    opened.settimeout(SECONDS)
+    while time.monotonic() < until:
+        opened.recv(65_536)
+        time.sleep(0.001)
+
+
+def slow_readers(start: Start) -> None:
+    """Clients that read giant answers slowly don't keep their worker from others."""
+    keys = [b"%08d" % number + bytes(MAX_KEY_BYTES - 8) for number in range(1000)]
+    giant = request_frame([GetRange().spelled()] * 64)
+    with start("--workers", "1", "--columns", "16") as server, ExitStack() as opened:
+        index = opened.enter_context(Client(server.port, timeout=SECONDS))
+        put_all(index, keys, {column: bytes(64) for column in range(16)})
+        clients = [opened.enter_context(socket.socket()) for _ in range(SLOW)]
+        for client in clients:
+            # (before it is connected, so that the system keeps little for it)
+            client.setsockopt(socket.SOL_SOCKET, socket.SO_RCVBUF, 4096)
+            client.connect(("127.0.0.1", server.port))
+            client.sendall(giant)
+        until = time.monotonic() + READING
+        readers = [threading.Thread(target=read_slowly, args=(client, until)) for client in clients]
+        for reader in readers:
+            reader.start()
+        time.sleep(READING / 3)
+        served = 0
+        while time.monotonic() < until:
+            want(index.get(keys[served % 1000]) is not None, "a row isn't there")
+            served += 1
+        for reader in readers:
+            reader.join()
+        want(served >= SERVED, f"another client was answered {served} gets")
+
+
 CASES: List[Callable[[Start], None]] = [
     strangers_with_long_frames, hello_and_more_at_once, hello_too_late, open_to_others, few_descriptors,
     enough_descriptors, thousands_that_say_nothing, views_of_one_that_left, puts_until_refused,
-    long_rows_that_nobody_reads]
+    long_rows_that_nobody_reads, slow_readers]
