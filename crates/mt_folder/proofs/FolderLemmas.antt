@@ -3,11 +3,14 @@ use Rattle.std.proofs.Common.{◌≡◌, ◌∙◌, ◌∷◌, ◌+◌, ◌||◌
 use Rattle.std.specs.List.{list_any}
 use Rattle.std.specs.FinMap.{empty}
 use Rattle.mt_types.specs.Rows.{Rows, after}
+use Rattle.mt_types.specs.declared.row.Change.{Change}
 use Rattle.mt_frame.specs.declared.entry.Entry.{Entry}
+use Rattle.mt_frame.specs.declared.entry.LogHeader.{LogHeader}
 use Rattle.mt_frame.specs.declared.entry.Entry.TheVariants.{Header, Commits as Group, Rows as Listed, Sealed, Closed}
 use Rattle.mt_replay.specs.Redo.{entries_redone, is_seal, number_after, records_redone}
 use Rattle.mt_replay.specs.Reading.{counted, seals_next}
-use Rattle.mt_replay.specs.RedoLaws.{CommitsAreRedone}
+use Rattle.mt_replay.specs.RedoLaws.{HaveCommits, CommitsAreRedone}
+use Rattle.mt_folder.specs.Kept.{rows_after}
 use Rattle.mt_folder.specs.Logs.{rows_left}
 use Rattle.mt_folder.specs.Laws.{FirstLogsHaveTheRows, LaterLogsHaveTheRows}
 
@@ -40,12 +43,17 @@ second_is_false a false wrong = refl
 second_is_false true true wrong = absurd (wrong (search rules))
 second_is_false false true wrong = absurd (wrong (search rules))
 
+-- the rows of entries from the first commit on
+pub rows_from_first : CommitsAreRedone → (C : ℕ) (changes : List Change) (header : LogHeader) (entries : List Entry) → header.base ≡ 0 → list_any is_seal entries ≡ false → HaveCommits C changes header.base entries
+    → rows_after header entries empty ≡ after C (take (number_after header.base entries) changes)
+rows_from_first redone C changes header entries first none have =
+    let start : empty ≡ after C (take header.base changes) = ap (λ (n : ℕ). after C (take n changes)) (sym first) in
+    unsealed-redone header.base entries empty none
+    ∙ ap (λ (rows : Rows). entries_redone false header.base entries rows) start
+    ∙ redone C changes header.base entries have
+
 pub first_rows : CommitsAreRedone → FirstLogsHaveTheRows
-first_rows redone C changes log first none have =
-    let start : empty ≡ after C (take log.header.base changes) = ap (λ (n : ℕ). after C (take n changes)) (sym first) in
-    unsealed-redone log.header.base log.entries.items empty none
-    ∙ ap (λ (rows : Rows). entries_redone false log.header.base log.entries.items rows) start
-    ∙ redone C changes log.header.base log.entries.items have
+first_rows redone C changes log first none have = rows_from_first redone C changes log.header log.entries.items first none have
 
 pub later_rows : CommitsAreRedone → LaterLogsHaveTheRows
 later_rows redone C changes newer older continues not_whole have before =

@@ -1,5 +1,6 @@
 -- The rows of logs without a seal, and those of the files of a folder.
-mod FolderLemmas
+pub mod FolderLemmas
 pub mod SourceLemmas
 mod HeaderLemmas
 mod EndLemmas
+mod LookLemmas

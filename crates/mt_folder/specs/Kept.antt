@@ -1,5 +1,5 @@
 -- What the journal of an opened log keeps: entries that leave the rows that were read.
-use Rattle.std.specs.Prelude.{◌≡◌, ℕ, true, List, IsTrue}
+use Rattle.std.specs.Prelude.{◌≡◌, ℕ, true, List, [], IfNone, IsTrue}
 use Rattle.std.specs.FinMap.{empty}
 use Rattle.mt_types.specs.Rows.{Rows}
 use Rattle.mt_frame.specs.declared.entry.Entry.{Entry}
@@ -35,3 +35,9 @@ pub record KeepsRows {D : Type 0} (seen : D → List ℕ) (may_leave : D → Lis
   pub entries : List Entry
   pub keeps : Keeps opened.journal.at (seen opened.journal.disk) (may_leave opened.journal.disk) header entries
   pub leaves : LeavesRows opened.spare header entries opened.read.rows
+
+-- IF NEITHER FILE HAD A LOG, the journal has the first one of an index of C columns, without entries
+abbrev pub BeginsLog : {D : Type 0} → ℕ → (D → List ℕ) → (D → List ℕ → Type 0) → OpenedLog D → Type 0
+BeginsLog C seen may_leave opened = IfNone opened.source
+    (Keeps opened.journal.at (seen opened.journal.disk) (may_leave opened.journal.disk)
+    (record { columns = C; generation = 0; base = 0; run = 0 }) [])

@@ -1,6 +1,6 @@
 //! What is looked at in the file of a log before it is opened: whether a crash alone can have left it so.
 
-ghost use Rattle.std.specs.Prelude.{◌≡◌, ◌<◌, min, length, IsTrue, IfErr, IfOk, OnOk};
+ghost use Rattle.std.specs.Prelude.{◌≡◌, ◌<◌, min, ℕ, List, length, IsTrue, IfErr, IfOk, OnOk};
 ghost use Rattle.sqlite_disk.specs.Disk.{Holds};
 ghost use Rattle.mt_folder.specs.Files.{is_blank, HeaderOf};
 ghost use Rattle.mt_folder.specs.Looking.{entry_says_more, is_frame, may_begin, says_more, IsFirstFrame, IsFirstLost, IsRefusedRightly, LacksNone};
@@ -43,11 +43,12 @@ fn front_of<D: Disk>(alloc: Global, disk: &mut D) -> io::Result<Vec<u8>>
     Ok(bytes)
 }
 
-// The bytes of a file. Two calls of the disk.
-fn bytes_of<D: Disk>(alloc: Global, disk: &mut D) -> io::Result<Vec<u8>>
+/// Returns the bytes of a file. Two calls of the disk.
+pub fn bytes_of<D: Disk>(alloc: Global, disk: &mut D) -> io::Result<Vec<u8>>
     requires { IsTrue (D.Disk.is_usable disk.old) }
     ensures bytes { IfOk result (λ bytes. IsTrue (D.Disk.is_clean disk.new) → bytes.items ≡ D.Disk.seen disk.old) }
     ensures clean { IsTrue (D.Disk.is_clean disk.new) → IsTrue (D.Disk.is_clean disk.old) }
+    ensures crash { (left : List ℕ) → D.Disk.may_leave disk.new left → D.Disk.may_leave disk.old left }
     ensures seen { D.Disk.seen disk.new ≡ D.Disk.seen disk.old }
     ensures usable { IsTrue (D.Disk.is_usable disk.new) }
 {

@@ -1,8 +1,8 @@
 //! How the logs of a folder are opened: the current one, with the rows that it has.
 
-ghost use Rattle.std.specs.Prelude.{◌≡◌, ◌⊎◌, None as NoneOf, IsTrue, IsFalse, IfOk};
+ghost use Rattle.std.specs.Prelude.{◌≡◌, ◌⊎◌, None as NoneOf, IsSome, IsTrue, IsFalse, IfOk};
 ghost use Rattle.mt_folder.specs.Files.{AreRows, HeaderOf};
-ghost use Rattle.mt_folder.specs.Kept.{KeepsRows};
+ghost use Rattle.mt_folder.specs.Kept.{BeginsLog, KeepsRows};
 ghost use Rattle.mt_folder.specs.Logs.{last_number, AreOfSource, Continues, HasRows, HasRowsOfBoth};
 ghost use Rattle.mt_folder.specs.Sides.{IsNoNewer};
 ghost use Rattle.mt_journal.specs.Keeping.{Keeps};
@@ -74,6 +74,7 @@ fn make_log<D: Disk + Drop>(
     ensures continues { IfOk result (λ r. r.journal.at.newest ≡ r.read.commits) }
     ensures spare { IfOk result (λ r. IsSpareOf r.source r.spare) }
     ensures kept { IfOk result (KeepsRows D.Disk.seen D.Disk.may_leave) }
+    ensures begins { IfOk result (BeginsLog columns D.Disk.seen D.Disk.may_leave) }
 {
     let mut side = side;
     let mut other = other;
@@ -186,6 +187,7 @@ fn open_both<D: Disk + Drop>(
         → IsTrue (D.Disk.is_clean newer.journal.disk) × IsTrue (D.Disk.is_clean older.journal.disk)) }
     ensures kept { Mixes D.Disk.is_mixing
         → IfOk result (λ r. AreClean D.Disk.is_clean r → KeepsRows D.Disk.seen D.Disk.may_leave r) }
+    ensures some { IfOk result (λ r. IsSome r.source) }
 {
     match decide(&newer.log, &older.log) {
         Source::Newer => {
@@ -219,6 +221,7 @@ fn open_newer<D: Disk + Drop>(
     ensures kept { Mixes D.Disk.is_mixing
         → IfOk result (λ opened. AreClean D.Disk.is_clean opened → KeepsRows D.Disk.seen D.Disk.may_leave opened) }
     ensures spare { IfOk result (λ r. IsSpareOf r.source r.spare) }
+    ensures begins { IfOk result (BeginsLog columns D.Disk.seen D.Disk.may_leave) }
 {
     if !newer.has_log() {
         return make_log(alloc, newer, older, columns);
@@ -259,6 +262,7 @@ pub fn open_sides<D: Disk + Drop>(
     ensures kept { Mixes D.Disk.is_mixing
         → IfOk result (λ opened. AreClean D.Disk.is_clean opened → KeepsRows D.Disk.seen D.Disk.may_leave opened) }
     ensures spare { IfOk result (λ r. IsSpareOf r.source r.spare) }
+    ensures begins { IfOk result (BeginsLog columns D.Disk.seen D.Disk.may_leave) }
 {
     if odd.is_newer(&even) {
         open_newer(alloc, odd, even, columns)
@@ -292,6 +296,7 @@ pub fn open_log<D: Disk + Drop>(
     ensures kept { Mixes D.Disk.is_mixing
         → IfOk result (λ opened. AreClean D.Disk.is_clean opened → KeepsRows D.Disk.seen D.Disk.may_leave opened) }
     ensures spare { IfOk result (λ r. IsSpareOf r.source r.spare) }
+    ensures begins { IfOk result (BeginsLog columns D.Disk.seen D.Disk.may_leave) }
 {
     let even = Side::new(alloc, LogFile::Even, even, columns)?;
     let odd = Side::new(alloc, LogFile::Odd, odd, columns)?;

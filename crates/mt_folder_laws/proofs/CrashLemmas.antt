@@ -1,5 +1,5 @@
 -- What is read after a crash.
-use Rattle.std.proofs.Common.{◌≡◌, ◌∙◌, ◌+◌, ◌<◌, ◌≤◌, ◌||◌, ◌==◌, ℕ, true, false, List, take, sym, ap, subst, arith, inl, inr, IsTrue}
+use Rattle.std.proofs.Common.{◌≡◌, ◌∙◌, ◌++◌, ◌+◌, ◌-◌, ◌<◌, ◌≤◌, ◌||◌, ◌==◌, ℕ, Bool, true, false, List, length, take, refl, sym, ap, subst, arith, inl, inr, IsTrue}
 use Rattle.std.specs.List.{list_any}
 use Rattle.std.specs.FinMap.{empty}
 use Rattle.std.specs.Prelude.{Option, Some, None}
@@ -8,20 +8,26 @@ use Rattle.mt_types.specs.declared.row.Change.{Change}
 use Rattle.mt_frame.specs.declared.entry.Entry.{Entry}
 use Rattle.mt_frame.specs.declared.entry.LogHeader.{LogHeader}
 use Rattle.mt_journal.specs.Keeping.{Survives}
-use Rattle.mt_journal.specs.Laws.{LogsReadOneWay}
+use Rattle.mt_journal.specs.Laws.{LogsHaveTheirFronts, LogsReadOneWay}
+use Rattle.mt_journal.specs.Log.{IsLog}
 use Rattle.mt_replay.specs.Reading.{counted}
 use Rattle.mt_replay.specs.Redo.{entries_redone, is_seal, number_after}
-use Rattle.mt_replay.specs.RedoLaws.{HaveCommits}
+use Rattle.mt_replay.specs.RedoLaws.{HaveCommits, CommitsAreRedone}
 use Rattle.mt_folder.specs.declared.log.LogRead.{LogRead}
 use Rattle.mt_folder.specs.declared.reading.RowsRead.{RowsRead}
 use Rattle.mt_folder.specs.declared.source.Source.{Source}
 use Rattle.mt_folder.specs.declared.source.Source.TheVariants.{Newer, Older, Both, Neither}
-use Rattle.mt_folder.specs.Files.{AreRows, HasNone, Says, Spells}
+use Rattle.mt_folder.specs.Files.{AreRows, Says, Spells}
+use Rattle.mt_folder.specs.Kept.{rows_after}
 use Rattle.mt_folder.specs.Laws.{FirstLogsHaveTheRows, LaterLogsHaveTheRows}
 use Rattle.mt_folder.specs.Logs.{is_whole, last_number, rows_left}
-use Rattle.mt_folder_laws.specs.Crashes.{AreFirst, IsUnsealed, CheckpointsSurvive, FirstLogsSurvive, SealedLogsSurvive}
+use Rattle.mt_folder_laws.specs.Crashes.{AreFirst, AreRead, IsUnsealed, CheckpointsSurvive, FirstLogsSurvive, SealedLogsSurvive}
+use Rattle.mt_folder.proofs.FolderLemmas.{rows_from_first}
 use Rattle.mt_folder.proofs.SourceLemmas.{last_is}
+use Rattle.mt_folder_laws.specs.Grown.{GrownLogsSurvive}
+use Rattle.std.proofs.lemmas.List.Folds.{list_any-append}
 use Rattle.mt_folder_laws.proofs.FrontLemmas.{front_unsealed, have_front, whole_from_first}
+use Rattle.mt_folder_laws.proofs.GrownLemmas.{front_over, grown_rows}
 
 -- the rows after n commits
 are_first : (C : ℕ) (changes : List Change) (durable n : ℕ) (read : RowsRead) → read.commits ≡ n → durable ≤ n → read.rows ≡ after C (take n changes) → AreFirst C changes durable read
@@ -33,23 +39,23 @@ are_first C changes durable n read commits enough rows = record {
 spelled : (C : ℕ) (bytes : List ℕ) (log : LogRead) → Says C bytes log → Spells C bytes log.header
 spelled C bytes log says = record { entries = log.entries.items; log = says.spells; columns = says.columns }
 
--- two logs that were read of the same bytes are the same
-module _ (one : LogsReadOneWay) (C : ℕ) (bytes : List ℕ) (a b : LogRead) (says : Says C bytes a) (said : Says C bytes b) where
-  abbrev same : (a.header ≡ b.header) × (a.entries.items ≡ b.entries.items)
-  same = one a.header b.header a.entries.items b.entries.items bytes says.spells said.spells
+-- a log that was read of bytes is the one that they spell
+module _ (one : LogsReadOneWay) (C : ℕ) (bytes : List ℕ) (header : LogHeader) (entries : List Entry) (log : LogRead) (is : IsLog header entries bytes) (said : Says C bytes log) where
+  same : (header ≡ log.header) × (entries ≡ log.entries.items)
+  same = one header log.header entries log.entries.items bytes is said.spells
 
-  same_whole : IsTrue (is_whole a) → IsTrue (is_whole b)
+  same_whole : IsTrue ((header.base == 0) || list_any is_seal entries) → IsTrue (is_whole log)
   same_whole whole =
-      subst (λ (h : LogHeader). IsTrue ((h.base == 0) || list_any is_seal b.entries.items)) same.0
-      (subst (λ (l : List Entry). IsTrue ((a.header.base == 0) || list_any is_seal l)) same.1 whole)
+      subst (λ (h : LogHeader). IsTrue ((h.base == 0) || list_any is_seal log.entries.items)) same.0
+      (subst (λ (l : List Entry). IsTrue ((header.base == 0) || list_any is_seal l)) same.1 whole)
 
-  same_last : last_number a ≡ last_number b
-  same_last = ap (λ (h : LogHeader). number_after h.base a.entries.items) same.0 ∙ ap (number_after b.header.base) same.1
+  same_last : number_after header.base entries ≡ last_number log
+  same_last = ap (λ (h : LogHeader). number_after h.base entries) same.0 ∙ ap (number_after log.header.base) same.1
 
-  same_rows : rows_left a empty ≡ rows_left b empty
+  same_rows : rows_after header entries empty ≡ rows_left log empty
   same_rows =
-      ap (λ (h : LogHeader). entries_redone true h.base (counted a.entries.items) empty) same.0
-      ∙ ap (λ (l : List Entry). entries_redone true b.header.base (counted l) empty) same.1
+      ap (λ (h : LogHeader). entries_redone true h.base (counted entries) empty) same.0
+      ∙ ap (λ (l : List Entry). entries_redone true log.header.base (counted l) empty) same.1
 
 -- a log that was read of what a crash has left of a log without a seal
 record IsFront (C : ℕ) (changes : List Change) (header : LogHeader) (durable : ℕ) (log : LogRead) : Type 0 where
@@ -85,27 +91,8 @@ module _ (one : LogsReadOneWay) (C : ℕ) (changes : List Change) (header : LogH
         are_first C changes durable (last_number log) read commits front.enough (rows ∙ first C changes log base front.unsealed front.commits)
 
 module _ (one : LogsReadOneWay) (first : FirstLogsHaveTheRows) (C : ℕ) (changes : List Change) (header : LogHeader) (entries : List Entry) (durable : ℕ) (left others : List ℕ) (read : RowsRead) (whole : IsUnsealed C changes header entries) (survives : Survives header entries durable left) where
-  -- ---- a log from the first commit on
-  module _ (base : header.base ≡ 0) (none : HasNone C others) where
-    first_ahead : (source : Option Source) → AreRows C left others source read → AreFirst C changes durable read
-    first_ahead (Some Newer) are =
-        let front = is_front one C changes header entries durable left whole survives are.log are.says in
-        of_first one C changes header entries durable left whole survives first read are.log are.says are.rows.commits are.rows.rows
-        (ap (λ (h : LogHeader). h.base) (sym front.header_is) ∙ base)
-    first_ahead (Some Older) are = absurd (none are.older.header (spelled C others are.older are.said))
-    first_ahead (Some Both) are = absurd (none are.older.header (spelled C others are.older are.said))
-    first_ahead (Some Neither) are = absurd are
-    first_ahead None are = absurd (are.none header (front_spelled one C changes header entries durable left whole survives))
-
-    first_behind : (source : Option Source) → AreRows C others left source read → AreFirst C changes durable read
-    first_behind (Some Newer) are = absurd (none are.log.header (spelled C others are.log are.says))
-    first_behind (Some Older) are = absurd (none are.newer.header (spelled C others are.newer are.says))
-    first_behind (Some Both) are = absurd (none are.newer.header (spelled C others are.newer are.says))
-    first_behind (Some Neither) are = absurd are
-    first_behind None are = absurd (are.other_none header (front_spelled one C changes header entries durable left whole survives))
-
   -- ---- a log whose checkpoint is in progress
-  module _ (later : LaterLogsHaveTheRows) (older : LogRead) (base : header.base ≡ last_number older) (generation : header.generation ≡ older.header.generation + 1) (before : rows_left older empty ≡ after C (take (last_number older) changes)) (said : Says C others older) where
+  module _ (later : LaterLogsHaveTheRows) (older : LogHeader) (before : List Entry) (base : header.base ≡ number_after older.base before) (generation : header.generation ≡ older.generation + 1) (rows_before : rows_after older before empty ≡ after C (take (number_after older.base before) changes)) (is : IsLog older before others) (columns : older.columns ≡ C) where
     checkpoint_ahead : (source : Option Source) → AreRows C left others source read → AreFirst C changes durable read
     checkpoint_ahead (Some Newer) are =
         let front = is_front one C changes header entries durable left whole survives are.log are.says in
@@ -114,13 +101,13 @@ module _ (one : LogsReadOneWay) (first : FirstLogsHaveTheRows) (C : ℕ) (change
     checkpoint_ahead (Some Older) are =
         let front = is_front one C changes header entries durable left whole survives are.newer are.says in
         let begins : header.base ≡ are.newer.header.base = ap (λ (h : LogHeader). h.base) front.header_is in
-        let last = same_last one C others older are.older said are.said in
+        let last = same_last one C others older before are.older is are.said in
         let more : are.newer.header.base < last_number are.older = are.rows.1.more in
         absurd (omega (arith, more, begins, base, last))
     checkpoint_ahead (Some Both) are =
         let front = is_front one C changes header entries durable left whole survives are.newer are.says in
-        let last = same_last one C others older are.older said are.said in
-        let rows = sym (same_rows one C others older are.older said are.said) ∙ before ∙ ap (λ (n : ℕ). after C (take n changes)) last in
+        let last = same_last one C others older before are.older is are.said in
+        let rows = sym (same_rows one C others older before are.older is are.said) ∙ rows_before ∙ ap (λ (n : ℕ). after C (take n changes)) last in
         are_first C changes durable (last_number are.newer) read are.rows.2.commits front.enough
         (are.rows.2.rows ∙ later C changes are.newer are.older are.rows.1 are.rows.0 front.commits rows)
     checkpoint_ahead (Some Neither) are = absurd are
@@ -129,50 +116,81 @@ module _ (one : LogsReadOneWay) (first : FirstLogsHaveTheRows) (C : ℕ) (change
     -- the log before isn't newer
     not_newer : (log : LogRead) → Says C others log → header.generation ≤ log.header.generation → ⊥
     not_newer log says le =
-        let same : older.header.generation ≡ log.header.generation = ap (λ (h : LogHeader). h.generation) (one older.header log.header older.entries.items log.entries.items others said.spells says.spells).0 in
-        omega (arith, le, same, generation)
+        let equal : older.generation ≡ log.header.generation = ap (λ (h : LogHeader). h.generation) (same one C others older before log is says).0 in
+        omega (arith, le, equal, generation)
 
     checkpoint_behind : (source : Option Source) → AreRows C others left source read → AreFirst C changes durable read
     checkpoint_behind (Some Newer) are = absurd (not_newer are.log are.says (are.newest header (front_spelled one C changes header entries durable left whole survives)))
     checkpoint_behind (Some Older) are = absurd (not_newer are.newer are.says (are.newest header (front_spelled one C changes header entries durable left whole survives)))
     checkpoint_behind (Some Both) are = absurd (not_newer are.newer are.says (are.newest header (front_spelled one C changes header entries durable left whole survives)))
     checkpoint_behind (Some Neither) are = absurd are
-    checkpoint_behind None are = absurd (are.none older.header (spelled C others older said))
+    checkpoint_behind None are = absurd (are.none older (record { entries = before; log = is; columns = columns }))
+
+    pub checkpoint_of : AreRead C left others read → AreFirst C changes durable read
+    checkpoint_of are = elim are.1 [
+      | inl ahead ↦ checkpoint_ahead are.0 ahead
+      | inr behind ↦ checkpoint_behind are.0 behind
+    ]
 
 -- ---- a whole log
-module _ (one : LogsReadOneWay) (C : ℕ) (changes : List Change) (log : LogRead) (left others : List ℕ) (read : RowsRead) (says : Says C left log) (whole : IsTrue (is_whole log)) (rows : rows_left log empty ≡ after C (take (last_number log) changes)) (smaller : (other : LogRead) → Says C others other → other.header.generation < log.header.generation) where
-  sealed_ahead : (source : Option Source) → AreRows C left others source read → AreFirst C changes (last_number log) read
-  sealed_ahead (Some Newer) are =
-      let last = same_last one C left are.log log are.says says in
-      let least : last_number log ≤ last_number log = omega arith in
-      are_first C changes (last_number log) (last_number log) read (are.rows.commits ∙ last) least (are.rows.rows ∙ same_rows one C left are.log log are.says says ∙ rows)
-  sealed_ahead (Some Older) are = absurd (are.rows.0 (same_whole one C left log are.newer says are.says whole))
-  sealed_ahead (Some Both) are = absurd (are.rows.0 (same_whole one C left log are.newer says are.says whole))
-  sealed_ahead (Some Neither) are = absurd are
-  sealed_ahead None are = absurd (are.none log.header (spelled C left log says))
+module _ (one : LogsReadOneWay) (C : ℕ) (changes : List Change) (header : LogHeader) (front : List Entry) (durable : ℕ) (left others : List ℕ) (read : RowsRead) (columns : header.columns ≡ C) (is : IsLog header front left) (whole : IsTrue ((header.base == 0) || list_any is_seal front)) (rows : rows_after header front empty ≡ after C (take (number_after header.base front) changes)) (enough : durable ≤ number_after header.base front) (smaller : (other : LogRead) → Says C others other → other.header.generation < header.generation) where
+  whole_spelled : Spells C left header
+  whole_spelled = record { entries = front; log = is; columns = columns }
 
-  sealed_behind : (source : Option Source) → AreRows C others left source read → AreFirst C changes (last_number log) read
-  sealed_behind (Some Newer) are = absurd (omega (arith, smaller are.log are.says, are.newest log.header (spelled C left log says)))
-  sealed_behind (Some Older) are = absurd (omega (arith, smaller are.newer are.says, are.newest log.header (spelled C left log says)))
-  sealed_behind (Some Both) are = absurd (omega (arith, smaller are.newer are.says, are.newest log.header (spelled C left log says)))
-  sealed_behind (Some Neither) are = absurd are
-  sealed_behind None are = absurd (are.other_none log.header (spelled C left log says))
+  whole_ahead : (source : Option Source) → AreRows C left others source read → AreFirst C changes durable read
+  whole_ahead (Some Newer) are =
+      are_first C changes durable (number_after header.base front) read (are.rows.commits ∙ sym (same_last one C left header front are.log is are.says)) enough
+      (are.rows.rows ∙ sym (same_rows one C left header front are.log is are.says) ∙ rows)
+  whole_ahead (Some Older) are = absurd (are.rows.0 (same_whole one C left header front are.newer is are.says whole))
+  whole_ahead (Some Both) are = absurd (are.rows.0 (same_whole one C left header front are.newer is are.says whole))
+  whole_ahead (Some Neither) are = absurd are
+  whole_ahead None are = absurd (are.none header whole_spelled)
+
+  whole_behind : (source : Option Source) → AreRows C others left source read → AreFirst C changes durable read
+  whole_behind (Some Newer) are = absurd (omega (arith, smaller are.log are.says, are.newest header whole_spelled))
+  whole_behind (Some Older) are = absurd (omega (arith, smaller are.newer are.says, are.newest header whole_spelled))
+  whole_behind (Some Both) are = absurd (omega (arith, smaller are.newer are.says, are.newest header whole_spelled))
+  whole_behind (Some Neither) are = absurd are
+  whole_behind None are = absurd (are.other_none header whole_spelled)
+
+  pub of_whole : AreRead C left others read → AreFirst C changes durable read
+  of_whole are = elim are.1 [
+    | inl ahead ↦ whole_ahead are.0 ahead
+    | inr behind ↦ whole_behind are.0 behind
+  ]
+
+pub from_first : (base : ℕ) (sealed : Bool) → base ≡ 0 → IsTrue ((base == 0) || sealed)
+from_first base sealed is = subst (λ (n : ℕ). IsTrue ((n == 0) || sealed)) (sym is) refl
+
+pub has_seal : (a b : Bool) → b ≡ true → IsTrue (a || b)
+has_seal true b is = refl
+has_seal false b is = is
 
 -- ---- the laws
-pub first_logs : LogsReadOneWay → FirstLogsHaveTheRows → FirstLogsSurvive
-first_logs one first C changes header entries durable left others read whole base survives none are = elim are.1 [
-  | inl ahead ↦ first_ahead one first C changes header entries durable left others read whole survives base none are.0 ahead
-  | inr behind ↦ first_behind one first C changes header entries durable left others read whole survives base none are.0 behind
-]
-
 pub checkpoints : LogsReadOneWay → FirstLogsHaveTheRows → LaterLogsHaveTheRows → CheckpointsSurvive
-checkpoints one first later C changes older header entries durable left others read whole base generation before survives said are = elim are.1 [
-  | inl ahead ↦ checkpoint_ahead one first C changes header entries durable left others read whole survives later older base generation before said are.0 ahead
-  | inr behind ↦ checkpoint_behind one first C changes header entries durable left others read whole survives later older base generation before said are.0 behind
-]
+checkpoints one first later C changes older header entries durable left others read whole base generation before survives said =
+    checkpoint_of one first C changes header entries durable left others read whole survives later older.header older.entries.items base generation before said.spells said.columns
 
 pub sealed_logs : LogsReadOneWay → SealedLogsSurvive
-sealed_logs one C changes log left others read says whole rows smaller are = elim are.1 [
-  | inl ahead ↦ sealed_ahead one C changes log left others read says whole rows smaller are.0 ahead
-  | inr behind ↦ sealed_behind one C changes log left others read says whole rows smaller are.0 behind
-]
+sealed_logs one C changes log left others read says whole rows smaller =
+    let all : last_number log ≤ last_number log = omega arith in
+    of_whole one C changes log.header log.entries.items (last_number log) left others read says.columns says.spells whole rows all smaller
+
+pub first_logs : LogsReadOneWay → CommitsAreRedone → FirstLogsSurvive
+first_logs one redone C changes header entries durable left others read whole base survives smaller =
+    let front = take survives.count entries in
+    of_whole one C changes header front durable left others read whole.columns survives.log (from_first header.base (list_any is_seal front) base)
+    (rows_from_first redone C changes header front base (front_unsealed survives.count entries whole.unsealed) (have_front C changes header.base survives.count entries whole.commits))
+    (omega (arith, survives.kept, last_is header.base front)) smaller
+
+pub grown_logs : LogsReadOneWay → LogsHaveTheirFronts → CommitsAreRedone → GrownLogsSurvive
+grown_logs one fronts redone C changes header first later durable left rest others read sealed says survives begins smaller =
+    let entries = first ++ later in
+    let read_front = fronts header first (take survives.count entries) left rest says survives.log begins in
+    let j = survives.count - length first in
+    let is : take survives.count entries ≡ first ++ take j later = front_over first later read_front.0 survives.count read_front.1 in
+    let whole : list_any is_seal (first ++ take j later) ≡ true = list_any-append is_seal first (take j later) ∙ ap (λ (b : Bool). b || list_any is_seal (take j later)) sealed.sealed in
+    of_whole one C changes header (first ++ take j later) durable left others read sealed.columns
+    (subst (λ (l : List Entry). IsLog header l left) is survives.log) (has_seal (header.base == 0) (list_any is_seal (first ++ take j later)) whole)
+    (grown_rows redone C changes header first later j sealed)
+    (omega (arith, survives.kept, last_is header.base (take survives.count entries), ap (number_after header.base) is)) smaller

@@ -1,5 +1,5 @@
 -- The first entries of a log that has no seal.
-use Rattle.std.proofs.Common.{◌≡◌, ◌∙◌, ◌++◌, ◌+◌, ◌-◌, ◌||◌, ◌==◌, ℕ, Bool, true, false, List, length, take, drop, refl, sym, ap, arith, append_assoc, IsTrue, inl, inr}
+use Rattle.std.proofs.Common.{◌≡◌, ◌∙◌, ◌++◌, ◌-◌, ◌||◌, ◌==◌, ℕ, Bool, true, false, List, length, take, drop, refl, sym, ap, arith, append_assoc, IsTrue, inl, inr}
 use Rattle.std.specs.List.{list_any}
 use Rattle.std.proofs.Math.Seq.{take-append_seam}
 use Rattle.std.proofs.lemmas.Bool.Decides.{eqb_tells}

@@ -1,3 +1,6 @@
 -- What a crash leaves of a folder.
-mod FrontLemmas
-mod CrashLemmas
+pub mod FrontLemmas
+pub mod CopiedLemmas
+pub mod PartLemmas
+pub mod GrownLemmas
+pub mod CrashLemmas

@@ -12,7 +12,7 @@ use Rattle.mt_replay.specs.RedoLaws.{HaveCommits}
 use Rattle.mt_folder.specs.declared.log.LogRead.{LogRead}
 use Rattle.mt_folder.specs.declared.reading.RowsRead.{RowsRead}
 use Rattle.mt_folder.specs.declared.source.Source.{Source}
-use Rattle.mt_folder.specs.Files.{AreRows, HasNone, Says}
+use Rattle.mt_folder.specs.Files.{AreRows, Says}
 use Rattle.mt_folder.specs.Logs.{is_whole, last_number, rows_left}
 
 -- these rows are read of the two files, either of which may have the newer log
@@ -31,12 +31,13 @@ pub record IsUnsealed (C : ℕ) (changes : List Change) (header : LogHeader) (en
   pub commits : HaveCommits C changes header.base entries
   pub unsealed : list_any is_seal entries ≡ false
 
--- A LOG FROM THE FIRST COMMIT ON, of which a crash has left this, beside a file without a log
+-- A LOG FROM THE FIRST COMMIT ON, of which a crash has left this, beside a file without a newer log
 abbrev pub FirstLogsSurvive : Type 0
 FirstLogsSurvive =
     (C : ℕ) (changes : List Change) (header : LogHeader) (entries : List Entry) (durable : ℕ) (left others : List ℕ) (read : RowsRead)
     → IsUnsealed C changes header entries → header.base ≡ 0
-    → Survives header entries durable left → HasNone C others
+    → Survives header entries durable left
+    → ((other : LogRead) → Says C others other → other.header.generation < header.generation)
     → AreRead C left others read → AreFirst C changes durable read
 
 -- A LOG WHOSE CHECKPOINT IS IN PROGRESS, of which a crash has left this, beside the whole log that it continues

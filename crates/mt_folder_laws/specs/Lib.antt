@@ -1,2 +1,4 @@
 -- What a crash leaves of a folder, and what is read of it.
+pub mod Copied
 pub mod Crashes
+pub mod Grown

@@ -1,1 +1,3 @@
 pub mod MovingLemmas
+mod RoleLemmas
+pub mod ChangeLemmas

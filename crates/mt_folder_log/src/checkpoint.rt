@@ -1,27 +1,29 @@
 //! How the log of a folder is shortened: it continues in the other file, and the rows are copied there between commits.
 
-ghost use Rattle.std.specs.Prelude.{◌≡◌, false, List, [], length, nat_lt, None, Err, OnOk, OnErr, IfOk, IsTrue};
+ghost use Rattle.std.specs.Prelude.{◌≡◌, ◌⊎◌, false, List, [], length, nat_lt, None, Err, OnOk, OnErr, IfOk, IsTrue};
 ghost use Rattle.mt_frame.specs.declared.entry.Entry.{Entry};
 ghost use Rattle.mt_frame.specs.declared.entry.LogHeader.{LogHeader};
 ghost use Rattle.mt_journal.specs.Appending.{with_part, with_seal};
 ghost use Rattle.mt_journal.specs.Causes.{may_ask};
-ghost use Rattle.mt_journal.specs.Keeping.{AllAreLogs, Keeps};
+ghost use Rattle.mt_journal.specs.Keeping.{AllAreLogs, AllSurvive, Keeps};
 ghost use Rattle.mt_journal.specs.Recovery.{Mixes};
-ghost use Rattle.mt_folder_log.specs.Moving.{continued, disk_of, end_of, full_as_such, start_of, IfFree, IfNeeded, IsAfter, IsFree, MayMoveTo, Needs};
+ghost use Rattle.mt_types.specs.declared.row.Change.{Change};
+ghost use Rattle.mt_folder_log.specs.Folder.{AllRecover, AreNextRows, HasAll, HasChanges};
+ghost use Rattle.mt_folder_log.specs.Moving.{continued, disk_of, end_of, start_of, IfFree, IfNeeded, IsAfter, IsFree, IsOfSpare, MayMoveTo, Needs};
 ghost use Rattle.mt_folder_log.specs.declared.checkpoint.Other.TheVariants.{Needed};
 ghost use Rattle.mt_folder_log.specs.declared.checkpoint.TheConstants.{PART};
 
 use crate::log::FolderLog;
+use crate::starting::{as_full, cut, end_of, rows_after, start_over};
 use bytes::Bytes;
+use mt_folder::opening::Spare;
 use mt_frame::entry::{LogHeader, Part};
 use mt_journal::error::JournalError;
 use mt_journal::journal::Journal;
-use mt_journal::opening::start;
-use mt_journal::position::Position;
 use mt_types::copying::TryCopy;
 use mt_types::key::Key;
 use mt_types::refusal::Refusal;
-use sqlite_disk::{Disk, is_no_room};
+use sqlite_disk::Disk;
 use std::alloc::Global;
 use std::mem;
 
@@ -62,6 +64,16 @@ pub(crate) enum Other<D: Disk + Drop> {
 }
 
 impl<D: Disk + Drop> Other<D> {
+    // The other file of a log that was opened.
+    pub(crate) fn of(spare: Spare<D>, least: usize) -> Other<D>
+        ensures { IsOfSpare spare result }
+    {
+        match spare {
+            Spare::Free { disk, size } => Other::free(disk, size, least),
+            Spare::Needed { disk } => Other::needed(disk),
+        }
+    }
+
     // The log, which ends there, couldn't move to this file. It is tried again when the log has grown by `least` bytes.
     fn later(disk: D, end: usize, least: usize) -> Other<D>
         ensures { IsFree result }
@@ -73,7 +85,7 @@ impl<D: Disk + Drop> Other<D> {
     }
 
     // The log of rows that took `size` bytes has all of them.
-    pub(crate) fn free(disk: D, size: usize, least: usize) -> Other<D>
+    fn free(disk: D, size: usize, least: usize) -> Other<D>
         ensures free { IsFree result }
         ensures disk { MayMoveTo disk result }
     {
@@ -94,6 +106,14 @@ impl<D: Disk + Drop> Other<D> {
                 ..
             } => Other::free(disk, size, least),
             other => other,
+        }
+    }
+
+    // How many rows of this part weren't copied before.
+    fn more(&self, part: &Part) -> u64 {
+        match self {
+            Other::Needed { last, .. } => rows_after(part, last),
+            _ => 0,
         }
     }
 
@@ -133,7 +153,7 @@ impl<D: Disk + Drop> Other<D> {
     }
 
     // No row was copied.
-    pub(crate) fn needed(disk: D) -> Other<D>
+    fn needed(disk: D) -> Other<D>
         ensures begun { result ≡ Needed disk None 0 false }
         ensures needs { Needs result (λ it. it ≡ disk) }
     {
@@ -143,68 +163,6 @@ impl<D: Disk + Drop> Other<D> {
             copied: 0,
             has_all: false,
         }
-    }
-}
-
-// How many rows of a part are after this key.
-fn rows_after(part: &Part, last: &Option<Key>) -> u64 {
-    let rows = part.rows.len() as u64;
-    match (part.rows.as_slice().first(), last) {
-        (Some((key, _)), Some(last)) if key == last => rows.saturating_sub(1),
-        _ => rows,
-    }
-}
-
-// The key of the last row of a part.
-fn end_of(alloc: Global, part: &Part) -> Result<Option<Key>, JournalError>
-    ensures { IfOk result (λ end. end ≡ end_of part.now) }
-{
-    let Some((key, _)) = part.rows.as_slice().last() else {
-        return Ok(None);
-    };
-    match key.copy(alloc) {
-        Ok(key) => Ok(Some(key)),
-        Err(_) => Err(JournalError::NoMemory),
-    }
-}
-
-// Makes a log in a file. Its bytes go first, so that only as many zeros are written to it as to a new one.
-fn start_over<D: Disk>(
-    alloc: Global,
-    file: &mut D,
-    header: LogHeader,
-) -> Result<Position, JournalError>
-    ensures kept { IfOk result (λ at. Keeps at (D.Disk.seen file.new) (D.Disk.may_leave file.new) header []) }
-    ensures newest { IfOk result (λ at. at.newest ≡ header.base) }
-    ensures again { result ≡ Err JournalError.NoMemory → IsTrue (D.Disk.is_usable file.new) }
-{
-    if !file.may_be_used() {
-        return Err(JournalError::GivenUp);
-    }
-    file.set_len(0)?;
-    start(alloc, file, header)
-}
-
-// What is left of a file in which no log could be made: it is cut, so that it takes no room of a full disk.
-fn cut<D: Disk>(file: &mut D)
-    ensures { IsTrue (D.Disk.is_usable file.old) → IsTrue (D.Disk.is_usable file.new) }
-{
-    if file.may_be_used() {
-        let _cut = file.set_len(0);
-    }
-}
-
-// The error of a disk that has no room, if it is one: the call can be made again.
-fn as_full(error: JournalError) -> JournalError
-    ensures { result ≡ full_as_such error }
-{
-    match error {
-        JournalError::Disk(cause) => if is_no_room(&cause) {
-            JournalError::DiskFull
-        } else {
-            JournalError::Disk(cause)
-        },
-        other => other,
     }
 }
 
@@ -219,6 +177,7 @@ impl<D: Disk + Drop> FolderLog<D> {
     /// `DiskFull` if there is no room for the other file, it is tried again when the log has grown, or by this call. If the other
     /// file has failed, no checkpoint is made any more: `GivenUp`. `TooLong` if the log has the last generation.
     pub fn begin(&mut self) -> Result<(), JournalError>
+        ensures columns { self.new.columns ≡ self.old.columns }
         ensures newest { OnOk result (self.new.journal.at.newest ≡ self.old.journal.at.newest) }
 
         // Whatever a crash leaves of the file before is the whole log before.
@@ -228,12 +187,20 @@ impl<D: Disk + Drop> FolderLog<D> {
         ensures begins { IfFree self.old.other (OnOk result (Keeps self.new.journal.at (D.Disk.seen self.new.journal.disk)
             (D.Disk.may_leave self.new.journal.disk) (continued self.old.columns self.old.journal.at) [])) }
 
-        // If the log hasn't moved, it has the entries that it had. If memory was refused, the call can be made again.
+        // If the log hasn't moved, it has the entries that it had. If memory was refused, or the disk had no room, the call can be
+        // made again.
         ensures stays { (header : LogHeader) (entries : List Entry)
             → Keeps self.old.journal.at (D.Disk.seen self.old.journal.disk) (D.Disk.may_leave self.old.journal.disk) header entries
             → IsTrue (may_ask self.new.journal.is_given_up (D.Disk.is_usable self.new.journal.disk))
             → OnErr result (Keeps self.new.journal.at (D.Disk.seen self.new.journal.disk) (D.Disk.may_leave self.new.journal.disk) header entries) }
         ensures again { IfFree self.old.other (result ≡ Err JournalError.NoMemory → IsFree self.new.other) }
+        ensures full { IfFree self.old.other (result ≡ Err JournalError.DiskFull → IsFree self.new.other) }
+
+        // The folder has the same changes; and if the call failed, whatever a crash leaves has all that were durable.
+        ensures changes { (changes : List Change) → HasChanges D.Disk.seen D.Disk.may_leave changes self.old
+            → OnOk result (HasChanges D.Disk.seen D.Disk.may_leave changes self.new) }
+        ensures recover { (changes : List Change) → HasChanges D.Disk.seen D.Disk.may_leave changes self.old
+            → OnErr result (AllRecover D.Disk.may_leave changes self.old.journal.at.durable self.old.journal.at.generation self.new) }
     {
         let at = self.journal.position();
         let Some(generation) = at.generation.checked_add(1) else {
@@ -261,11 +228,14 @@ impl<D: Disk + Drop> FolderLog<D> {
     // grown.
     fn move_to(&mut self, disk: D, header: LogHeader) -> Result<(), JournalError>
         ensures newest { OnOk result (self.new.journal.at.newest ≡ header.base) }
-        ensures before { OnOk result (Needs self.new.other (λ disk. disk ≡ self.old.journal.disk)) }
+        ensures before { OnOk result (self.new.other ≡ Needed self.old.journal.disk None 0 false) }
+        ensures columns { self.new.columns ≡ self.old.columns }
+        ensures spare { OnErr result ((self.new.other ≡ self.old.other) ⊎ IsFree self.new.other) }
         ensures begins { OnOk result (Keeps self.new.journal.at (D.Disk.seen self.new.journal.disk)
             (D.Disk.may_leave self.new.journal.disk) header []) }
         ensures stays { OnErr result (self.new.journal ≡ self.old.journal) }
         ensures again { result ≡ Err JournalError.NoMemory → IsFree self.new.other }
+        ensures full { result ≡ Err JournalError.DiskFull → IsFree self.new.other }
     {
         let mut disk = disk;
         match start_over(self.alloc, &mut disk, header) {
@@ -318,15 +288,21 @@ impl<D: Disk + Drop> FolderLog<D> {
             → Keeps self.old.journal.at (D.Disk.seen self.old.journal.disk) (D.Disk.may_leave self.old.journal.disk) header entries
             → IsTrue (may_ask self.new.journal.is_given_up (D.Disk.is_usable self.new.journal.disk))
             → OnErr result (Keeps self.new.journal.at (D.Disk.seen self.new.journal.disk) (D.Disk.may_leave self.new.journal.disk) header entries) }
+        ensures columns { self.new.columns ≡ self.old.columns }
         ensures newest { OnOk result (self.new.journal.at.newest ≡ self.old.journal.at.newest) }
         ensures after { OnOk result (IsAfter (end_of part) (nat_lt (length part.rows) PART) self.old.other self.new.other) }
+        ensures changes { (changes : List Change) → HasChanges D.Disk.seen D.Disk.may_leave changes self.old
+            → AreNextRows self.old.columns changes self.old.journal.at.newest self.old.other part
+            → IsTrue (D.Disk.is_mixing self.new.journal.disk)
+            → IfNeeded self.old.other (λ copied. OnOk result (HasChanges D.Disk.seen D.Disk.may_leave changes self.new)) }
+        ensures recover { (changes : List Change) → HasChanges D.Disk.seen D.Disk.may_leave changes self.old
+            → IsTrue (D.Disk.is_mixing self.new.journal.disk)
+            → IfNeeded self.old.other (λ copied. OnErr result (AllRecover D.Disk.may_leave changes self.old.journal.at.durable
+            self.old.journal.at.generation self.new)) }
     {
         let is_last = part.rows.len() < usize::from(PART);
         let end = end_of(self.alloc, &part)?;
-        let more = match &self.other {
-            Other::Needed { last, .. } => rows_after(&part, last),
-            _ => 0,
-        };
+        let more = self.other.more(&part);
         self.journal.append_rows(self.alloc, part)?;
         let other = mem::replace(&mut self.other, Other::Gone);
         self.other = other.after(end, more, is_last);
@@ -348,8 +324,13 @@ impl<D: Disk + Drop> FolderLog<D> {
             → Keeps self.old.journal.at (D.Disk.seen self.old.journal.disk) (D.Disk.may_leave self.old.journal.disk) header entries
             → IsTrue (may_ask self.new.journal.is_given_up (D.Disk.is_usable self.new.journal.disk))
             → OnErr result (Keeps self.new.journal.at (D.Disk.seen self.new.journal.disk) (D.Disk.may_leave self.new.journal.disk) header entries) }
+        ensures crash { (header : LogHeader) (entries : List Entry)
+            → Keeps self.old.journal.at (D.Disk.seen self.old.journal.disk) (D.Disk.may_leave self.old.journal.disk) header entries
+            → Mixes D.Disk.is_mixing
+            → OnErr result (AllSurvive header (with_seal copied entries) self.old.journal.at.durable (D.Disk.may_leave self.new.journal.disk)) }
         ensures newest { OnOk result (self.new.journal.at.newest ≡ self.old.journal.at.newest) }
         ensures other { self.new.other ≡ self.old.other }
+        ensures columns { self.new.columns ≡ self.old.columns }
     {
         self.journal.append_seal(self.alloc, copied)?;
         self.journal.sync()?;
@@ -362,6 +343,7 @@ impl<D: Disk + Drop> FolderLog<D> {
     ///
     /// Those of [`mt_journal::journal::Journal::append_seal`] and [`FolderLog::sync`].
     pub fn seal(&mut self) -> Result<(), JournalError>
+        ensures columns { self.new.columns ≡ self.old.columns }
         ensures newest { OnOk result (self.new.journal.at.newest ≡ self.old.journal.at.newest) }
 
         // Whatever a crash leaves now is the sealed log, when the other file is free.
@@ -376,6 +358,15 @@ impl<D: Disk + Drop> FolderLog<D> {
             → Keeps self.old.journal.at (D.Disk.seen self.old.journal.disk) (D.Disk.may_leave self.old.journal.disk) header entries
             → IsTrue (may_ask self.new.journal.is_given_up (D.Disk.is_usable self.new.journal.disk))
             → OnErr result (Keeps self.new.journal.at (D.Disk.seen self.new.journal.disk) (D.Disk.may_leave self.new.journal.disk) header entries) }
+
+        // If all rows were copied, the folder has the same changes; and if the call failed, whatever a crash leaves has all that
+        // were durable.
+        ensures changes { (changes : List Change) → HasChanges D.Disk.seen D.Disk.may_leave changes self.old
+            → HasAll self.old.other → Mixes D.Disk.is_mixing
+            → OnOk result (HasChanges D.Disk.seen D.Disk.may_leave changes self.new) }
+        ensures recover { (changes : List Change) → HasChanges D.Disk.seen D.Disk.may_leave changes self.old
+            → HasAll self.old.other → Mixes D.Disk.is_mixing
+            → OnErr result (AllRecover D.Disk.may_leave changes self.old.journal.at.durable self.old.journal.at.generation self.new) }
     {
         let copied = match &self.other {
             Other::Needed { copied, .. } => *copied,

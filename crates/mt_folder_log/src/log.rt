@@ -1,10 +1,13 @@
 //! The log of a folder: commits are appended and made durable.
 
-ghost use Rattle.std.specs.Prelude.{◌≡◌, ◌⊎◌, ◌+◌, ◌^◌, ◌≤◌, List, length, OnOk, OnErr, IfOk, IsTrue, IsFalse};
+ghost use Rattle.std.specs.Prelude.{◌≡◌, ◌⊎◌, ◌+◌, ◌^◌, ◌≤◌, ℕ, List, [], length, OnOk, OnErr, IfOk, IsTrue, IsFalse};
 ghost use Rattle.mt_frame.specs.declared.entry.Entry.{Entry};
 ghost use Rattle.mt_frame.specs.declared.entry.LogHeader.{LogHeader};
 ghost use Rattle.mt_journal.specs.Appending.{with_commits};
 ghost use Rattle.mt_journal.specs.Causes.{may_ask, next_commits, AppendHasCause, GoesOn, IsTooLong, SyncHasCause};
+ghost use Rattle.mt_types.specs.declared.row.Change.{Change};
+ghost use Rattle.mt_folder.specs.Spares.{is_needed};
+ghost use Rattle.mt_folder_log.specs.Folder.{AllRecover, AreNext, HasChanges};
 ghost use Rattle.mt_folder_log.specs.Moving.{disk_of, round_of, IsOfSpare};
 ghost use Rattle.mt_journal.specs.Keeping.{AllAreLogs, AllSurvive, Keeps};
 
@@ -41,17 +44,19 @@ impl<D: Disk + Drop> FolderLog<D> {
     ) -> FolderLog<D>
         ensures journal { result.journal ≡ journal }
         ensures other { IsOfSpare spare result.other }
+        ensures columns { result.columns ≡ columns }
         ensures least { result.least ≡ least }
+
+        // A folder whose first log has no entries keeps any changes, of which it has none yet.
+        ensures begins { Keeps journal.at (D.Disk.seen journal.disk) (D.Disk.may_leave journal.disk)
+            (record { columns = columns; generation = 0; base = 0; run = 0 }) [] → IsFalse (is_needed spare)
+            → (changes : List Change) → HasChanges D.Disk.seen D.Disk.may_leave changes result }
     {
-        let other = match spare {
-            Spare::Free { disk, size } => Other::free(disk, size, least),
-            Spare::Needed { disk } => Other::needed(disk),
-        };
         FolderLog {
             alloc,
             columns,
             journal,
-            other,
+            other: Other::of(spare, least),
             least,
         }
     }
@@ -62,6 +67,8 @@ impl<D: Disk + Drop> FolderLog<D> {
         ensures survive { (header : LogHeader) (entries : List Entry)
             → Keeps self.now.journal.at (D.Disk.seen self.now.journal.disk) (D.Disk.may_leave self.now.journal.disk) header entries
             → AllSurvive header entries result.durable (D.Disk.may_leave self.now.journal.disk) }
+        ensures recover { (changes : List Change) → HasChanges D.Disk.seen D.Disk.may_leave changes self.now
+            → AllRecover D.Disk.may_leave changes result.durable result.generation self.now }
     {
         self.journal.position()
     }
@@ -83,6 +90,13 @@ impl<D: Disk + Drop> FolderLog<D> {
             → IsTrue (D.Disk.is_mixing self.new.journal.disk)
             → AllSurvive header (with_commits self.old.journal.at records entries) self.old.journal.at.durable
             (D.Disk.may_leave self.new.journal.disk) }
+        ensures columns { self.new.columns ≡ self.old.columns }
+        ensures changes { (changes : List Change) → HasChanges D.Disk.seen D.Disk.may_leave changes self.old
+            → AreNext self.old.columns changes self.old.journal.at.newest records → IsTrue (D.Disk.is_mixing self.new.journal.disk)
+            → OnOk result (HasChanges D.Disk.seen D.Disk.may_leave changes self.new) }
+        ensures recover { (changes : List Change) → HasChanges D.Disk.seen D.Disk.may_leave changes self.old
+            → AreNext self.old.columns changes self.old.journal.at.newest records → IsTrue (D.Disk.is_mixing self.new.journal.disk)
+            → AllRecover D.Disk.may_leave changes self.old.journal.at.durable self.old.journal.at.generation self.new }
         ensures stays { (header : LogHeader) (entries : List Entry)
             → Keeps self.old.journal.at (D.Disk.seen self.old.journal.disk) (D.Disk.may_leave self.old.journal.disk) header entries
             → IsTrue (may_ask self.new.journal.is_given_up (D.Disk.is_usable self.new.journal.disk))
@@ -115,6 +129,12 @@ impl<D: Disk + Drop> FolderLog<D> {
         ensures whole { (header : LogHeader) (entries : List Entry)
             → Keeps self.old.journal.at (D.Disk.seen self.old.journal.disk) (D.Disk.may_leave self.old.journal.disk) header entries
             → OnOk result (AllAreLogs header entries (D.Disk.may_leave self.new.journal.disk)) }
+        ensures fewer { (left : List ℕ) → D.Disk.may_leave self.new.journal.disk left → D.Disk.may_leave self.old.journal.disk left }
+        ensures columns { self.new.columns ≡ self.old.columns }
+        ensures changes { (changes : List Change) → HasChanges D.Disk.seen D.Disk.may_leave changes self.old
+            → OnOk result (HasChanges D.Disk.seen D.Disk.may_leave changes self.new) }
+        ensures recover { (changes : List Change) → HasChanges D.Disk.seen D.Disk.may_leave changes self.old
+            → AllRecover D.Disk.may_leave changes self.old.journal.at.durable self.old.journal.at.generation self.new }
         ensures number { IfOk result (λ number. number ≡ self.old.journal.at.newest) }
         ensures durable { OnOk result (self.new.journal.at.durable ≡ self.old.journal.at.newest) }
         ensures newest { OnOk result (self.new.journal.at.newest ≡ self.old.journal.at.newest) }

@@ -10,7 +10,7 @@ use Rattle.mt_frame.specs.Fits.{HasFrame}
 use Rattle.mt_frame.specs.Ends.{ends}
 use Rattle.mt_frame.proofs.FrameLaws.{frames_read_one_way, frames_do_not_end}
 use Rattle.mt_journal.specs.Log.{last_number, AreNumbered, HaveFrames, header_frame, log_spelling, MaySay}
-use Rattle.mt_journal.specs.Laws.{LogsReadOneWay}
+use Rattle.mt_journal.specs.Laws.{LogsHaveTheirFronts, LogsReadOneWay}
 
 -- ---- one list of frames after another
 
@@ -203,6 +203,16 @@ frames_ahead generation place (x ∷ xs) (y ∷ ys) a b have_x have_y ends_b e =
       parts = more.parts ∙ ap (λ (q : ℕ). frames_of generation q more.more ++ b) here;
       have = subst (λ (q : ℕ). HaveFrames generation q more.more) here more.have;
     }
+
+pub logs_have_their_fronts : LogsHaveTheirFronts
+logs_have_their_fronts header first entries bytes rest says log begins =
+    let h = header_frame header in
+    let fs = frames_of header.generation (length h) first in
+    let gs = frames_of header.generation (length h) entries in
+    let apart : h ++ (fs ++ rest) ≡ h ++ (gs ++ log.rest) = sym (append_assoc h fs rest) ∙ sym begins ∙ log.parts ∙ append_assoc h gs log.rest in
+    let same = (frames_read_one_way 0 0 (Header header) (Header header) (fs ++ rest) (gs ++ log.rest) says.begins says.begins apart).1 in
+    let ahead = frames_ahead header.generation (length h) first entries rest log.rest says.have log.says.have log.ended same in
+    (ahead.more, ahead.joined)
 
 pub numbered_rest : (n : ℕ) (xs ys : List Entry) → AreNumbered n (xs ++ ys) → AreNumbered (last_number n xs) ys
 numbered_rest n [] ys are = are

@@ -11,7 +11,7 @@ use Rattle.mt_frame.specs.Fits.{HasFrame}
 use Rattle.mt_frame.specs.Laws.{OldOrNew}
 use Rattle.mt_journal.specs.declared.position.Position.{Position}
 use Rattle.mt_journal.specs.Log.{last_number, AreNumbered, log_spelling, MaySay, IsLog}
-use Rattle.mt_journal.specs.Keeping.{IsTorn, Keeps, HasZeros, AllAreLogs, AllSurvive}
+use Rattle.mt_journal.specs.Keeping.{IsTorn, Keeps, KeepsFronts, HasZeros, AllAreLogs, AllSurvive}
 use Rattle.mt_journal.proofs.Frames.{frames_append, log_append, says_next, last_append, last_least}
 use Rattle.mt_journal.proofs.Torn.{ends_at_zeros, survives}
 use Rattle.mt_journal.proofs.Writes.{same_front, holds_over, mixed_zeros}
@@ -152,7 +152,7 @@ torn_after header synced since room n d left torn written =
     let size : room ≡ length front = omega (arith, torn.room_is, length-append log (torn.torn ++ replicate torn.zeros 0), length-append torn.torn (replicate torn.zeros 0), length-replicate {A = ℕ} torn.zeros 0) in
     let regroup : (rest : List ℕ) → front ++ rest ≡ log ++ (torn.torn ++ (replicate torn.zeros 0 ++ rest)) = λ rest.
     append_assoc log (torn.torn ++ replicate torn.zeros 0) rest ∙ ap (λ (l : List ℕ). log ++ l) (append_assoc torn.torn (replicate torn.zeros 0) rest) in
-    let same = same_front front torn.rest left room n size (subst (λ (l : List ℕ). Torn room n l left) (torn.parts ∙ sym (regroup torn.rest)) written) in
+    let same = same_front front torn.rest left room n (omega (arith, size)) (subst (λ (l : List ℕ). Torn room n l left) (torn.parts ∙ sym (regroup torn.rest)) written) in
     record {
       torn = torn.torn;
       zeros = torn.zeros;
@@ -169,7 +169,7 @@ room_front at seen new may header entries n keeps torn =
     let log = log_spelling header entries in
     let front = log ++ replicate keeps.zeros 0 in
     let size : at.room ≡ length front = omega (arith, keeps.room, keeps.end, length-append log (replicate keeps.zeros 0), length-replicate {A = ℕ} keeps.zeros 0) in
-    let same = same_front front keeps.rest new at.room n size (subst (λ (l : List ℕ). Torn at.room n l new) (keeps.seen_is ∙ sym (append_assoc log (replicate keeps.zeros 0) keeps.rest)) torn) in
+    let same = same_front front keeps.rest new at.room n (omega (arith, size)) (subst (λ (l : List ℕ). Torn at.room n l new) (keeps.seen_is ∙ sym (append_assoc log (replicate keeps.zeros 0) keeps.rest)) torn) in
     (drop (length front) new, same, ap (λ (k : ℕ). drop k new) (sym size))
 
 pub kept_after : (at : Position) (seen new : List ℕ) (may more : List ℕ → Type 0) (header : LogHeader) (entries : List Entry) (n : ℕ) → Keeps at seen may header entries
@@ -303,3 +303,17 @@ durable_after at seen may new header entries keeps which = elim which [
   | inl same ↦ omega (arith, same)
   | inr newer ↦ omega (arith, newer, durable_least at seen may header entries keeps)
 ]
+
+-- ---- what a crash leaves before a place
+
+pub fronts_kept : (place n : ℕ) (may more : List ℕ → Type 0) → Follows (Torn place n) may more → KeepsFronts place may more
+fronts_kept place n may more follows = λ front fits begins left may_left.
+    let from = follows left may_left in
+    let was = begins from.0 from.1 in
+    (drop (length front) left, same_front front was.0 left place n fits (subst (λ (l : List ℕ). Torn place n l left) was.1 from.2))
+
+pub fewer_fronts : (place : ℕ) (may more : List ℕ → Type 0) → ((left : List ℕ) → more left → may left) → KeepsFronts place may more
+fewer_fronts place may more fewer = λ front fits begins left may_left. begins left (fewer left may_left)
+
+pub fronts_then : (place room : ℕ) (first second third : List ℕ → Type 0) → place ≤ room → KeepsFronts room first second → KeepsFronts place second third → KeepsFronts place first third
+fronts_then place room first second third le one two = λ front fits begins. two front fits (one front (omega (arith, fits, le)) begins)

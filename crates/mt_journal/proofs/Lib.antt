@@ -1,5 +1,5 @@
 -- Logs as lists of frames.
-mod Frames
+pub mod Frames
 -- What a write leaves of a list of bytes.
 mod Writes
 -- What a crash leaves of a log, and the steps of a journal.

@@ -1,5 +1,5 @@
 -- What a write leaves of a list of bytes, part by part.
-use Rattle.std.proofs.Common.{◌≡◌, ◌⊎◌, ℕ, suc, ◌+◌, ◌<◌, List, [], ◌∷◌, ◌++◌, length, get_or, take, drop, refl, sym, ap, ◌∙◌, arith, inl, inr, length-append}
+use Rattle.std.proofs.Common.{◌≡◌, ◌⊎◌, ℕ, suc, ◌+◌, ◌<◌, ◌≤◌, List, [], ◌∷◌, ◌++◌, length, get_or, take, drop, refl, sym, ap, ◌∙◌, arith, inl, inr, length-append}
 use Rattle.std.proofs.lemmas.List.{append-nil, take-append-drop, length-take, length-drop, get_or_append_left, get_or-append-add, drop-drop}
 use Rattle.std.proofs.lemmas.List.Prefix.{front_from_reads, at_from_reads}
 use Rattle.sqlite_disk.specs.Disk.{Holds, Torn, Mixed}
@@ -15,11 +15,11 @@ none_left : (bytes : List ℕ) → length bytes ≡ 0 → bytes ≡ []
 none_left [] e = refl
 none_left (b ∷ bytes) e = absurd (omega (arith, e))
 
-pub same_front : (before after new : List ℕ) (at n : ℕ) → at ≡ length before → Torn at n (before ++ after) new → new ≡ before ++ drop (length before) new
-same_front before after new at n e torn =
+pub same_front : (before after new : List ℕ) (at n : ℕ) → length before ≤ at → Torn at n (before ++ after) new → new ≡ before ++ drop (length before) new
+same_front before after new at n le torn =
     let size = length-append before after in
     front_from_reads 0 new before (omega (arith, size, torn.no_shorter))
-    (λ i lt. torn.below i (omega (arith, size, lt)) (omega (arith, e, lt)) ∙ get_or_append_left before after 0 i lt)
+    (λ i lt. torn.below i (omega (arith, size, lt)) (omega (arith, le, lt)) ∙ get_or_append_left before after 0 i lt)
 
 pub torn_over : (before middle after new : List ℕ) (at n : ℕ) → at ≡ length before → length middle ≡ n → Torn at n (before ++ (middle ++ after)) new → IsOver before after new n
 torn_over before middle after new at n e len torn =
@@ -29,7 +29,7 @@ torn_over before middle after new at n e len torn =
     let b = torn.no_longer in
     let long : length new ≡ length before + n + length after = omega (arith, a, b, size, size_more, len, e) in
     let back = drop (length before) new in
-    let front = same_front before (middle ++ after) new at n e torn in
+    let front = same_front before (middle ++ after) new at n (omega (arith, e)) torn in
     let rest_reads : (i : ℕ) → i < length after → get_or new (length before + n + i) 0 ≡ get_or after i 0 = λ i lt.
     torn.above (length before + n + i) (omega (arith, size, size_more, len, lt)) (omega (arith, e))
     ∙ ap (λ (k : ℕ). get_or (before ++ (middle ++ after)) k 0) (omega (arith, len))

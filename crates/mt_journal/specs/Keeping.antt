@@ -57,3 +57,11 @@ abbrev pub HasZeros : Position → ℕ → List ℕ → LogHeader → List Entry
 HasZeros at more seen header entries =
     (zeros : ℕ) × (rest : List ℕ)
     × (seen ≡ log_spelling header entries ++ (replicate zeros 0 ++ rest)) × (at.end + zeros ≡ at.room + more)
+
+-- whatever a crash leaves begins with these bytes
+abbrev pub AllBegin : List ℕ → (List ℕ → Type 0) → Type 0
+AllBegin front may_leave = (left : List ℕ) → may_leave left → (rest : List ℕ) × (left ≡ front ++ rest)
+
+-- bytes before this place with which whatever a crash leaves began, it begins with after the call too
+abbrev pub KeepsFronts : ℕ → (List ℕ → Type 0) → (List ℕ → Type 0) → Type 0
+KeepsFronts place before after = (front : List ℕ) → length front ≤ place → AllBegin front before → AllBegin front after

@@ -4,7 +4,7 @@ ghost use Rattle.std.specs.Prelude.{◌≡◌, List, Err, OnOk, OnErr, IsTrue};
 ghost use Rattle.mt_frame.specs.declared.entry.Entry.{Entry};
 ghost use Rattle.mt_frame.specs.declared.entry.LogHeader.{LogHeader};
 ghost use Rattle.mt_frame.specs.declared.entry.Entry.TheVariants.{Rows, Sealed};
-ghost use Rattle.mt_journal.specs.Keeping.{Keeps, AllSurvive};
+ghost use Rattle.mt_journal.specs.Keeping.{Keeps, KeepsFronts, AllSurvive};
 ghost use Rattle.mt_journal.specs.Appending.{with_part, with_seal};
 ghost use Rattle.mt_journal.specs.Causes.{may_ask, IsTooLong, AppendHasCause, TellsFull, GivesUp, HasRoom, GoesOn};
 
@@ -30,6 +30,9 @@ impl<D: Disk + Drop> Journal<D> {
             → Keeps self.old.at (D.Disk.seen self.old.disk) (D.Disk.may_leave self.old.disk) header entries
             → IsTrue (D.Disk.is_mixing self.new.disk)
             → AllSurvive header (with_part part entries) self.old.at.durable (D.Disk.may_leave self.new.disk) }
+        ensures fronts { (header : LogHeader) (entries : List Entry)
+            → Keeps self.old.at (D.Disk.seen self.old.disk) (D.Disk.may_leave self.old.disk) header entries
+            → KeepsFronts self.old.at.end (D.Disk.may_leave self.old.disk) (D.Disk.may_leave self.new.disk) }
         ensures newest { OnOk result (self.new.at.newest ≡ self.old.at.newest) }
         ensures cause { AppendHasCause result
             (may_ask self.old.is_given_up (D.Disk.is_usable self.old.disk))
@@ -68,6 +71,9 @@ impl<D: Disk + Drop> Journal<D> {
             → Keeps self.old.at (D.Disk.seen self.old.disk) (D.Disk.may_leave self.old.disk) header entries
             → IsTrue (D.Disk.is_mixing self.new.disk)
             → AllSurvive header (with_seal rows entries) self.old.at.durable (D.Disk.may_leave self.new.disk) }
+        ensures fronts { (header : LogHeader) (entries : List Entry)
+            → Keeps self.old.at (D.Disk.seen self.old.disk) (D.Disk.may_leave self.old.disk) header entries
+            → KeepsFronts self.old.at.end (D.Disk.may_leave self.old.disk) (D.Disk.may_leave self.new.disk) }
         ensures newest { OnOk result (self.new.at.newest ≡ self.old.at.newest) }
         ensures cause { AppendHasCause result
             (may_ask self.old.is_given_up (D.Disk.is_usable self.old.disk))

@@ -3,7 +3,7 @@
 ghost use Rattle.std.specs.Prelude.{◌≡◌, ◌⊎◌, ◌+◌, ◌<◌, ◌^◌, ℕ, List, length, replicate, OnOk, IsTrue, IsFalse};
 ghost use Rattle.mt_frame.specs.declared.entry.Entry.{Entry};
 ghost use Rattle.mt_frame.specs.declared.entry.LogHeader.{LogHeader};
-ghost use Rattle.mt_journal.specs.Keeping.{Keeps, AllSurvive, HasZeros};
+ghost use Rattle.mt_journal.specs.Keeping.{Keeps, KeepsFronts, AllSurvive, HasZeros};
 ghost use Rattle.sqlite_disk.specs.Disk.{CountsFault};
 ghost use Rattle.sqlite_disk.specs.Tally.{CountsRefusal};
 ghost use Rattle.mt_journal.specs.Growing.{IsGrown, CountsFull, IfUnsynced};
@@ -31,6 +31,7 @@ fn write_zeros<D: Disk>(disk: &mut D, at: &Position, zeros: &[u8]) -> io::Result
     ensures ahead { (header : LogHeader) (entries : List Entry)
         → Keeps at.now (D.Disk.seen disk.old) (D.Disk.may_leave disk.old) header entries
         → OnOk result (HasZeros at.now (length zeros.now) (D.Disk.seen disk.new) header entries) }
+    ensures fronts { KeepsFronts at.now.room (D.Disk.may_leave disk.old) (D.Disk.may_leave disk.new) }
     ensures usable { IsTrue (D.Disk.is_usable disk.new) }
     ensures faults { CountsFault result (D.Disk.faults disk.old) (D.Disk.faults disk.new) }
     ensures tally { CountsRefusal result (D.Disk.tally_of disk.old) (D.Disk.tally_of disk.new) }
@@ -50,6 +51,7 @@ pub fn grow<D: Disk>(disk: &mut D, at: &mut Position, zeros: &[u8]) -> Result<()
     ensures crash { (header : LogHeader) (entries : List Entry)
         → Keeps at.old (D.Disk.seen disk.old) (D.Disk.may_leave disk.old) header entries
         → AllSurvive header entries at.old.durable (D.Disk.may_leave disk.new) }
+    ensures fronts { KeepsFronts at.old.room (D.Disk.may_leave disk.old) (D.Disk.may_leave disk.new) }
     ensures room { OnOk result (at.new.room ≡ at.old.room + length zeros.now) }
     ensures end { at.new.end ≡ at.old.end }
     ensures newest { at.new.newest ≡ at.old.newest }

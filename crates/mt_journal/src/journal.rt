@@ -7,7 +7,7 @@ ghost use Rattle.mt_frame.specs.declared.entry.Entry.TheVariants.{Closed};
 ghost use Rattle.mt_frame.specs.declared.limits.TheConstants.{MAX_RECORDS};
 ghost use Rattle.mt_frame.specs.Fits.{CountFits};
 ghost use Rattle.mt_journal.specs.Log.{AreNumbered, last_number};
-ghost use Rattle.mt_journal.specs.Keeping.{Keeps, AllAreLogs, AllSurvive};
+ghost use Rattle.mt_journal.specs.Keeping.{Keeps, KeepsFronts, AllAreLogs, AllSurvive};
 ghost use Rattle.mt_journal.specs.Appending.{with_commits, with_end};
 ghost use Rattle.mt_journal.specs.Causes.{may_ask, next_commits, LacksPlace, IsTooLong, AppendHasCause, SyncHasCause, TellsFull, GivesUp, HasRoom, GoesOn};
 
@@ -90,6 +90,7 @@ impl<D: Disk + Drop> Journal<D> {
         ensures crash { (header : LogHeader) (entries : List Entry)
             → Keeps self.old.at (D.Disk.seen self.old.disk) (D.Disk.may_leave self.old.disk) header entries
             → AllSurvive header entries self.old.at.durable (D.Disk.may_leave self.new.disk) }
+        ensures fronts { KeepsFronts self.old.at.room (D.Disk.may_leave self.old.disk) (D.Disk.may_leave self.new.disk) }
         ensures usable { OnOk result (IsTrue (D.Disk.is_usable self.new.disk)) }
         ensures end { self.new.at.end ≡ self.old.at.end }
         ensures newest { self.new.at.newest ≡ self.old.at.newest }
@@ -139,6 +140,7 @@ impl<D: Disk + Drop> Journal<D> {
         ensures crash { (header : LogHeader) (entries : List Entry)
             → Keeps self.old.at (D.Disk.seen self.old.disk) (D.Disk.may_leave self.old.disk) header entries
             → AllSurvive header entries self.old.at.durable (D.Disk.may_leave self.new.disk) }
+        ensures fronts { KeepsFronts self.old.at.room (D.Disk.may_leave self.old.disk) (D.Disk.may_leave self.new.disk) }
         ensures usable { OnOk result (IsTrue (D.Disk.is_usable self.new.disk)) }
         ensures room { OnOk result (self.new.at.end + count < self.new.at.room) }
         ensures end { self.new.at.end ≡ self.old.at.end }
@@ -189,6 +191,9 @@ impl<D: Disk + Drop> Journal<D> {
             → Keeps self.old.at (D.Disk.seen self.old.disk) (D.Disk.may_leave self.old.disk) header entries
             → IsTrue (D.Disk.is_mixing self.new.disk)
             → AllSurvive header (entries ++ entry.now ∷ []) self.old.at.durable (D.Disk.may_leave self.new.disk) }
+        ensures fronts { (header : LogHeader) (entries : List Entry)
+            → Keeps self.old.at (D.Disk.seen self.old.disk) (D.Disk.may_leave self.old.disk) header entries
+            → KeepsFronts self.old.at.end (D.Disk.may_leave self.old.disk) (D.Disk.may_leave self.new.disk) }
         ensures newest { OnOk result (self.new.at.newest ≡ self.old.at.newest + count) }
         ensures usable { OnOk result (IsTrue (D.Disk.is_usable self.new.disk)) }
         ensures fits { self.old.at.newest < 2 ^ 64 }
@@ -235,6 +240,9 @@ impl<D: Disk + Drop> Journal<D> {
             → Keeps self.old.at (D.Disk.seen self.old.disk) (D.Disk.may_leave self.old.disk) header entries
             → IsTrue (D.Disk.is_mixing self.new.disk)
             → AllSurvive header (with_commits self.old.at records entries) self.old.at.durable (D.Disk.may_leave self.new.disk) }
+        ensures fronts { (header : LogHeader) (entries : List Entry)
+            → Keeps self.old.at (D.Disk.seen self.old.disk) (D.Disk.may_leave self.old.disk) header entries
+            → KeepsFronts self.old.at.end (D.Disk.may_leave self.old.disk) (D.Disk.may_leave self.new.disk) }
         ensures number { IfOk result (λ number. number ≡ self.old.at.newest + length records) }
         ensures newest { OnOk result (self.new.at.newest ≡ self.old.at.newest + length records) }
         ensures cause { AppendHasCause result
@@ -286,6 +294,7 @@ impl<D: Disk + Drop> Journal<D> {
         ensures whole { (header : LogHeader) (entries : List Entry)
             → Keeps self.old.at (D.Disk.seen self.old.disk) (D.Disk.may_leave self.old.disk) header entries
             → OnOk result (AllAreLogs header entries (D.Disk.may_leave self.new.disk)) }
+        ensures fewer { (left : List ℕ) → D.Disk.may_leave self.new.disk left → D.Disk.may_leave self.old.disk left }
         ensures number { IfOk result (λ number. number ≡ self.old.at.newest) }
         ensures durable { OnOk result (self.new.at.durable ≡ self.old.at.newest) }
         ensures newest { OnOk result (self.new.at.newest ≡ self.old.at.newest) }
@@ -321,6 +330,9 @@ impl<D: Disk + Drop> Journal<D> {
             → Keeps self.old.at (D.Disk.seen self.old.disk) (D.Disk.may_leave self.old.disk) header entries
             → IsTrue (D.Disk.is_mixing self.new.disk)
             → AllSurvive header (with_end self.old.at entries) self.old.at.durable (D.Disk.may_leave self.new.disk) }
+        ensures fronts { (header : LogHeader) (entries : List Entry)
+            → Keeps self.old.at (D.Disk.seen self.old.disk) (D.Disk.may_leave self.old.disk) header entries
+            → KeepsFronts self.old.at.end (D.Disk.may_leave self.old.disk) (D.Disk.may_leave self.new.disk) }
         ensures newest { OnOk result (self.new.at.newest ≡ self.old.at.newest) }
         ensures cause { AppendHasCause result
             (may_ask self.old.is_given_up (D.Disk.is_usable self.old.disk))

@@ -7,7 +7,7 @@ ghost use Rattle.mt_frame.specs.Spelling.{frame_of};
 ghost use Rattle.sqlite_disk.specs.Disk.{CountsFault};
 ghost use Rattle.sqlite_disk.specs.Tally.{CountsRefusal};
 ghost use Rattle.mt_journal.specs.Log.{MaySay, last_number};
-ghost use Rattle.mt_journal.specs.Keeping.{Keeps, AllAreLogs, AllSurvive};
+ghost use Rattle.mt_journal.specs.Keeping.{Keeps, KeepsFronts, AllAreLogs, AllSurvive};
 
 use crate::position::Position;
 use sqlite_disk::Disk;
@@ -36,6 +36,7 @@ pub fn write_frame<D: Disk>(
         → frame.now ≡ frame_of header.generation at.old.end entry
         → IsTrue (D.Disk.is_mixing disk.new)
         → AllSurvive header (entries ++ entry ∷ []) at.old.durable (D.Disk.may_leave disk.new) }
+    ensures fronts { KeepsFronts at.old.end (D.Disk.may_leave disk.old) (D.Disk.may_leave disk.new) }
     ensures durable { at.new.durable ≡ at.old.durable }
     ensures newest { OnOk result (at.new.newest ≡ at.old.newest + count) }
     ensures place { OnErr result (at.new ≡ at.old) }
@@ -62,6 +63,7 @@ pub fn sync_log<D: Disk>(disk: &mut D, at: &mut Position) -> io::Result<()>
     ensures whole { (header : LogHeader) (entries : List Entry)
         → Keeps at.old (D.Disk.seen disk.old) (D.Disk.may_leave disk.old) header entries
         → OnOk result (AllAreLogs header entries (D.Disk.may_leave disk.new)) }
+    ensures fewer { (left : List ℕ) → D.Disk.may_leave disk.new left → D.Disk.may_leave disk.old left }
     ensures durable { OnOk result (at.new.durable ≡ at.old.newest) }
     ensures newest { at.new.newest ≡ at.old.newest }
     ensures usable { OnOk result (IsTrue (D.Disk.is_usable disk.new)) }

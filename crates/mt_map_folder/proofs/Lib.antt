@@ -1,3 +1,5 @@
 pub mod WrittenLemmas
 mod CleanLemmas
 mod RoundLemmas
+mod ChangeLemmas
+mod OpenLemmas

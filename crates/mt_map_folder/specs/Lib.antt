@@ -2,4 +2,5 @@
 pub mod Written
 pub mod Read
 pub mod Rounds
+pub mod Changes
 pub mod Promises

@@ -1,6 +1,6 @@
 //! The commits of a map, written to the log of its folder.
 
-ghost use Rattle.std.specs.Prelude.{◌≡◌, ◌-◌, nat_lt, false, List, length, Ok, OnOk, OnErr, IfOk, IsTrue, IsFalse};
+ghost use Rattle.std.specs.Prelude.{◌≡◌, ◌≤◌, ◌-◌, nat_lt, false, List, length, Ok, OnOk, OnErr, IfOk, IsTrue, IsFalse};
 ghost use Rattle.mt_commit.specs.Log.{newest};
 ghost use Rattle.mt_frame.specs.declared.entry.Entry.{Entry};
 ghost use Rattle.mt_frame.specs.declared.entry.LogHeader.{LogHeader};
@@ -8,7 +8,10 @@ ghost use Rattle.mt_frame.specs.declared.entry.Part.{Part};
 ghost use Rattle.mt_folder_log.specs.Moving.{disk_of, end_of, round_of, start_of, IfFree, IfNeeded, IsAfter, IsFree, Needs};
 ghost use Rattle.mt_folder_log.specs.declared.checkpoint.TheConstants.{PART};
 ghost use Rattle.mt_index.specs.Feed.{feed_fault};
-ghost use Rattle.mt_index.specs.Stands.{Stands};
+ghost use Rattle.mt_index.specs.Stands.{MachineView, Stands};
+ghost use Rattle.mt_types.specs.declared.row.Change.{Change};
+ghost use Rattle.mt_folder_log.specs.Folder.{AllRecover, HasChanges};
+ghost use Rattle.mt_map_folder.specs.Changes.{KeepsChanges};
 ghost use Rattle.mt_journal.specs.Appending.{with_part, with_seal};
 ghost use Rattle.mt_journal.specs.Causes.{may_ask};
 ghost use Rattle.mt_journal.specs.Keeping.{AllAreLogs, AllSurvive, Keeps};
@@ -54,6 +57,8 @@ impl<D: Disk + Drop> MapLog<D> {
         ensures survive { (header : LogHeader) (entries : List Entry)
             → Keeps self.now.log.journal.at (D.Disk.seen self.now.log.journal.disk) (D.Disk.may_leave self.now.log.journal.disk) header entries
             → AllSurvive header entries result (D.Disk.may_leave self.now.log.journal.disk) }
+        ensures recover { (changes : List Change) → HasChanges D.Disk.seen D.Disk.may_leave changes self.now.log
+            → AllRecover D.Disk.may_leave changes result self.now.log.journal.at.generation self.now.log }
     {
         self.log.position().durable
     }
@@ -93,6 +98,12 @@ impl<D: Disk + Drop> MapLog<D> {
         ensures cause { WriteHasCause result (feed_fault map.now.machine.log self.old.log.journal.at.newest MAX_LIMIT) (self.new ≡ self.old)
             (may_ask self.old.log.journal.is_given_up (D.Disk.is_usable self.old.log.journal.disk)) self.old.log.journal.at
             (D.Disk.faults self.old.log.journal.disk) (D.Disk.faults self.new.log.journal.disk) }
+        ensures changes { (changes : List Change) → KeepsChanges D.Disk.seen D.Disk.may_leave changes map.now.machine self.old
+            → IsTrue (D.Disk.is_mixing self.new.log.journal.disk)
+            → OnOk result (KeepsChanges D.Disk.seen D.Disk.may_leave changes map.now.machine self.new) }
+        ensures recover { (changes : List Change) → KeepsChanges D.Disk.seen D.Disk.may_leave changes map.now.machine self.old
+            → IsTrue (D.Disk.is_mixing self.new.log.journal.disk)
+            → AllRecover D.Disk.may_leave changes self.old.log.journal.at.durable self.old.log.journal.at.generation self.new.log }
     {
         let deltas = match map.feed(self.log.position().newest, MAX_RANGE) {
             Ok(deltas) => deltas,
@@ -126,6 +137,10 @@ impl<D: Disk + Drop> MapLog<D> {
         ensures number { IfOk result (λ number. number ≡ self.old.log.journal.at.newest) }
         ensures durable { OnOk result (self.new.log.journal.at.durable ≡ self.old.log.journal.at.newest) }
         ensures stops { OnErr result (IsFalse (may_ask self.new.log.journal.is_given_up (D.Disk.is_usable self.new.log.journal.disk))) }
+        ensures changes { (changes : List Change) (s : MachineView) → KeepsChanges D.Disk.seen D.Disk.may_leave changes s self.old
+            → OnOk result (KeepsChanges D.Disk.seen D.Disk.may_leave changes s self.new) }
+        ensures recover { (changes : List Change) → HasChanges D.Disk.seen D.Disk.may_leave changes self.old.log
+            → AllRecover D.Disk.may_leave changes self.old.log.journal.at.durable self.old.log.journal.at.generation self.new.log }
     {
         self.log.sync()
     }
@@ -144,6 +159,13 @@ impl<D: Disk + Drop> MapLog<D> {
             → Keeps self.old.log.journal.at (D.Disk.seen self.old.log.journal.disk) (D.Disk.may_leave self.old.log.journal.disk) header entries
             → IsTrue (may_ask self.new.log.journal.is_given_up (D.Disk.is_usable self.new.log.journal.disk))
             → OnErr result (Keeps self.new.log.journal.at (D.Disk.seen self.new.log.journal.disk) (D.Disk.may_leave self.new.log.journal.disk) header entries) }
+        ensures changes { (changes : List Change) → KeepsChanges D.Disk.seen D.Disk.may_leave changes map.now.machine self.old
+            → newest map.now.machine.log ≤ self.old.log.journal.at.newest → IsTrue (D.Disk.is_mixing self.new.log.journal.disk)
+            → IfNeeded self.old.log.other (λ copied. OnOk result (KeepsChanges D.Disk.seen D.Disk.may_leave changes map.now.machine self.new)) }
+        ensures recover { (changes : List Change) → HasChanges D.Disk.seen D.Disk.may_leave changes self.old.log
+            → IsTrue (D.Disk.is_mixing self.new.log.journal.disk)
+            → IfNeeded self.old.log.other (λ copied. OnErr result (AllRecover D.Disk.may_leave changes self.old.log.journal.at.durable
+            self.old.log.journal.at.generation self.new.log)) }
     {
         let start = self.log.start()?;
         let at = map.commits();
@@ -176,6 +198,12 @@ impl<D: Disk + Drop> MapLog<D> {
             → Keeps self.old.log.journal.at (D.Disk.seen self.old.log.journal.disk) (D.Disk.may_leave self.old.log.journal.disk) header entries
             → IsTrue (may_ask self.new.log.journal.is_given_up (D.Disk.is_usable self.new.log.journal.disk))
             → OnErr result (Keeps self.new.log.journal.at (D.Disk.seen self.new.log.journal.disk) (D.Disk.may_leave self.new.log.journal.disk) header entries) }
+        ensures changes { (changes : List Change) → KeepsChanges D.Disk.seen D.Disk.may_leave changes map.now.machine self.old
+            → newest map.now.machine.log ≤ self.old.log.journal.at.newest → round ≡ next_of self.old.log → Mixes D.Disk.is_mixing
+            → OnOk result (KeepsChanges D.Disk.seen D.Disk.may_leave changes map.now.machine self.new) }
+        ensures recover { (changes : List Change) → HasChanges D.Disk.seen D.Disk.may_leave changes self.old.log
+            → round ≡ next_of self.old.log → Mixes D.Disk.is_mixing
+            → OnErr result (AllRecover D.Disk.may_leave changes self.old.log.journal.at.durable self.old.log.journal.at.generation self.new.log) }
     {
         match round {
             Round::Rests | Round::Moves => self.log.begin()?,
@@ -238,6 +266,13 @@ impl<D: Disk + Drop> MapLog<D> {
             → Keeps self.old.log.journal.at (D.Disk.seen self.old.log.journal.disk) (D.Disk.may_leave self.old.log.journal.disk) header entries
             → IsTrue (may_ask self.new.log.journal.is_given_up (D.Disk.is_usable self.new.log.journal.disk))
             → OnErr result (Keeps self.new.log.journal.at (D.Disk.seen self.new.log.journal.disk) (D.Disk.may_leave self.new.log.journal.disk) header entries) }
+        // The map and the folder have the same changes; and if the call failed, whatever a crash leaves has all that were durable.
+        ensures changes { (changes : List Change) → KeepsChanges D.Disk.seen D.Disk.may_leave changes map.now.machine self.old
+            → Mixes D.Disk.is_mixing
+            → OnOk result (KeepsChanges D.Disk.seen D.Disk.may_leave changes map.now.machine self.new) }
+        ensures recover { (changes : List Change) → HasChanges D.Disk.seen D.Disk.may_leave changes self.old.log
+            → Mixes D.Disk.is_mixing
+            → OnErr result (AllRecover D.Disk.may_leave changes self.old.log.journal.at.durable self.old.log.journal.at.generation self.new.log) }
     {
         if !self.acts(map, begins) {
             return Ok(false);

@@ -1,11 +1,13 @@
 //! How a map is opened over a folder.
 
-ghost use Rattle.std.specs.Prelude.{◌≡◌, IfOk, MatchOption, Err};
+ghost use Rattle.std.specs.Prelude.{◌≡◌, List, [], IfOk, MatchOption, Err};
 ghost use Rattle.mt_types.specs.Limits.{open_fault};
+ghost use Rattle.mt_types.specs.declared.row.Change.{Change};
 ghost use Rattle.mt_folder.specs.declared.reading.RowsRead.{RowsRead};
 ghost use Rattle.mt_load.specs.Loaded.{IsLoaded};
 ghost use Rattle.mt_map_folder.specs.declared.error.OpenError.TheVariants.{Refused};
 ghost use Rattle.mt_journal.specs.Recovery.{Mixes};
+ghost use Rattle.mt_map_folder.specs.Changes.{KeepsChanges};
 ghost use Rattle.mt_map_folder.specs.Read.{AreClean, IsReadFrom, KeepsRows};
 
 use crate::error::OpenError;
@@ -36,7 +38,8 @@ const KEPT: u64 = 1000;
 ///     let files = mt_log_disk::files::open(b"fruit")?;
 ///     let OpenedMap { mut map, mut log } = open(alloc, files.even, files.odd, Options::default(), 67_108_864)?;
 ///
-/// Costs a read of the logs, and a put for each row.
+/// Costs a read of the logs, and a put for each row. From two empty files on, each call of the log keeps the changes that the map
+/// makes (`begins`, [`MapLog`]).
 ///
 /// # Errors
 ///
@@ -53,6 +56,8 @@ pub fn open<D: Disk + Drop>(
         × (AreClean D.Disk.is_clean opened.log → IsReadFrom options.columns (D.Disk.seen even) (D.Disk.seen odd) read
         × (opened.log.log.journal.at.newest ≡ read.commits)
         × (Mixes D.Disk.is_mixing → KeepsRows D.Disk.seen D.Disk.may_leave opened.log read.rows))) }
+    ensures begins { D.Disk.seen even ≡ [] → D.Disk.seen odd ≡ [] → IfOk result (λ opened. AreClean D.Disk.is_clean opened.log
+        → (changes : List Change) → KeepsChanges D.Disk.seen D.Disk.may_leave changes opened.map.machine opened.log) }
     ensures tidies { IfOk result (λ opened. opened.map.tidies ≡ options.tidies) }
     ensures fault { MatchOption (open_fault options.columns options.log_capacity options.log_retention) (Unit {0})
         (λ refusal. result ≡ Err (Refused refusal)) }

@@ -21,7 +21,7 @@ records_either : (b : Bool) (part : Part) (entries : List Entry) → records_in 
 records_either true part entries = refl
 records_either false part entries = refl
 
-records-counted : (entries : List Entry) → records_in (counted entries) ≡ records_in entries
+pub records-counted : (entries : List Entry) → records_in (counted entries) ≡ records_in entries
 records-counted [] = refl
 records-counted (Header header ∷ entries) = records-counted entries
 records-counted (Group commits ∷ entries) = ap (λ (rs : List Record). commits.records ++ rs) (records-counted entries)

@@ -10,13 +10,14 @@ use crate::cutting::{Cut, Plan, plan_cuts_at};
 use crate::faults::{CutError, NoCut};
 use mt_folder::error::{FolderError, LogFile};
 use mt_folder::files::open_file;
+use mt_folder::looking::bytes_of;
 use mt_journal::error::JournalError;
 use sqlite_disk::Disk;
 use std::alloc::Global;
 use std::io;
 
-// The bytes of a file. Two calls of the disk.
-fn bytes_of<D: Disk>(alloc: Global, disk: &mut D, file: LogFile) -> Result<Vec<u8>, FolderError>
+// The bytes of a file, if its disk may be used.
+fn read_file<D: Disk>(alloc: Global, disk: &mut D, file: LogFile) -> Result<Vec<u8>, FolderError>
     ensures bytes { IfOk result (λ bytes. IsTrue (D.Disk.is_clean disk.new) → bytes.items ≡ D.Disk.seen disk.old) }
     ensures clean { IsTrue (D.Disk.is_clean disk.new) → IsTrue (D.Disk.is_clean disk.old) }
     ensures usable { OnOk result (IsTrue (D.Disk.is_usable disk.new)) }
@@ -26,12 +27,7 @@ fn bytes_of<D: Disk>(alloc: Global, disk: &mut D, file: LogFile) -> Result<Vec<u
         let error = JournalError::GivenUp;
         return Err(FolderError::Journal { file, error });
     }
-    let len = disk.len()?;
-    let mut bytes = Vec::from_elem(alloc, 0u8, len)?;
-    if len > 0 {
-        disk.read_at(0, bytes.as_mut_slice())?;
-    }
-    Ok(bytes)
+    Ok(bytes_of(alloc, disk)?)
 }
 
 // The cuts of two files that leave exactly the first `commit` commits.
@@ -46,8 +42,8 @@ fn plan_on<D: Disk>(alloc: Global, even: &mut D, odd: &mut D, commit: u64) -> Re
     ensures other_unwritten { IsUnwritten (D.Disk.seen odd.old) (D.Disk.seen odd.new) (D.Disk.may_leave odd.old) (D.Disk.may_leave odd.new) }
 {
     let folder = FolderCopy {
-        even: bytes_of(alloc, even, LogFile::Even)?,
-        odd: bytes_of(alloc, odd, LogFile::Odd)?,
+        even: read_file(alloc, even, LogFile::Even)?,
+        odd: read_file(alloc, odd, LogFile::Odd)?,
     };
     plan_cuts_at(alloc, &folder, commit)
 }

@@ -1,7 +1,8 @@
-use Rattle.std.proofs.Common.{◌≡◌, ℕ, ◌+◌, [], ◌∷◌, ◌++◌, sym, ap, ◌∙◌}
+use Rattle.std.proofs.Common.{◌≡◌, ℕ, ◌+◌, [], ◌∷◌, ◌++◌, sym, ap, subst, arith, ◌∙◌}
 use Rattle.mt_frame.specs.Spelling.{frame_of}
+use Rattle.mt_journal.specs.Keeping.{KeepsFronts}
 use Rattle.mt_journal.specs.Log.{last_number}
-use Rattle.mt_journal.proofs.Kept.{all_survive, survive_more, survive_less, says_more, durable_after, unless_err}
+use Rattle.mt_journal.proofs.Kept.{all_survive, fronts_then, survive_more, survive_less, says_more, durable_after, unless_err}
 use Rattle.mt_journal.proofs.journal.Journal.put.Goals as goal
 
 pub returns-in_err-frame-clause-crash : goal.returns-in_err-frame-clause-crash
@@ -50,3 +51,17 @@ returns-clause-kept g c = λ header entries keeps mixing.
     let counts : last_number c.make_room.new.self.at.newest (c.args.entry.now ∷ []) ≡ c.make_room.new.self.at.newest + c.args.count =
     ap (λ (n : ℕ). last_number n (c.args.entry.now ∷ [])) c.make_room.ensures.newest ∙ c.requires.counts ∙ ap (λ (n : ℕ). n + c.args.count) (sym c.make_room.ensures.newest) in
     unless_err c.write_frame.result (c.write_frame.ensures.kept header entries c.args.entry.now middle says frame_is counts mixing) c.in_default.not-Err
+
+pub returns-in_err-make_room-clause-fronts : goal.returns-in_err-make_room-clause-fronts
+returns-in_err-make_room-clause-fronts g c = λ header entries keeps front fits begins.
+    c.make_room.ensures.fronts front (omega (arith, fits, keeps.room)) begins
+
+pub returns-in-Err-clause-fronts : goal.returns-in-Err-clause-fronts
+returns-in-Err-clause-fronts g c = λ header entries keeps.
+    fronts_then c.args.self.now.at.end c.args.self.now.at.room (g.D.Disk.may_leave c.args.self.now.disk) (g.D.Disk.may_leave c.make_room.new.self.disk) (g.D.Disk.may_leave c.write_frame.new.disk) (omega (arith, keeps.room)) c.make_room.ensures.fronts
+    (subst (λ (place : ℕ). KeepsFronts place (g.D.Disk.may_leave c.make_room.new.self.disk) (g.D.Disk.may_leave c.write_frame.new.disk)) c.make_room.ensures.end c.write_frame.ensures.fronts)
+
+pub returns-clause-fronts : goal.returns-clause-fronts
+returns-clause-fronts g c = λ header entries keeps.
+    fronts_then c.args.self.now.at.end c.args.self.now.at.room (g.D.Disk.may_leave c.args.self.now.disk) (g.D.Disk.may_leave c.make_room.new.self.disk) (g.D.Disk.may_leave c.write_frame.new.disk) (omega (arith, keeps.room)) c.make_room.ensures.fronts
+    (subst (λ (place : ℕ). KeepsFronts place (g.D.Disk.may_leave c.make_room.new.self.disk) (g.D.Disk.may_leave c.write_frame.new.disk)) c.make_room.ensures.end c.write_frame.ensures.fronts)
