@@ -1,16 +1,18 @@
 //! One connection: its stream, and its session.
 
+ghost use Rattle.std.specs.Prelude.{◌≡◌, [], Some, IfSome, IsSome};
+ghost use Rattle.mt_wire.specs.declared.query.Query.{Query};
+ghost use Rattle.mt_wire.specs.declared.frame.Frame.{Frame};
+ghost use Rattle.mt_talk.specs.Serving.{alone};
+ghost use Rattle.mt_talk.specs.Turns.{HasFront};
+
 use mt_host::buffers::Buffers;
 use mt_host::fault::ConnectionFault;
 use mt_host::parking::Parked;
 use mt_host::report::Origin;
 use mt_host::stream::Stream;
 use mt_host::weight::{LONG, TURN, only_reads, server_query, weight_of};
-use mt_serve::answerer::Answerer;
-use mt_shared::driving::Shared;
-use mt_shared::pass::Pass;
 use mt_talk::server::changes_rows;
-use mt_talk::serving::Server;
 use mt_talk::talk::Talk;
 use mt_wire::server::{Role, ServerQuery};
 use std::alloc::Global;
@@ -78,8 +80,8 @@ pub struct Connection {
     pub(crate) is_leaving: bool,
     pub(crate) home: usize,
     // What that frame weighs, what may still be asked for in this round, and whether more frames may be there.
-    weight: usize,
-    budget: usize,
+    pub(crate) weight: usize,
+    pub(crate) budget: usize,
     has_more: bool,
     // Whether bytes may be there that weren't read, and whether the peer has ended its stream after them.
     is_unread: bool,
@@ -150,7 +152,9 @@ impl Connection {
     }
 
     /// Returns the query of the server that is alone in the frame at the front.
-    pub fn server_query(&self) -> Option<&ServerQuery> {
+    pub fn server_query(&self) -> Option<&ServerQuery>
+        ensures { IfSome result (λ query. (frame : Frame Query) × HasFront frame self.now.talk.bytes × (alone frame.messages ≡ Some query.now)) }
+    {
         match self.talk.front() {
             Some(frame) => server_query(frame),
             None => None,
@@ -163,7 +167,11 @@ impl Connection {
     }
 
     // The session ends with this fault, unless it has met another one before.
-    pub(crate) fn fail(&mut self, fault: ConnectionFault) {
+    pub(crate) fn fail(&mut self, fault: ConnectionFault)
+        ensures fault { IsSome self.new.fault }
+        ensures talk { self.new.talk ≡ self.old.talk }
+        ensures role { self.new.role ≡ self.old.role }
+    {
         if self.fault.is_none() {
             self.fault = Some(fault);
         }
@@ -267,41 +275,6 @@ impl Connection {
         }
     }
 
-    /// Answers the frame at the front. A client that was not admitted, and says no hello with a right secret, is refused,
-    /// and its connection ends. Returns whether it was a hello with a wrong secret.
-    pub fn answer<S: Shared>(
-        &mut self,
-        server: &mut Server<Answerer>,
-        shared: &mut S,
-        pass: &mut Pass,
-        buffers: &Buffers,
-    ) -> bool {
-        let is_hello = matches!(self.server_query(), Some(ServerQuery::Hello { .. }));
-        self.has_changed = self.has_changed || self.changes && server.keeper.read_only.is_none();
-        self.front = Front::Nothing;
-        self.awaited = None;
-        self.is_woken = false;
-        self.began = None;
-        self.budget = self.budget.saturating_sub(self.weight);
-        // (a hello decides the role again)
-        server.keeper.role = if is_hello {
-            server.keeper.first_role()
-        } else {
-            self.role
-        };
-        if let Err(fault) = self.talk.turn(server, shared, pass) {
-            self.fail(ConnectionFault::from(fault));
-        }
-        self.input = self.input.min(self.last_read);
-        self.limit_output(buffers);
-        self.role = server.keeper.role;
-        if self.role.is_some() || self.fault.is_some() {
-            return false;
-        }
-        self.fail(ConnectionFault::NoHello);
-        is_hello
-    }
-
     // Whether bytes are to go, and may go.
     fn may_write(&self) -> bool {
         self.held.is_none() && self.ends_at.is_none() && !self.talk.output().is_empty()
@@ -328,7 +301,11 @@ impl Connection {
     }
 
     // Nothing is to go any more.
-    pub(crate) fn drop_output(&mut self) {
+    pub(crate) fn drop_output(&mut self)
+        ensures gone { self.new.talk.output ≡ [] }
+        ensures bytes { self.new.talk.bytes ≡ self.old.talk.bytes }
+        ensures kept { (self.new.role ≡ self.old.role) × (self.new.fault ≡ self.old.fault) }
+    {
         self.gone = 0;
         self.talk.clear_output();
     }

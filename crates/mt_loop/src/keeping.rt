@@ -1,5 +1,7 @@
 //! How many bytes are kept for a connection, of those that are kept for all.
 
+ghost use Rattle.std.specs.Prelude.{◌≡◌, ◌⊎◌, [], IsSome};
+
 use crate::connection::Connection;
 use mt_host::buffers::{Buffers, SHARE};
 use mt_host::fault::ConnectionFault;
@@ -21,14 +23,22 @@ impl Connection {
     }
 
     /// Notes how many bytes are kept for it.
-    pub fn note_kept(&mut self, buffers: &Buffers) {
+    pub fn note_kept(&mut self, buffers: &Buffers)
+        ensures talk { self.new.talk ≡ self.old.talk }
+        ensures kept { (self.new.role ≡ self.old.role) × (self.new.fault ≡ self.old.fault) }
+    {
         let kept = self.kept_input().saturating_add(self.talk.output().len());
         buffers.note(self.noted, kept);
         self.noted = kept;
     }
 
     // After an answer: if that makes too many bytes for all connections, they are dropped, and its session is broken off.
-    pub(crate) fn limit_output(&mut self, buffers: &Buffers) {
+    pub(crate) fn limit_output(&mut self, buffers: &Buffers)
+        ensures bytes { self.new.talk.bytes ≡ self.old.talk.bytes }
+        ensures output { (self.new.talk.output ≡ self.old.talk.output) ⊎ (IsSome self.new.fault × (self.new.talk.output ≡ [])) }
+        ensures fault { IsSome self.old.fault → IsSome self.new.fault }
+        ensures role { self.new.role ≡ self.old.role }
+    {
         if self.talk.output().len() <= SHARE {
             return;
         }

@@ -2,6 +2,7 @@
 #![tactic(auto)]
 
 pub mod accepting;
+mod answering;
 pub mod checkpointing;
 pub mod connection;
 mod delaying;
@@ -9,6 +10,7 @@ pub mod desk;
 mod ending;
 mod gauge;
 mod keeping;
+pub mod laws;
 pub mod logging;
 mod moving;
 mod patient;

@@ -103,6 +103,12 @@ fn make_workers<R: Net>(
     Ok((desks, workers))
 }
 
+// What is said if no thread can be started, since memory lacks or a limit is reached: the system's own words are "operation
+// would block".
+fn without_thread(error: io::Error) -> io::Error {
+    io::Error::new(error.kind(), "a thread could not be started")
+}
+
 // Runs a thread for each worker, and accepts in this one. Returns the passes when all have ended.
 fn run<R: Threads + Wait + Clock + Sync + Eprint>(
     alloc: Global,
@@ -123,7 +129,7 @@ fn run<R: Threads + Wait + Clock + Sync + Eprint>(
                 Ok(thread) => {
                     let _ = threads.push(thread);
                 }
-                Err(error) => begun = Err(io::Error::from(error)),
+                Err(refused) => begun = Err(without_thread(io::Error::from(refused))),
             }
         }
         if begun.is_ok() {
@@ -205,9 +211,12 @@ where
     let stop = Stop::new(acceptor.poll())?;
     let stop = &stop;
     thread::scope(thread::scope_env(), rt, |scope| -> io::Result<Ended> {
-        let server = scope.spawn(move || run_to_end(
+        let server = match scope.spawn(move || run_to_end(
             alloc, gauge, acceptor, addresses, workers, stop,
-        ))?;
+        )) {
+            Ok(server) => server,
+            Err(refused) => return Err(without_thread(io::Error::from(refused))),
+        };
         let mut watch = Watch::new(gauge.start);
         let is_logged = match log {
             Some(log) => keep_log(gauge, log, &mut watch),

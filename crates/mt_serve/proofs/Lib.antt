@@ -13,3 +13,7 @@ mod QuietLemmas
 mod RangeOnce
 mod AmpleLemmas
 mod NewestLemmas
+mod OnlyLemmas
+mod ReaderLemmas
+mod KeepLemmas
+mod ReaderAloneLemmas

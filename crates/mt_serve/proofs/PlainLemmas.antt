@@ -107,7 +107,7 @@ answers_rise s t p q query response (m, r, asks, final) =
     let a = asks_rise s m p r query response asks in
     let b = then_rise m t r q query (changes response) final in omega (arith, a, b)
 
-all_rise : (s t : InnerView) (p q : PassView) (queries : List Query) (responses : List Response) → AnswersAll Does ReadsNow PagesNow QuietReadsNow Looks s p queries responses t q → s.events ≤ t.events
+pub all_rise : (s t : InnerView) (p q : PassView) (queries : List Query) (responses : List Response) → AnswersAll Does ReadsNow PagesNow QuietReadsNow Looks s p queries responses t q → s.events ≤ t.events
 all_rise s t p q [] [] (is, same) = let equal = ap (λ (k : InnerView). k.events) is in omega (arith, equal)
 all_rise s t p q (query ∷ queries) (response ∷ responses) (m, r, one, more) =
     let a = answers_rise s m p r query response one in

@@ -6,3 +6,4 @@ pub mod Sessions
 pub mod Store
 pub mod Plain
 pub mod Ample
+pub mod Reading

@@ -5,5 +5,6 @@ pub mod answerer;
 pub mod asking;
 pub mod fault;
 pub mod frames;
+pub mod laws;
 pub mod plain;
 pub mod session;

@@ -26,7 +26,7 @@ greets_none : (k l : Keeper) (queries : List Query) (newest : ℕ) (secret name 
 greets_none k l queries newest secret name answered none (Some role, admits, greeted) = absurd (none role admits)
 greets_none k l queries newest secret name answered none (None, admits, turned) = turned
 
-closed_alone : (k l : Keeper) (queries : List Query) (query : Option ServerQuery) (answered : Option (List Response)) → k.role ≡ None → HasNoKey k.tokens.items query → KeepsAlone k queries query answered l → TurnsAway k queries answered l
+pub closed_alone : (k l : Keeper) (queries : List Query) (query : Option ServerQuery) (answered : Option (List Response)) → k.role ≡ None → HasNoKey k.tokens.items query → KeepsAlone k queries query answered l → TurnsAway k queries answered l
 closed_alone k l queries (Some (Hello newest secret name)) answered none key keeps = greets_none k l queries newest secret name answered key keeps
 closed_alone k l queries (Some (Ping number)) answered none key keeps = closed_within k l queries (Some (Ping number)) answered none keeps
 closed_alone k l queries (Some Info) answered none key keeps = closed_within k l queries (Some Info) answered none keeps
@@ -42,13 +42,13 @@ closed_is_blind answers a b s t p q frame reply none key (answered, keeps, then)
     (told.0, turned.1.role_is ∙ none, turned.1.tokens, told.1, told.2, told.3)
 
 -- ---- a reader
-abbrev Lets : Option (List Response) → List Query → Type 0
+abbrev pub Lets : Option (List Response) → List Query → Type 0
 Lets answered queries = MatchOption answered (may_all Read queries ≡ true) (λ responses. Unit {0})
 
-lets_turned : (k l : Keeper) (queries : List Query) (answered : Option (List Response)) → TurnsAway k queries answered l → Lets answered queries
+pub lets_turned : (k l : Keeper) (queries : List Query) (answered : Option (List Response)) → TurnsAway k queries answered l → Lets answered queries
 lets_turned k l queries answered turned = subst (λ (o : Option (List Response)). Lets o queries) (sym turned.0) tt
 
-lets_some : (answered : Option (List Response)) (responses : List Response) (queries : List Query) → answered ≡ Some responses → Lets answered queries
+pub lets_some : (answered : Option (List Response)) (responses : List Response) (queries : List Query) → answered ≡ Some responses → Lets answered queries
 lets_some answered responses queries is = subst (λ (o : Option (List Response)). Lets o queries) (sym is) tt
 
 lets_any : (answered : Option (List Response)) (queries : List Query) → may_all Read queries ≡ true → Lets answered queries
@@ -58,7 +58,7 @@ lets_any (Some responses) queries may = tt
 lets_allowed : (k l : Keeper) (queries : List Query) (query : Option ServerQuery) (answered : Option (List Response)) → may_all Read queries ≡ true → Allows k queries query answered l → Lets answered queries
 lets_allowed k l queries query answered may allows = lets_any answered queries may
 
-lets_by : (may : Bool) (k l : Keeper) (queries : List Query) (query : Option ServerQuery) (answered : Option (List Response)) → may_all Read queries ≡ may
+pub lets_by : (may : Bool) (k l : Keeper) (queries : List Query) (query : Option ServerQuery) (answered : Option (List Response)) → may_all Read queries ≡ may
     → MatchBool may (Allows k queries query answered l) (TurnsAway k queries answered l) → Lets answered queries
 lets_by true k l queries query answered is allows = lets_allowed k l queries query answered is allows
 lets_by false k l queries query answered is turned = lets_turned k l queries answered turned

@@ -15,7 +15,7 @@ input v w (Took frame reply ∷ steps) lead =
 input v w (Went bytes ∷ steps) lead =
     ap (λ (l : List ℕ). l ++ came steps) (sym lead.1.1) ∙ input lead.0 w steps lead.2
 
-output : (v w : Talk) (steps : List Step) → Lead v steps w → v.output ++ replies_of (told steps) ≡ went steps ++ w.output
+pub output : (v w : Talk) (steps : List Step) → Lead v steps w → v.output ++ replies_of (told steps) ≡ went steps ++ w.output
 output v w [] lead = append-nil v.output ∙ ap (λ (t : Talk). t.output) (sym lead)
 output v w (Came piece ∷ steps) lead =
     ap (λ (l : List ℕ). l ++ replies_of (told steps)) (sym lead.1.1) ∙ output lead.0 w steps lead.2

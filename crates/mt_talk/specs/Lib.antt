@@ -5,3 +5,5 @@ pub mod Growing
 pub mod Serving
 pub mod Frames
 pub mod Laws
+pub mod Sessions
+pub mod Clients

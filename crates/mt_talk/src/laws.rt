@@ -2,6 +2,8 @@
 
 ghost use Rattle.mt_talk.specs.Laws.{TalksAreStreams};
 ghost use Rattle.mt_talk.specs.Frames.{ClosedIsBlind, FullGrowNothing, HinderedKeepRows, ReadersRead};
+ghost use Rattle.mt_talk.specs.Sessions.{AloneIsAmong, SameBytesSameFrames, UnfinishedHasNoFront};
+ghost use Rattle.mt_talk.specs.Clients.{ClosedClientsAreBlind, ClosedClientsAreOne, ClosedSessionsAreBlind, ReadingClientsRead, ReadingSessionsRead};
 
 use crate::talk::Answers;
 
@@ -32,4 +34,37 @@ pub fn hindered_servers_keep_rows<S, P, A: Answers<S, P>>()
 /// While the memory is full, a frame reaches what is inside only if none of its queries is a put or a build of a view.
 pub fn full_servers_grow_nothing<S, P, A: Answers<S, P>>()
     ensures { FullGrowNothing A.answers }
+{}
+
+/// A session alone is one among others that do nothing.
+pub fn sessions_alone_are_among_others<S, P, A: Answers<S, P>>()
+    ensures { AloneIsAmong A.answers }
+{}
+
+/// If a frame has only begun, or a fault is at the front, no whole frame is there. If the same bytes came to two sessions,
+/// and neither has a whole frame left, they have answered the same frames, and have the same bytes left.
+pub fn same_bytes_are_the_same_frames()
+    ensures unfinished { UnfinishedHasNoFront }
+    ensures same { SameBytesSameFrames }
+{}
+
+/// Until a hello with a right secret comes, a session alone leaves what is inside the server, what is shared and the pass as
+/// they are. Among other sessions, what is inside answers none of its frames. What it sends is the refusal of each query of
+/// the frames that were answered.
+pub fn closed_sessions_are_blind<S, P, A: Answers<S, P>>()
+    ensures alone { ClosedSessionsAreBlind A.answers }
+    ensures among { ClosedClientsAreBlind A.answers }
+{}
+
+/// If the same bytes come to two sessions, to each before a hello with a secret that is right there, and all whole frames
+/// are answered, the same bytes are sent, whatever is inside their servers and whatever others do.
+pub fn closed_sessions_are_one<S, P, A: Answers<S, P>, T, Q, B: Answers<T, Q>>()
+    ensures { ClosedClientsAreOne A.answers B.answers }
+{}
+
+/// In a whole session in which no hello grants another role than `read`, what is inside the server answers only frames of
+/// gets, ranges, reads of one moment and pages of views alone.
+pub fn reading_sessions_read<S, P, A: Answers<S, P>>()
+    ensures alone { ReadingSessionsRead A.answers }
+    ensures among { ReadingClientsRead A.answers }
 {}
