@@ -3,4 +3,12 @@
 #![tactic(auto)]
 
 #[cfg(test)]
+mod changed;
+#[cfg(test)]
+mod crashes;
+#[cfg(test)]
+mod leaving;
+#[cfg(test)]
+mod recording;
+#[cfg(test)]
 mod reopened;

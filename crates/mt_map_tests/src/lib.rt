@@ -5,9 +5,13 @@
 #[cfg(test)]
 mod builds;
 #[cfg(test)]
+mod chance;
+#[cfg(test)]
 mod loaded;
 #[cfg(test)]
 mod maps;
+#[cfg(test)]
+mod random_runs;
 #[cfg(test)]
 mod runs;
 #[cfg(test)]
