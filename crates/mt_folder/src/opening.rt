@@ -1,11 +1,11 @@
 //! How the logs of a folder are opened: the current one, with the rows that it has.
 
-ghost use Rattle.std.specs.Prelude.{◌≡◌, ◌⊎◌, None as NoneOf, IsSome, IsTrue, IsFalse, IfOk};
+ghost use Rattle.std.specs.Prelude.{◌≡◌, ◌⊎◌, ℕ, List, None as NoneOf, IsSome, IsTrue, IsFalse, IfOk};
 ghost use Rattle.mt_folder.specs.Files.{AreRows, HeaderOf};
-ghost use Rattle.mt_folder.specs.Kept.{BeginsLog, KeepsRows};
+ghost use Rattle.mt_folder.specs.Kept.{BeginsLog, IsOpened, KeepsBoth, KeepsLog, KeepsLogs, KeepsRows, KeepsSource};
 ghost use Rattle.mt_folder.specs.Logs.{last_number, AreOfSource, Continues, HasRows, HasRowsOfBoth};
 ghost use Rattle.mt_folder.specs.Sides.{IsNoNewer};
-ghost use Rattle.mt_journal.specs.Keeping.{Keeps};
+ghost use Rattle.mt_journal.specs.Keeping.{AllAreLogs, Keeps};
 ghost use Rattle.mt_journal.specs.Recovery.{Mixes};
 ghost use Rattle.mt_folder.specs.Spares.{disk_of, is_needed, AreClean, IsSpareOf};
 
@@ -74,6 +74,7 @@ fn make_log<D: Disk + Drop>(
     ensures continues { IfOk result (λ r. r.journal.at.newest ≡ r.read.commits) }
     ensures spare { IfOk result (λ r. IsSpareOf r.source r.spare) }
     ensures kept { IfOk result (KeepsRows D.Disk.seen D.Disk.may_leave) }
+    ensures logs { (bytes others : List ℕ) → IfOk result (λ r. KeepsLogs columns D.Disk.seen D.Disk.may_leave bytes others r.source r) }
     ensures begins { IfOk result (BeginsLog columns D.Disk.seen D.Disk.may_leave) }
 {
     let mut side = side;
@@ -112,6 +113,11 @@ fn whole_log<D: Disk + Drop>(
     ensures kept { (IsTrue (D.Disk.is_clean opened.journal.disk) → Keeps opened.journal.at (D.Disk.seen opened.journal.disk)
         (D.Disk.may_leave opened.journal.disk) opened.log.header opened.log.entries.items)
         → IfOk result (λ r. AreClean D.Disk.is_clean r → KeepsRows D.Disk.seen D.Disk.may_leave r) }
+    ensures logs { (IsTrue (D.Disk.is_clean opened.journal.disk) → Keeps opened.journal.at (D.Disk.seen opened.journal.disk)
+        (D.Disk.may_leave opened.journal.disk) opened.log.header opened.log.entries.items)
+        → (IsTrue (D.Disk.is_clean opened.journal.disk)
+        → AllAreLogs opened.log.header opened.log.entries.items (D.Disk.may_leave opened.journal.disk))
+        → IfOk result (λ r. AreClean D.Disk.is_clean r → KeepsLog D.Disk.seen D.Disk.may_leave opened.log r) }
 {
     let OpenedSide { file, journal, log } = opened;
     let read = rows_of(alloc, &log)?;
@@ -146,6 +152,11 @@ fn later_log<D: Disk + Drop>(
     ensures kept { (IsTrue (D.Disk.is_clean newer.journal.disk) → Keeps newer.journal.at (D.Disk.seen newer.journal.disk)
         (D.Disk.may_leave newer.journal.disk) newer.log.header newer.log.entries.items) → Mixes D.Disk.is_mixing
         → IfOk result (λ r. AreClean D.Disk.is_clean r → KeepsRows D.Disk.seen D.Disk.may_leave r) }
+    ensures logs { (IsTrue (D.Disk.is_clean newer.journal.disk) → Keeps newer.journal.at (D.Disk.seen newer.journal.disk)
+        (D.Disk.may_leave newer.journal.disk) newer.log.header newer.log.entries.items)
+        → (IsTrue (D.Disk.is_clean older.journal.disk)
+        → AllAreLogs older.log.header older.log.entries.items (D.Disk.may_leave older.journal.disk)) → Mixes D.Disk.is_mixing
+        → IfOk result (λ r. AreClean D.Disk.is_clean r → KeepsBoth D.Disk.seen D.Disk.may_leave newer.log older.log r) }
 {
     let read = rows_of_both(alloc, &newer.log, &older.log)?;
     let OpenedSide { file, journal, .. } = newer;
@@ -179,6 +190,10 @@ fn open_both<D: Disk + Drop>(
         (D.Disk.may_leave newer.journal.disk) newer.log.header newer.log.entries.items }
     requires older { IsTrue (D.Disk.is_clean older.journal.disk) → Keeps older.journal.at (D.Disk.seen older.journal.disk)
         (D.Disk.may_leave older.journal.disk) older.log.header older.log.entries.items }
+    requires newer_all { IsTrue (D.Disk.is_clean newer.journal.disk)
+        → AllAreLogs newer.log.header newer.log.entries.items (D.Disk.may_leave newer.journal.disk) }
+    requires older_all { IsTrue (D.Disk.is_clean older.journal.disk)
+        → AllAreLogs older.log.header older.log.entries.items (D.Disk.may_leave older.journal.disk) }
     ensures rows { IfOk result (λ r. AreOfSource newer.log older.log r.source r.read) }
     ensures continues { newer.journal.at.newest ≡ last_number newer.log → older.journal.at.newest ≡ last_number older.log
         → IfOk result (λ r. r.journal.at.newest ≡ r.read.commits) }
@@ -187,6 +202,8 @@ fn open_both<D: Disk + Drop>(
         → IsTrue (D.Disk.is_clean newer.journal.disk) × IsTrue (D.Disk.is_clean older.journal.disk)) }
     ensures kept { Mixes D.Disk.is_mixing
         → IfOk result (λ r. AreClean D.Disk.is_clean r → KeepsRows D.Disk.seen D.Disk.may_leave r) }
+    ensures logs { Mixes D.Disk.is_mixing → IfOk result (λ r. AreClean D.Disk.is_clean r
+        → KeepsSource D.Disk.seen D.Disk.may_leave newer.log older.log r.source r) }
     ensures some { IfOk result (λ r. IsSome r.source) }
 {
     match decide(&newer.log, &older.log) {
@@ -220,6 +237,8 @@ fn open_newer<D: Disk + Drop>(
     ensures continues { IfOk result (λ opened. AreClean D.Disk.is_clean opened → opened.journal.at.newest ≡ opened.read.commits) }
     ensures kept { Mixes D.Disk.is_mixing
         → IfOk result (λ opened. AreClean D.Disk.is_clean opened → KeepsRows D.Disk.seen D.Disk.may_leave opened) }
+    ensures logs { Mixes D.Disk.is_mixing → IfOk result (λ opened. AreClean D.Disk.is_clean opened → KeepsLogs columns
+        D.Disk.seen D.Disk.may_leave (D.Disk.seen newer.disk) (D.Disk.seen older.disk) opened.source opened) }
     ensures spare { IfOk result (λ r. IsSpareOf r.source r.spare) }
     ensures begins { IfOk result (BeginsLog columns D.Disk.seen D.Disk.may_leave) }
 {
@@ -261,6 +280,9 @@ pub fn open_sides<D: Disk + Drop>(
     ensures continues { IfOk result (λ opened. AreClean D.Disk.is_clean opened → opened.journal.at.newest ≡ opened.read.commits) }
     ensures kept { Mixes D.Disk.is_mixing
         → IfOk result (λ opened. AreClean D.Disk.is_clean opened → KeepsRows D.Disk.seen D.Disk.may_leave opened) }
+    ensures logs { Mixes D.Disk.is_mixing → IfOk result (λ opened. AreClean D.Disk.is_clean opened
+        → IsOpened columns D.Disk.seen D.Disk.may_leave (D.Disk.seen even.disk) (D.Disk.seen odd.disk) opened
+        ⊎ IsOpened columns D.Disk.seen D.Disk.may_leave (D.Disk.seen odd.disk) (D.Disk.seen even.disk) opened) }
     ensures spare { IfOk result (λ r. IsSpareOf r.source r.spare) }
     ensures begins { IfOk result (BeginsLog columns D.Disk.seen D.Disk.may_leave) }
 {
@@ -277,7 +299,8 @@ pub fn open_sides<D: Disk + Drop>(
 ///
 /// If no read of the two disks has returned a wrong byte, the rows are exactly those that the logs of the files leave, of which
 /// the one of the greater generation is the newer, and the next commit in the log is the one after the last that led to them.
-/// The other file is needed if its rows are. The journal keeps entries that leave the rows, so what is appended follows them.
+/// The other file is needed if its rows are. The journal keeps the log that was read, of which no crash undoes an entry, so what
+/// is appended follows its rows.
 ///
 /// # Errors
 ///
@@ -295,6 +318,9 @@ pub fn open_log<D: Disk + Drop>(
     ensures continues { IfOk result (λ opened. AreClean D.Disk.is_clean opened → opened.journal.at.newest ≡ opened.read.commits) }
     ensures kept { Mixes D.Disk.is_mixing
         → IfOk result (λ opened. AreClean D.Disk.is_clean opened → KeepsRows D.Disk.seen D.Disk.may_leave opened) }
+    ensures logs { Mixes D.Disk.is_mixing → IfOk result (λ opened. AreClean D.Disk.is_clean opened
+        → IsOpened columns D.Disk.seen D.Disk.may_leave (D.Disk.seen even) (D.Disk.seen odd) opened
+        ⊎ IsOpened columns D.Disk.seen D.Disk.may_leave (D.Disk.seen odd) (D.Disk.seen even) opened) }
     ensures spare { IfOk result (λ r. IsSpareOf r.source r.spare) }
     ensures begins { IfOk result (BeginsLog columns D.Disk.seen D.Disk.may_leave) }
 {

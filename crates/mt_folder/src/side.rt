@@ -4,7 +4,7 @@ ghost use Rattle.std.specs.Prelude.{◌≡◌, ◌↔◌, ◌+◌, ◌<◌, ◌^
 ghost use Rattle.mt_folder.specs.Files.{is_blank, HeaderOf, Says};
 ghost use Rattle.mt_folder.specs.Logs.{last_number};
 ghost use Rattle.mt_folder.specs.Looking.{IsFirstFrame, LacksNone};
-ghost use Rattle.mt_journal.specs.Keeping.{Keeps};
+ghost use Rattle.mt_journal.specs.Keeping.{AllAreLogs, Keeps};
 ghost use Rattle.mt_folder.specs.Sides.{IsNewer, IsNoNewer};
 
 use crate::error::{FolderError, LogFile};
@@ -149,6 +149,8 @@ impl<D: Disk + Drop> Side<D> {
         ensures clean { IfOk result (λ opened. IsTrue (D.Disk.is_clean opened.journal.disk) → IsTrue (D.Disk.is_clean self.disk)) }
         ensures kept { IfOk result (λ opened. IsTrue (D.Disk.is_clean opened.journal.disk) → Keeps opened.journal.at
             (D.Disk.seen opened.journal.disk) (D.Disk.may_leave opened.journal.disk) opened.log.header opened.log.entries.items) }
+        ensures all { IfOk result (λ opened. IsTrue (D.Disk.is_clean opened.journal.disk)
+            → AllAreLogs opened.log.header opened.log.entries.items (D.Disk.may_leave opened.journal.disk)) }
     {
         let Side { file, disk, .. } = self;
         let mut disk = disk;

@@ -1,5 +1,5 @@
 -- The first entries of a log that has no seal.
-use Rattle.std.proofs.Common.{◌≡◌, ◌∙◌, ◌++◌, ◌-◌, ◌||◌, ◌==◌, ℕ, Bool, true, false, List, length, take, drop, refl, sym, ap, arith, append_assoc, IsTrue, inl, inr}
+use Rattle.std.proofs.Common.{◌≡◌, ◌∙◌, ◌++◌, ◌-◌, ◌≤◌, ◌||◌, ◌==◌, ℕ, Bool, true, false, List, length, take, drop, refl, sym, ap, arith, append_assoc, length-append, IsTrue, inl, inr}
 use Rattle.std.specs.List.{list_any}
 use Rattle.std.proofs.Math.Seq.{take-append_seam}
 use Rattle.std.proofs.lemmas.Bool.Decides.{eqb_tells}
@@ -42,3 +42,11 @@ whole_from_first base sealed none whole = elim (eqb_tells base 0) [
   | inl is ↦ is.1
   | inr other ↦ absurd (let clash : false ≡ true = sym (ap (λ (b : Bool). b || sealed) other.0 ∙ none) ∙ whole in cc)
 ]
+
+-- nor more commits than all of them
+pub front_within : (b count : ℕ) (entries : List Entry) → number_after b (take count entries) ≤ number_after b entries
+front_within b count entries =
+    let first = records_in (take count entries) in
+    let rest = records_in (drop count entries) in
+    let parts : first ++ rest ≡ records_in entries = sym (records-append (take count entries) (drop count entries)) ∙ ap records_in (take-append-drop count entries) in
+    omega (arith, ap length parts, length-append first rest)

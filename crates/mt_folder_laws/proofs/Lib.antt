@@ -3,4 +3,6 @@ pub mod FrontLemmas
 pub mod CopiedLemmas
 pub mod PartLemmas
 pub mod GrownLemmas
+pub mod SourceLemmas
+pub mod AlikeLemmas
 pub mod CrashLemmas

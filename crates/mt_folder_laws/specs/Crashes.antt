@@ -1,13 +1,12 @@
 -- What is read of the two files of a folder after a crash. An index of C columns has made these changes.
-use Rattle.std.specs.Prelude.{◌≡◌, ◌⊎◌, ◌+◌, ◌<◌, ◌≤◌, ℕ, false, List, Option, take, IsTrue}
+use Rattle.std.specs.Prelude.{◌≡◌, ◌⊎◌, ◌<◌, ◌≤◌, ℕ, false, List, Option, length, take, IsTrue}
 use Rattle.std.specs.List.{list_any}
 use Rattle.std.specs.FinMap.{empty}
 use Rattle.mt_types.specs.Rows.{after}
 use Rattle.mt_types.specs.declared.row.Change.{Change}
 use Rattle.mt_frame.specs.declared.entry.Entry.{Entry}
 use Rattle.mt_frame.specs.declared.entry.LogHeader.{LogHeader}
-use Rattle.mt_journal.specs.Keeping.{Survives}
-use Rattle.mt_replay.specs.Redo.{is_seal}
+use Rattle.mt_replay.specs.Redo.{is_seal, number_after}
 use Rattle.mt_replay.specs.RedoLaws.{HaveCommits}
 use Rattle.mt_folder.specs.declared.log.LogRead.{LogRead}
 use Rattle.mt_folder.specs.declared.reading.RowsRead.{RowsRead}
@@ -29,25 +28,8 @@ pub record AreFirst (C : ℕ) (changes : List Change) (durable : ℕ) (read : Ro
 pub record IsUnsealed (C : ℕ) (changes : List Change) (header : LogHeader) (entries : List Entry) : Type 0 where
   pub columns : header.columns ≡ C
   pub commits : HaveCommits C changes header.base entries
+  pub within : number_after header.base entries ≤ length changes
   pub unsealed : list_any is_seal entries ≡ false
-
--- A LOG FROM THE FIRST COMMIT ON, of which a crash has left this, beside a file without a newer log
-abbrev pub FirstLogsSurvive : Type 0
-FirstLogsSurvive =
-    (C : ℕ) (changes : List Change) (header : LogHeader) (entries : List Entry) (durable : ℕ) (left others : List ℕ) (read : RowsRead)
-    → IsUnsealed C changes header entries → header.base ≡ 0
-    → Survives header entries durable left
-    → ((other : LogRead) → Says C others other → other.header.generation < header.generation)
-    → AreRead C left others read → AreFirst C changes durable read
-
--- A LOG WHOSE CHECKPOINT IS IN PROGRESS, of which a crash has left this, beside the whole log that it continues
-abbrev pub CheckpointsSurvive : Type 0
-CheckpointsSurvive =
-    (C : ℕ) (changes : List Change) (older : LogRead) (header : LogHeader) (entries : List Entry) (durable : ℕ) (left others : List ℕ) (read : RowsRead)
-    → IsUnsealed C changes header entries → header.base ≡ last_number older → header.generation ≡ older.header.generation + 1
-    → rows_left older empty ≡ after C (take (last_number older) changes)
-    → Survives header entries durable left → Says C others older
-    → AreRead C left others read → AreFirst C changes durable read
 
 -- A WHOLE LOG that a crash has left so, beside a file without a newer log
 abbrev pub SealedLogsSurvive : Type 0

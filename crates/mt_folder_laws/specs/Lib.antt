@@ -2,3 +2,4 @@
 pub mod Copied
 pub mod Crashes
 pub mod Grown
+pub mod Left

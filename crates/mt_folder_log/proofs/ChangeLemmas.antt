@@ -1,5 +1,5 @@
 -- What the calls of a log do to the changes that a folder keeps.
-use Rattle.std.proofs.Common.{◌≡◌, ◌∙◌, ◌++◌, ◌∷◌, ◌+◌, ◌-◌, ◌<◌, ◌≤◌, ◌||◌, ◌==◌, ◌⊎◌, ℕ, Bool, true, false, List, [], length, take, drop, refl, sym, ap, subst, arith, inl, inr, length-append, IsFalse, Result, Ok, Err, Option, Some, None}
+use Rattle.std.proofs.Common.{◌≡◌, ◌∙◌, ◌++◌, ◌∷◌, ◌+◌, ◌-◌, ◌<◌, ◌≤◌, ◌||◌, ◌⊎◌, ℕ, Bool, true, false, List, [], length, take, drop, refl, sym, ap, subst, arith, inl, inr, length-append, IsFalse, Result, Ok, Err, Option, Some, None}
 use Rattle.std.specs.Prelude.{nat_lt, unwrap_or, OnOk, OnErr}
 use Rattle.std.specs.List.{list_any}
 use Rattle.std.specs.FinMap.{empty}
@@ -30,10 +30,11 @@ use Rattle.mt_folder.specs.declared.opening.Spare.{Spare}
 use Rattle.mt_folder.specs.declared.opening.Spare.TheVariants.{Free as FreeSpare, Needed as NeededSpare}
 use Rattle.mt_folder.specs.Spares.{is_needed}
 use Rattle.mt_folder.specs.Kept.{rows_after}
+use Rattle.mt_replay.proofs.FollowLemmas.{commits_are_redone}
 use Rattle.mt_folder.proofs.SourceLemmas.{last_is}
 use Rattle.mt_folder_laws.specs.Copied.{Covers}
 use Rattle.mt_folder_laws.proofs.CopiedLemmas.{sealed_rows}
-use Rattle.mt_folder_laws.proofs.CrashLemmas.{has_seal, of_whole}
+use Rattle.mt_folder_laws.proofs.CrashLemmas.{all_rows}
 use Rattle.mt_folder_laws.proofs.PartLemmas.{copied_part}
 use Rattle.mt_folder_log.specs.declared.checkpoint.Other.{Other}
 use Rattle.mt_folder_log.specs.declared.checkpoint.Other.TheVariants.{Free, Needed, Gone}
@@ -41,7 +42,7 @@ use Rattle.mt_folder_log.specs.declared.checkpoint.TheConstants.{PART}
 use Rattle.mt_folder_log.specs.Folder.{AllFound, AreKept, AreNext, AreNextRows, HasRole, IsWhole, MayBeBeside}
 use Rattle.mt_folder_log.specs.Moving.{continued, end_of, start_of, IfNeeded, IsAfter, IsFree, IsOfSpare}
 use Rattle.mt_folder_log.proofs.MovingLemmas.{if_err}
-use Rattle.mt_folder_log.proofs.RoleLemmas.{found, found_before, have_next, role_commits, role_fewer, unsealed_next, whole_rows}
+use Rattle.mt_folder_log.proofs.RoleLemmas.{found, found_before, found_whole, has_rows, have_next, role_commits, role_fewer, unsealed_next, within_next}
 
 or_true : (b : Bool) → (b || true) ≡ true
 or_true true = refl
@@ -58,10 +59,15 @@ have_nothing C changes n =
     ap (λ (k : ℕ). take k (drop n (records_of C changes))) (sym none)
 
 -- an entry without commits
-have_other : (C : ℕ) (changes : List Change) (b : ℕ) (entries : List Entry) (entry : Entry) → records_in (entry ∷ []) ≡ [] → HaveCommits C changes b entries → HaveCommits C changes b (entries ++ entry ∷ [])
+pub have_other : (C : ℕ) (changes : List Change) (b : ℕ) (entries : List Entry) (entry : Entry) → records_in (entry ∷ []) ≡ [] → HaveCommits C changes b entries → HaveCommits C changes b (entries ++ entry ∷ [])
 have_other C changes b entries entry none have =
     let same : records_in (entries ++ entry ∷ []) ≡ records_in entries = records-append entries (entry ∷ []) ∙ ap (λ (rs : List Record). records_in entries ++ rs) none ∙ append-nil (records_in entries) in
     same ∙ have ∙ ap (λ (rs : List Record). take (b + length rs - b) (drop b (records_of C changes))) (sym same)
+
+pub within_other : (b : ℕ) (entries : List Entry) (entry : Entry) (most : ℕ) → records_in (entry ∷ []) ≡ [] → number_after b entries ≤ most → number_after b (entries ++ entry ∷ []) ≤ most
+within_other b entries entry most none within =
+    let same : records_in (entries ++ entry ∷ []) ≡ records_in entries = records-append entries (entry ∷ []) ∙ ap (λ (rs : List Record). records_in entries ++ rs) none ∙ append-nil (records_in entries) in
+    omega (arith, ap length same, within)
 
 module _ {D : Type 0} (C : ℕ) (seen : D → List ℕ) (may_leave : D → List ℕ → Type 0) (changes : List Change) where
   -- ---- a folder whose first log has no entries
@@ -73,6 +79,7 @@ module _ {D : Type 0} (C : ℕ) (seen : D → List ℕ) (may_leave : D → List 
     keeps = keeps;
     columns = refl;
     commits = have_nothing C changes 0;
+    within = omega arith;
     role = inl (refl, refl);
   }
   begins at disk (FreeSpare file size) (Needed free last copied has_all) unneeded is keeps = absurd is
@@ -81,31 +88,31 @@ module _ {D : Type 0} (C : ℕ) (seen : D → List ℕ) (may_leave : D → List 
 
   -- ---- a crash
   -- of a log that has these entries, in the role that they have
-  by_role : (header : LogHeader) (entries : List Entry) (durable generation : ℕ) (disk : D) (other : Other D) → header.columns ≡ C → HaveCommits C changes header.base entries → generation ≡ header.generation
+  by_role : (header : LogHeader) (entries : List Entry) (durable generation : ℕ) (disk : D) (other : Other D) → header.columns ≡ C → HaveCommits C changes header.base entries → number_after header.base entries ≤ length changes → generation ≡ header.generation
       → HasRole C changes may_leave other header entries (may_leave disk) → AllSurvive header entries durable (may_leave disk) → AllFound C may_leave changes durable generation disk other
-  by_role header entries durable generation disk other columns have same role survive = λ left others read may_left beside are.
-      found C changes may_leave other header entries (may_leave disk) durable generation columns have same role left others read may_left (survive left may_left) beside are
+  by_role header entries durable generation disk other columns have within same role survive = λ left others may_left beside.
+      found C changes may_leave other header entries (may_leave disk) durable generation columns have within same role left others may_left (survive left may_left) beside
 
   pub recovers : (at : Position) (disk : D) (other : Other D) → AreKept C seen may_leave changes at disk other → AllFound C may_leave changes at.durable at.generation disk other
   recovers at disk other kept =
-      by_role kept.header kept.entries at.durable at.generation disk other kept.columns kept.commits kept.keeps.generation kept.role
+      by_role kept.header kept.entries at.durable at.generation disk other kept.columns kept.commits kept.within kept.keeps.generation kept.role
       (all_survive at (seen disk) (may_leave disk) (may_leave disk) kept.header kept.entries kept.keeps (λ left may_left. may_left))
 
   pub recovers_fewer : (at : Position) (disk new : D) (other : Other D) → ((left : List ℕ) → may_leave new left → may_leave disk left) → AreKept C seen may_leave changes at disk other → AllFound C may_leave changes at.durable at.generation new other
-  recovers_fewer at disk new other fewer kept = λ left others read may_left. recovers at disk other kept left others read (fewer left may_left)
+  recovers_fewer at disk new other fewer kept = λ left others may_left. recovers at disk other kept left others (fewer left may_left)
 
   -- if the log has all rows, whatever the other file is then
-  pub recovers_spare : (at : Position) (disk new : D) (other spare : Other D) → ((log : List ℕ) → MayBeBeside C may_leave at.generation spare log → MayBeBeside C may_leave at.generation other log)
+  pub recovers_spare : (at : Position) (disk new : D) (other spare : Other D) → ((log : List ℕ) → MayBeBeside C may_leave at.durable at.generation spare log → MayBeBeside C may_leave at.durable at.generation other log)
       → ((left : List ℕ) → may_leave new left → may_leave disk left) → AreKept C seen may_leave changes at disk other → AllFound C may_leave changes at.durable at.generation new spare
-  recovers_spare at disk new other spare beside fewer kept = λ left others read may_left is. recovers at disk other kept left others read (fewer left may_left) (beside others is)
+  recovers_spare at disk new other spare beside fewer kept = λ left others may_left is. recovers at disk other kept left others (fewer left may_left) (beside others is)
 
-  pub beside_free : (generation : ℕ) (file : D) (most : ℕ) (other spare : Other D) → other ≡ Free file most → (spare ≡ Gone) ⊎ IsFree spare → (log : List ℕ) → MayBeBeside C may_leave generation spare log → MayBeBeside C may_leave generation other log
-  beside_free generation file most other (Free disk more) free which log is = subst (λ (o : Other D). MayBeBeside C may_leave generation o log) (sym free) is
-  beside_free generation file most other (Needed disk last copied has_all) free which log is = elim which [
+  pub beside_free : (durable generation : ℕ) (file : D) (most : ℕ) (other spare : Other D) → other ≡ Free file most → (spare ≡ Gone) ⊎ IsFree spare → (log : List ℕ) → MayBeBeside C may_leave durable generation spare log → MayBeBeside C may_leave durable generation other log
+  beside_free durable generation file most other (Free disk more) free which log is = subst (λ (o : Other D). MayBeBeside C may_leave durable generation o log) (sym free) is
+  beside_free durable generation file most other (Needed disk last copied has_all) free which log is = elim which [
     | inl gone ↦ cc
     | inr wrong ↦ absurd wrong
   ]
-  beside_free generation file most other Gone free which log is = subst (λ (o : Other D). MayBeBeside C may_leave generation o log) (sym free) is
+  beside_free durable generation file most other Gone free which log is = subst (λ (o : Other D). MayBeBeside C may_leave durable generation o log) (sym free) is
 
   -- ---- commits
   module _ (at : Position) (disk new : D) (other : Other D) (records : List Record) (kept : AreKept C seen may_leave changes at disk other) (next : AreNext C changes at.newest records) (fronts : KeepsFronts at.end (may_leave disk) (may_leave new)) where
@@ -114,6 +121,11 @@ module _ {D : Type 0} (C : ℕ) (seen : D → List ℕ) (may_leave : D → List 
         have_next C changes kept.header.base at.newest kept.entries (record { first = at.newest + 1; durable = at.durable; records = records })
         (newest_is at (seen disk) (may_leave disk) kept.header kept.entries kept.keeps) kept.commits next
 
+    within_more : number_after kept.header.base (with_commits at records kept.entries) ≤ length changes
+    within_more =
+        within_next C changes kept.header.base at.newest kept.entries (record { first = at.newest + 1; durable = at.durable; records = records })
+        (newest_is at (seen disk) (may_leave disk) kept.header kept.entries kept.keeps) kept.within next
+
     role_more : HasRole C changes may_leave other kept.header (with_commits at records kept.entries) (may_leave new)
     role_more =
         role_commits C changes may_leave other kept.header kept.entries (record { first = at.newest + 1; durable = at.durable; records = records }) at.end (may_leave disk) (may_leave new)
@@ -121,11 +133,11 @@ module _ {D : Type 0} (C : ℕ) (seen : D → List ℕ) (may_leave : D → List 
 
     pub appended : {T E : Type 0} (result : Result T E) (then : Position) → OnOk result (Keeps then (seen new) (may_leave new) kept.header (with_commits at records kept.entries)) → OnOk result (AreKept C seen may_leave changes then new other)
     appended (Err e) then keeps = tt
-    appended (Ok x) then keeps = record { header = kept.header; entries = with_commits at records kept.entries; keeps = keeps; columns = kept.columns; commits = commits_more; role = role_more }
+    appended (Ok x) then keeps = record { header = kept.header; entries = with_commits at records kept.entries; keeps = keeps; columns = kept.columns; commits = commits_more; within = within_more; role = role_more }
 
     pub append_recovers : AllSurvive kept.header (with_commits at records kept.entries) at.durable (may_leave new) → AllFound C may_leave changes at.durable at.generation new other
     append_recovers survive =
-        by_role kept.header (with_commits at records kept.entries) at.durable at.generation new other kept.columns commits_more kept.keeps.generation role_more survive
+        by_role kept.header (with_commits at records kept.entries) at.durable at.generation new other kept.columns commits_more within_more kept.keeps.generation role_more survive
 
   -- ---- a sync
   pub synced : {T E : Type 0} (result : Result T E) (at then : Position) (disk new : D) (other : Other D) → ((left : List ℕ) → may_leave new left → may_leave disk left)
@@ -137,6 +149,7 @@ module _ {D : Type 0} (C : ℕ) (seen : D → List ℕ) (may_leave : D → List 
     keeps = keeps;
     columns = kept.columns;
     commits = kept.commits;
+    within = kept.within;
     role = role_fewer C changes may_leave other kept.header kept.entries (may_leave disk) (may_leave new) fewer kept.role;
   }
 
@@ -149,16 +162,17 @@ module _ {D : Type 0} (C : ℕ) (seen : D → List ℕ) (may_leave : D → List 
     keeps = keeps;
     columns = refl;
     commits = have_nothing C changes at.newest;
+    within = omega (arith, newest_is at (seen disk) (may_leave disk) kept.header kept.entries kept.keeps, kept.within);
     role = (
       refl,
-      record {
+      λ others may_left. record {
         older = kept.header;
         entries = kept.entries;
         columns = kept.columns;
         base = newest_is at (seen disk) (may_leave disk) kept.header kept.entries kept.keeps;
         generation = ap (λ (n : ℕ). n + 1) kept.keeps.generation;
-        rows = whole_rows C changes kept.header kept.entries (may_leave disk) kept.commits whole;
-        stays = all;
+        rows = all_rows commits_are_redone C changes kept.header kept.entries kept.commits (has_rows C changes kept.header kept.entries (may_leave disk) whole);
+        log = all others may_left;
       },
       record { listed = tt; others = λ key covers. absurd covers },
     );
@@ -173,6 +187,9 @@ module _ {D : Type 0} (C : ℕ) (seen : D → List ℕ) (may_leave : D → List 
     commits_same : (entry : Entry) → records_in (entry ∷ []) ≡ [] → HaveCommits C changes kept.header.base (kept.entries ++ entry ∷ [])
     commits_same entry none = have_other C changes kept.header.base kept.entries entry none kept.commits
 
+    within_same : (entry : Entry) → records_in (entry ∷ []) ≡ [] → number_after kept.header.base (kept.entries ++ entry ∷ []) ≤ length changes
+    within_same entry none = within_other kept.header.base kept.entries entry (length changes) none kept.within
+
     -- the next rows
     pub copied_more : {T E : Type 0} (result : Result T E) (then : Position) (other : Other D) (part : Part) (count : ℕ) → AreNextRows C changes at.newest (Needed before last copied has_all) part
         → other ≡ Needed before (option_or (end_of part) last) count (nat_lt (length part.rows) PART) → OnOk result (Keeps then (seen new) (may_leave new) kept.header (with_part part kept.entries)) → OnOk result (AreKept C seen may_leave changes then new other)
@@ -183,6 +200,7 @@ module _ {D : Type 0} (C : ℕ) (seen : D → List ℕ) (may_leave : D → List 
       keeps = keeps;
       columns = kept.columns;
       commits = commits_same (Listed part) refl;
+      within = within_same (Listed part) refl;
       role = (
         unsealed_next kept.entries (Listed part) refl kept.role.0,
         kept.role.1,
@@ -192,8 +210,8 @@ module _ {D : Type 0} (C : ℕ) (seen : D → List ℕ) (may_leave : D → List 
     })
 
     pub copy_recovers : (part : Part) → AllSurvive kept.header (with_part part kept.entries) at.durable (may_leave new) → AllFound C may_leave changes at.durable at.generation new (Needed before last copied has_all)
-    copy_recovers part survive = λ left others read may_left beside are.
-        found_before C changes kept.header (with_part part kept.entries) at.durable left others read kept.columns (commits_same (Listed part) refl) (survive left may_left) are (may_leave before)
+    copy_recovers part survive = λ left others may_left beside.
+        found_before C changes kept.header (with_part part kept.entries) at.durable left others kept.columns (commits_same (Listed part) refl) (within_same (Listed part) refl) (survive left may_left) (may_leave before)
         (unsealed_next kept.entries (Listed part) refl kept.role.0) kept.role.1 beside
 
     -- the seal
@@ -208,16 +226,18 @@ module _ {D : Type 0} (C : ℕ) (seen : D → List ℕ) (may_leave : D → List 
 
     whole_sealed : (count : ℕ) (leaves : List ℕ → Type 0) → has_all ≡ true → MaySay kept.header (with_seal count kept.entries) → AllAreLogs kept.header (with_seal count kept.entries) leaves → IsWhole C changes kept.header (with_seal count kept.entries) leaves
     whole_sealed count leaves all says logs = inr (record {
-      first = with_seal count kept.entries;
-      later = [];
-      joined = sym (append-nil (with_seal count kept.entries));
-      says = says;
-      sealed = record {
-        columns = kept.columns;
-        sealed = seals count;
-        rows = rows_sealed count all;
-        more = tt;
-        commits = have_nothing C changes (number_after kept.header.base (with_seal count kept.entries));
+      seal = record {
+        first = with_seal count kept.entries;
+        later = [];
+        joined = sym (append-nil (with_seal count kept.entries));
+        says = says;
+        sealed = record {
+          columns = kept.columns;
+          sealed = seals count;
+          rows = rows_sealed count all;
+          more = tt;
+          commits = have_nothing C changes (number_after kept.header.base (with_seal count kept.entries));
+        };
       };
       begins = λ left may_left. let log = logs left may_left in (log.rest, log.parts);
     })
@@ -230,6 +250,7 @@ module _ {D : Type 0} (C : ℕ) (seen : D → List ℕ) (may_leave : D → List 
       keeps = keeps;
       columns = kept.columns;
       commits = commits_same (Sealed count) refl;
+      within = within_same (Sealed count) refl;
       role = whole_sealed count (may_leave new) all keeps.says logs;
     }
     sealed then (Needed file key number done) count all is logs keeps = absurd is
@@ -238,25 +259,25 @@ module _ {D : Type 0} (C : ℕ) (seen : D → List ℕ) (may_leave : D → List 
     -- the log before has another generation
     older : (others : List ℕ) → may_leave before others → (log : LogRead) → Says C others log → log.header.generation < kept.header.generation
     older others may_leave_it log said =
-        let it = kept.role.1 in
-        let same = (logs_read_one_way it.older log.header it.entries log.entries.items others (it.stays others may_leave_it) said.spells).0 in
+        let it = kept.role.1 others may_leave_it in
+        let same = (logs_read_one_way it.older log.header it.entries log.entries.items others it.log said.spells).0 in
         omega (arith, it.generation, ap (λ (h : LogHeader). h.generation) same)
 
     pub seal_recovers : (count : ℕ) → has_all ≡ true → AllSurvive kept.header (with_seal count kept.entries) at.durable (may_leave new) → AllFound C may_leave changes at.durable at.generation new (Needed before last copied has_all)
-    seal_recovers count all survive = λ left others read may_left beside are.
+    seal_recovers count all survive = λ left others may_left beside.
         let s = survive left may_left in
         elim (leb_tells s.count (length kept.entries)) [
           | inl few ↦
               let same : take s.count (with_seal count kept.entries) ≡ take s.count kept.entries = take-append-le s.count kept.entries (Sealed count ∷ []) few.1 in
-              found_before C changes kept.header kept.entries at.durable left others read kept.columns kept.commits
+              found_before C changes kept.header kept.entries at.durable left others kept.columns kept.commits kept.within
               (record { count = s.count; within = few.1; log = subst (λ (l : List Entry). IsLog kept.header l left) same s.log; kept = subst (λ (l : List Entry). at.durable ≤ last_number kept.header.base l) same s.kept })
-              are (may_leave before) kept.role.0 kept.role.1 beside
+              (may_leave before) kept.role.0 kept.role.1 beside
           | inr many ↦
               let whole = with_seal count kept.entries in
               let same : take s.count whole ≡ whole = take_all s.count whole (omega (arith, many.1, length-append kept.entries (Sealed count ∷ []))) in
-              of_whole logs_read_one_way C changes kept.header whole at.durable left others read kept.columns (subst (λ (l : List Entry). IsLog kept.header l left) same s.log)
-              (has_seal (kept.header.base == 0) (list_any is_seal whole) (seals count)) (rows_sealed count all)
-              (omega (arith, s.kept, last_is kept.header.base (take s.count whole), ap (number_after kept.header.base) same)) (older others beside) are
+              let log = subst (λ (l : List Entry). IsLog kept.header l left) same s.log in
+              found_whole C changes kept.header whole at.durable left others kept.columns (commits_same (Sealed count) refl) (within_same (Sealed count) refl) s (IsLog kept.header whole)
+              (whole_sealed count (IsLog kept.header whole) all log.says (λ bytes is. is)) log (λ other says. inl (older others beside other says))
         ]
 
   -- whatever the other file is

@@ -1,3 +1,4 @@
 pub mod MovingLemmas
 mod RoleLemmas
 pub mod ChangeLemmas
+pub mod OpenedLemmas

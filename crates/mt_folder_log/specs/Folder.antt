@@ -1,7 +1,6 @@
 -- THE COMMITS OF A FOLDER: what the log in use and the other file have of the changes of an index, and what a crash leaves.
-use Rattle.std.specs.Prelude.{◌≡◌, ◌⊎◌, ◌<◌, ◌+◌, ◌++◌, ℕ, true, false, List, [], take, length, drop}
+use Rattle.std.specs.Prelude.{◌≡◌, ◌⊎◌, ◌≤◌, ℕ, true, false, List, [], take, length, drop}
 use Rattle.std.specs.List.{list_any}
-use Rattle.std.specs.FinMap.{empty}
 use Rattle.mt_types.specs.Rows.{after}
 use Rattle.mt_types.specs.declared.row.Change.{Change}
 use Rattle.mt_frame.specs.declared.entry.Entry.{Entry}
@@ -9,19 +8,14 @@ use Rattle.mt_frame.specs.declared.entry.LogHeader.{LogHeader}
 use Rattle.mt_frame.specs.declared.entry.Part.{Part}
 use Rattle.mt_frame.specs.declared.entry.Record.{Record}
 use Rattle.mt_journal.specs.declared.position.Position.{Position}
-use Rattle.mt_journal.specs.Keeping.{Keeps, AllAreLogs, AllBegin}
-use Rattle.mt_journal.specs.Log.{log_spelling, MaySay}
+use Rattle.mt_journal.specs.Keeping.{Keeps, AllBegin}
+use Rattle.mt_journal.specs.Log.{log_spelling}
 use Rattle.mt_promise.specs.Alone.{IsRangeOfMap}
 use Rattle.mt_replay.specs.Redo.{is_seal, number_after}
 use Rattle.mt_replay.specs.RedoLaws.{HaveCommits}
 use Rattle.mt_replay.specs.Replay.{records_of}
-use Rattle.mt_folder.specs.declared.log.LogRead.{LogRead}
-use Rattle.mt_folder.specs.declared.reading.RowsRead.{RowsRead}
-use Rattle.mt_folder.specs.Files.{Says}
-use Rattle.mt_folder.specs.Kept.{rows_after}
 use Rattle.mt_folder_laws.specs.Copied.{AreCopied, Covers}
-use Rattle.mt_folder_laws.specs.Crashes.{AreFirst, AreRead}
-use Rattle.mt_folder_laws.specs.Grown.{IsSealed}
+use Rattle.mt_folder_laws.specs.Left.{AreLeft, HasNoNewer, HasSeal, IsOnOlder}
 use Rattle.mt_folder_log.specs.declared.checkpoint.Other.{Other}
 use Rattle.mt_folder_log.specs.declared.checkpoint.Other.TheVariants.{Free, Needed, Gone}
 use Rattle.mt_folder_log.specs.declared.checkpoint.TheConstants.{PART}
@@ -30,12 +24,8 @@ use Rattle.mt_folder_log.specs.Moving.{start_of}
 
 -- the log has a seal, and whatever a crash leaves of it has the entries up to the seal
 pub record KeepsSeal (C : ℕ) (changes : List Change) (header : LogHeader) (entries : List Entry) (leaves : List ℕ → Type 0) : Type 0 where
-  pub first : List Entry
-  pub later : List Entry
-  pub joined : entries ≡ first ++ later
-  pub says : MaySay header first
-  pub sealed : IsSealed C changes header first later
-  pub begins : AllBegin (log_spelling header first) leaves
+  pub seal : HasSeal C changes header entries
+  pub begins : AllBegin (log_spelling header seal.first) leaves
 
 -- the log has all rows itself: from the first commit on, or since its seal
 abbrev pub IsWhole : ℕ → List Change → LogHeader → List Entry → (List ℕ → Type 0) → Type 0
@@ -43,16 +33,10 @@ IsWhole C changes header entries leaves =
     ((header.base ≡ 0) × (list_any is_seal entries ≡ false)) ⊎ KeepsSeal C changes header entries leaves
 
 -- the file has the whole log that the log in use continues, and a crash can't change it
-pub record IsBefore (C : ℕ) (changes : List Change) (header : LogHeader) (leaves : List ℕ → Type 0) : Type 0 where
-  pub older : LogHeader
-  pub entries : List Entry
-  pub columns : older.columns ≡ C
-  pub base : header.base ≡ number_after older.base entries
-  pub generation : header.generation ≡ older.generation + 1
-  pub rows : rows_after older entries empty ≡ after C (take (number_after older.base entries) changes)
-  pub stays : AllAreLogs older entries leaves
+abbrev pub IsBefore : ℕ → List Change → LogHeader → (List ℕ → Type 0) → Type 0
+IsBefore C changes header leaves = (others : List ℕ) → leaves others → IsOnOlder C changes header others
 
--- by what the other file is to the log in use
+-- by the role of the other file
 abbrev pub HasRole : {D : Type 0} → ℕ → List Change → (D → List ℕ → Type 0) → Other D → LogHeader → List Entry → (List ℕ → Type 0) → Type 0
 HasRole C changes may_leave (Free disk most) header entries leaves = IsWhole C changes header entries leaves
 HasRole C changes may_leave (Needed disk last copied has_all) header entries leaves =
@@ -68,6 +52,7 @@ pub record AreKept {D : Type 0} (C : ℕ) (seen : D → List ℕ) (may_leave : D
   pub keeps : Keeps at (seen disk) (may_leave disk) header entries
   pub columns : header.columns ≡ C
   pub commits : HaveCommits C changes header.base entries
+  pub within : number_after header.base entries ≤ length changes
   pub role : HasRole C changes may_leave other header entries (may_leave disk)
 
 abbrev pub HasChanges : {D : Type 0} → (D → List ℕ) → (D → List ℕ → Type 0) → List Change → FolderLog D → Type 0
@@ -88,18 +73,18 @@ HasAll (Free disk most) = Unit {0}
 HasAll (Needed disk last copied has_all) = has_all ≡ true
 HasAll Gone = Unit {0}
 
--- what a crash may leave of the other file: what it may of the log before, or anything without a newer log than the one in use
-abbrev pub MayBeBeside : {D : Type 0} → ℕ → (D → List ℕ → Type 0) → ℕ → Other D → List ℕ → Type 0
-MayBeBeside C may_leave generation (Free disk most) others = (log : LogRead) → Says C others log → log.header.generation < generation
-MayBeBeside C may_leave generation (Needed disk last copied has_all) others = may_leave disk others
-MayBeBeside C may_leave generation Gone others = (log : LogRead) → Says C others log → log.header.generation < generation
+-- what a crash may leave of the other file: what it may of the log before, or anything without a newer log than the one in use,
+-- but for one that was begun after a durable commit and not used
+abbrev pub MayBeBeside : {D : Type 0} → ℕ → (D → List ℕ → Type 0) → ℕ → ℕ → Other D → List ℕ → Type 0
+MayBeBeside C may_leave durable generation (Free disk most) others = HasNoNewer C generation durable others
+MayBeBeside C may_leave durable generation (Needed disk last copied has_all) others = may_leave disk others
+MayBeBeside C may_leave durable generation Gone others = HasNoNewer C generation durable others
 
--- AFTER A CRASH, whatever it leaves of the two files, of which the log in use has this generation, the rows that are read of them
--- are those after the first of these changes, at least as many as are durable
+-- AFTER A CRASH, whatever it leaves of the two files, of which the log in use has this generation, they have the first of these
+-- changes, at least as many as are durable, and the rows after them are read
 abbrev pub AllFound : {D : Type 0} → ℕ → (D → List ℕ → Type 0) → List Change → ℕ → ℕ → D → Other D → Type 0
 AllFound C may_leave changes durable generation disk other =
-    (left others : List ℕ) (read : RowsRead) → may_leave disk left → MayBeBeside C may_leave generation other others
-    → AreRead C left others read → AreFirst C changes durable read
+    (left others : List ℕ) → may_leave disk left → MayBeBeside C may_leave durable generation other others → AreLeft C changes durable left others
 
 abbrev pub AllRecover : {D : Type 0} → (D → List ℕ → Type 0) → List Change → ℕ → ℕ → FolderLog D → Type 0
 AllRecover may_leave changes durable generation log =

@@ -77,12 +77,12 @@ IsClean is_clean (Free disk most) = IsTrue (is_clean disk)
 IsClean is_clean (Needed disk last copied has_all) = IsTrue (is_clean disk)
 IsClean is_clean Gone = Unit {0}
 
--- WHAT A CHECKPOINT NEEDS NEXT: of a log that ends there, `least` bytes are worth one
-abbrev pub round_of : {D : Type 0} → ℕ → ℕ → Other D → Round
-round_of least end (Free disk most) = if nat_lt 0 least && nat_le most end then Moves else Rests
-round_of least end (Needed disk last copied true) = Seals
-round_of least end (Needed disk last copied false) = Copies
-round_of least end Gone = Rests
+-- WHAT A CHECKPOINT NEEDS NEXT: of a log at this position, `least` bytes are worth one
+abbrev pub round_of : {D : Type 0} → ℕ → Position → Other D → Round
+round_of least at (Free disk most) = if nat_lt 0 least && nat_lt 0 at.newest && nat_le most at.end then Moves else Rests
+round_of least at (Needed disk last copied true) = Seals
+round_of least at (Needed disk last copied false) = Copies
+round_of least at Gone = Rests
 
 -- the key of the last row of a part
 abbrev pub end_of : Part → Option (List ℕ)

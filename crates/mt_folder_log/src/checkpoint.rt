@@ -1,6 +1,6 @@
 //! How the log of a folder is shortened: it continues in the other file, and the rows are copied there between commits.
 
-ghost use Rattle.std.specs.Prelude.{◌≡◌, ◌⊎◌, false, List, [], length, nat_lt, None, Err, OnOk, OnErr, IfOk, IsTrue};
+ghost use Rattle.std.specs.Prelude.{◌≡◌, ◌⊎◌, ◌<◌, false, List, [], length, nat_lt, None, Err, OnOk, OnErr, IfOk, IsTrue};
 ghost use Rattle.mt_frame.specs.declared.entry.Entry.{Entry};
 ghost use Rattle.mt_frame.specs.declared.entry.LogHeader.{LogHeader};
 ghost use Rattle.mt_journal.specs.Appending.{with_part, with_seal};
@@ -168,8 +168,8 @@ impl<D: Disk + Drop> Other<D> {
 
 impl<D: Disk + Drop> FolderLog<D> {
     /// Makes the log durable, and moves it to the other file: what was written before stays in the file before, which has the
-    /// rows until the checkpoint is sealed. Nothing is done if the other file is needed or has failed. Some ten calls of the
-    /// disks.
+    /// rows until the checkpoint is sealed. Nothing is done if the other file is needed, or the log has no commits. Some ten calls
+    /// of the disks.
     ///
     /// # Errors
     ///
@@ -183,8 +183,9 @@ impl<D: Disk + Drop> FolderLog<D> {
         // Whatever a crash leaves of the file before is the whole log before.
         ensures before { (header : LogHeader) (entries : List Entry)
             → Keeps self.old.journal.at (D.Disk.seen self.old.journal.disk) (D.Disk.may_leave self.old.journal.disk) header entries
+            → 0 < self.old.journal.at.newest
             → IfFree self.old.other (OnOk result (Needs self.new.other (λ disk. AllAreLogs header entries (D.Disk.may_leave disk)))) }
-        ensures begins { IfFree self.old.other (OnOk result (Keeps self.new.journal.at (D.Disk.seen self.new.journal.disk)
+        ensures begins { 0 < self.old.journal.at.newest → IfFree self.old.other (OnOk result (Keeps self.new.journal.at (D.Disk.seen self.new.journal.disk)
             (D.Disk.may_leave self.new.journal.disk) (continued self.old.columns self.old.journal.at) [])) }
 
         // If the log hasn't moved, it has the entries that it had. If memory was refused, or the disk had no room, the call can be
@@ -203,6 +204,10 @@ impl<D: Disk + Drop> FolderLog<D> {
             → OnErr result (AllRecover D.Disk.may_leave changes self.old.journal.at.durable self.old.journal.at.generation self.new) }
     {
         let at = self.journal.position();
+        // (a log that begins with commit 1 has all rows: one that was left without commits would hide those of this one)
+        if at.newest == 0 {
+            return Ok(());
+        }
         let Some(generation) = at.generation.checked_add(1) else {
             return Err(JournalError::TooLong);
         };

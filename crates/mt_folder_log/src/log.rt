@@ -147,11 +147,12 @@ impl<D: Disk + Drop> FolderLog<D> {
 
     /// Returns what the checkpoint needs next: [`Round::Rests`] if none is due.
     pub fn next_round(&self) -> Round
-        ensures { result ≡ round_of self.now.least self.now.journal.at.end self.now.other }
+        ensures { result ≡ round_of self.now.least self.now.journal.at self.now.other }
     {
         match &self.other {
             Other::Free { most, .. } => {
-                if self.least > 0 && self.journal.position().end >= *most {
+                let at = self.journal.position();
+                if self.least > 0 && at.newest > 0 && at.end >= *most {
                     Round::Moves
                 } else {
                     Round::Rests

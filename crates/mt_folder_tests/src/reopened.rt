@@ -119,3 +119,15 @@ fn commits_that_are_lacking(rt: HostRuntime) -> Result<(), Fail> {
     assert!(rt; opened.map.len() == 2);
     Ok(())
 }
+
+#[test]
+fn a_checkpoint_without_commits(rt: HostRuntime) -> Result<(), Fail> {
+    let OpenedMap { mut map, mut log } = new_map(rt.alloc())?;
+    assert!(rt; !log.advance(&map, true)?);
+    put_rows(&mut map, &mut log, 0, 3)?;
+    assert!(rt; log.advance(&map, true)?);
+    end_checkpoint(&map, &mut log, false)?;
+    let opened = again(rt.alloc(), &map, log)?;
+    assert!(rt; opened.map.len() == 3);
+    Ok(())
+}

@@ -32,6 +32,9 @@ fn repair<D: Disk>(disk: &mut D, at: &Position, zeros: &[u8]) -> io::Result<()>
     ensures kept { (header : LogHeader) (entries : List Entry)
         → HasReadAll header entries at.now (D.Disk.seen disk.old)
         → OnOk result (Keeps at.now (D.Disk.seen disk.new) (D.Disk.may_leave disk.new) header entries) }
+    ensures whole { (header : LogHeader) (entries : List Entry)
+        → HasReadAll header entries at.now (D.Disk.seen disk.old)
+        → OnOk result (AllAreLogs header entries (D.Disk.may_leave disk.new)) }
     ensures crash { (header : LogHeader) (entries : List Entry)
         → HasReadAll header entries at.now (D.Disk.seen disk.old) → Mixes D.Disk.is_mixing
         → Only (D.Disk.seen disk.old) (D.Disk.may_leave disk.old)
@@ -79,6 +82,8 @@ pub fn recover<D: Disk>(alloc: Global, disk: &mut D, columns: u8) -> Result<Reco
     ensures read { IfOk result (λ read. IsTrue (D.Disk.is_clean disk.new) → IsLog read.header read.entries.items (D.Disk.seen disk.old)) }
     ensures kept { IfOk result (λ read. IsTrue (D.Disk.is_clean disk.new)
         → Keeps read.at (D.Disk.seen disk.new) (D.Disk.may_leave disk.new) read.header read.entries.items) }
+    ensures whole { IfOk result (λ read. IsTrue (D.Disk.is_clean disk.new)
+        → AllAreLogs read.header read.entries.items (D.Disk.may_leave disk.new)) }
     ensures crash { (header : LogHeader) (entries : List Entry) → IsLog header entries (D.Disk.seen disk.old)
         → IsTrue (D.Disk.is_clean disk.new) → Mixes D.Disk.is_mixing
         → (left : List ℕ) → D.Disk.may_leave disk.new left → D.Disk.may_leave disk.old left ⊎ IsLog header entries left }
@@ -135,6 +140,10 @@ pub fn open<D: Disk + Drop>(
         → IsLog opened.header opened.entries.items (D.Disk.seen disk)) }
     ensures kept { IfOk result (λ opened. IsTrue (D.Disk.is_clean opened.journal.disk)
         → Keeps opened.journal.at (D.Disk.seen opened.journal.disk) (D.Disk.may_leave opened.journal.disk) opened.header opened.entries.items) }
+
+    // No crash undoes an entry that was read.
+    ensures whole { IfOk result (λ opened. IsTrue (D.Disk.is_clean opened.journal.disk)
+        → AllAreLogs opened.header opened.entries.items (D.Disk.may_leave opened.journal.disk)) }
     ensures columns { IfOk result (λ opened. opened.header.columns ≡ columns) }
     ensures asks { IfOk result (λ opened. IsTrue (may_ask opened.journal.is_given_up (D.Disk.is_usable opened.journal.disk))) }
     ensures clean { IfOk result (λ opened. IsTrue (D.Disk.is_clean opened.journal.disk) → IsTrue (D.Disk.is_clean disk)) }

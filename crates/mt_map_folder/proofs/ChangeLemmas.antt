@@ -1,9 +1,9 @@
 -- The next records and rows of a map are those of its changes, and which round of a checkpoint is made says what the other file is.
-use Rattle.std.proofs.Common.{◌≡◌, ◌∙◌, ◌++◌, ◌∷◌, ◌+◌, ◌≤◌, ◌==◌, ◌&&◌, ℕ, Bool, true, false, List, [], length, map, take, drop, refl, sym, ap, subst, arith, append_assoc, inl, inr, IsTrue, Result, Ok, Err}
+use Rattle.std.proofs.Common.{◌≡◌, ◌∙◌, ◌++◌, ◌∷◌, ◌+◌, ◌≤◌, ◌==◌, ◌&&◌, ℕ, Bool, true, false, List, [], length, map, take, drop, refl, sym, ap, subst, arith, append_assoc, inl, inr, IsTrue}
 use Rattle.std.specs.Prelude.{nat_le, nat_lt, if◌then◌else◌}
 use Rattle.std.proofs.lemmas.Bool.Decides.{leb_tells}
 use Rattle.std.proofs.lemmas.List.{take-append-drop, drop-append-le, drop_all, take_all, take_at, take-map, drop-map, length-map, length-take, length-drop}
-use Rattle.mt_types.specs.Rows.{after}
+use Rattle.mt_types.specs.Rows.{Rows, after}
 use Rattle.mt_types.specs.declared.limits.TheConstants.{MAX_RANGE}
 use Rattle.mt_types.specs.declared.row.Change.{Change}
 use Rattle.mt_types.specs.declared.row.Delta.{Delta}
@@ -17,12 +17,13 @@ use Rattle.mt_replay.specs.Replay.{record_of, records_of}
 use Rattle.mt_replay.proofs.ReplayLemmas.{records_taken}
 use Rattle.mt_folder_log.specs.declared.checkpoint.Other.{Other}
 use Rattle.mt_folder_log.specs.declared.checkpoint.Other.TheVariants.{Free, Needed, Gone}
-use Rattle.mt_folder_log.specs.declared.checkpoint.Round.{Round}
 use Rattle.mt_folder_log.specs.declared.checkpoint.Round.TheVariants.{Rests, Moves, Copies, Seals}
 use Rattle.mt_folder_log.specs.declared.checkpoint.TheConstants.{PART}
-use Rattle.mt_folder_log.specs.Folder.{AreNext, HasAll, HasChanges}
+use Rattle.mt_folder_log.specs.Folder.{AllRecover, AreNext, HasAll, HasChanges}
+use Rattle.mt_folder_log.proofs.ChangeLemmas.{recovers}
 use Rattle.mt_index.specs.Stands.{MachineView}
-use Rattle.mt_map_folder.specs.Changes.{KeepsChanges}
+use Rattle.mt_map_folder.specs.Changes.{AreFirstOf, KeepsChanges}
+use Rattle.mt_map_folder.proofs.MadeLemmas.{records_made, rows_made}
 use Rattle.mt_map_folder.specs.declared.log.MapLog.{MapLog}
 use Rattle.mt_folder_log.specs.Moving.{round_of, IfNeeded}
 use Rattle.mt_map_folder.specs.Written.{entries_with, left_after}
@@ -46,15 +47,16 @@ front_of {A} most n k xs = elim (leb_tells n (length (take k xs))) [
       none ∙ ap (λ (l : List A). take (length l) (drop n xs)) (sym none)
 ]
 
-module _ (C : ℕ) (changes : List Change) (h : History) (n : ℕ) (made : (moment h).commits ≡ take (length (moment h).commits) changes) where
+module _ (C : ℕ) (changes : List Change) (h : History) (n : ℕ) (made : AreFirstOf C changes (moment h).commits) where
   -- what the next commits of the map left is that of the next changes
-  pub next_records : AreNext C changes n (left_after C n h)
-  next_records =
+  pub next_records : length made.before ≤ n → AreNext C changes n (left_after C n h)
+  next_records opened =
       let commits = (moment h).commits in
       let all = records_of C changes in
-      let own : records_of C commits ≡ take (length commits) all = ap (records_of C) made ∙ sym (records_taken C (length commits) changes) in
+      let own : drop n (records_of C commits) ≡ drop n (take (length commits) all) =
+      records_made C changes commits made n opened ∙ ap (drop n) (sym (records_taken C (length commits) changes)) in
       let is : left_after C n h ≡ take MAX_RANGE (drop n (take (length commits) all)) =
-      sym (ap (take MAX_RANGE) (drop-map record_of n (deltas_of C commits)) ∙ take-map record_of MAX_RANGE (drop n (deltas_of C commits))) ∙ ap (λ (l : List Record). take MAX_RANGE (drop n l)) own in
+      sym (ap (take MAX_RANGE) (drop-map record_of n (deltas_of C commits)) ∙ take-map record_of MAX_RANGE (drop n (deltas_of C commits))) ∙ ap (take MAX_RANGE) own in
       is ∙ front_of MAX_RANGE n (length commits) all ∙ ap (λ (l : List Record). take (length l) (drop n all)) (sym is)
 
   pub few_records : n ≤ length (moment h).commits → n + length (left_after C n h) ≤ length (moment h).commits
@@ -64,36 +66,42 @@ module _ (C : ℕ) (changes : List Change) (h : History) (n : ℕ) (made : (mome
 
   -- its rows are those after all of them
   pub next_rows : (start : List ℕ) (pairs : List (List ℕ × Row)) → n ≡ length (moment h).commits → IsRangeOfMap (rows C (moment h)) [] start PART pairs → IsRangeOfMap (after C (take n changes)) [] start PART pairs
-  next_rows start pairs all range = subst (λ (cs : List Change). IsRangeOfMap (after C cs) [] start PART pairs) (made ∙ ap (λ (k : ℕ). take k changes) (sym all)) range
+  next_rows start pairs all range =
+      subst (λ (map : Rows). IsRangeOfMap map [] start PART pairs) (rows_made C changes (moment h).commits made ∙ ap (λ (k : ℕ). after C (take k changes)) (sym all)) range
 
 -- ---- by the round that is made
 neither : (b : Bool) → Copies ≡ (if b then Moves else Rests) → ⊥
 neither true is = cc
 neither false is = cc
 
-pub of_copies : {D P : Type 0} (least end : ℕ) (other : Other D) → Copies ≡ round_of least end other → IfNeeded other (λ copied. P) → P
-of_copies least end (Free disk most) is p = absurd (neither (nat_lt 0 least && nat_le most end) is)
-of_copies least end (Needed disk last copied true) is p = cc
-of_copies least end (Needed disk last copied false) is p = p
-of_copies least end Gone is p = cc
+pub of_copies : {D P : Type 0} (least : ℕ) (at : Position) (other : Other D) → Copies ≡ round_of least at other → IfNeeded other (λ copied. P) → P
+of_copies least at (Free disk most) is p = absurd (neither (nat_lt 0 least && nat_lt 0 at.newest && nat_le most at.end) is)
+of_copies least at (Needed disk last copied true) is p = cc
+of_copies least at (Needed disk last copied false) is p = p
+of_copies least at Gone is p = cc
 
-pub of_seals : {D : Type 0} (least end : ℕ) (other : Other D) → Seals ≡ round_of least end other → HasAll other
-of_seals least end (Free disk most) is = tt
-of_seals least end (Needed disk last copied true) is = refl
-of_seals least end (Needed disk last copied false) is = cc
-of_seals least end Gone is = tt
+pub of_seals : {D : Type 0} (least : ℕ) (at : Position) (other : Other D) → Seals ≡ round_of least at other → HasAll other
+of_seals least at (Free disk most) is = tt
+of_seals least at (Needed disk last copied true) is = refl
+of_seals least at (Needed disk last copied false) is = cc
+of_seals least at Gone is = tt
 
 -- ---- what a call of the log leaves of the changes of the map
 module _ {D : Type 0} (seen : D → List ℕ) (may_leave : D → List ℕ → Type 0) (changes : List Change) (s : MachineView) where
-  pub after_call : (old new : MapLog D) (kept : KeepsChanges seen may_leave changes s old) → new.log.columns ≡ old.log.columns → new.log.journal.at.newest ≤ length (moment kept.h).commits → HasChanges seen may_leave changes new.log → KeepsChanges seen may_leave changes s new
-  after_call old new kept columns within has = record {
+  pub after_call : (old new : MapLog D) (kept : KeepsChanges seen may_leave changes s old) → new.log.columns ≡ old.log.columns → old.log.journal.at.newest ≤ new.log.journal.at.newest → new.log.journal.at.newest ≤ length (moment kept.h).commits → HasChanges seen may_leave changes new.log → KeepsChanges seen may_leave changes s new
+  after_call old new kept columns more within has = record {
     h = kept.h;
     stands = kept.stands;
     made = kept.made;
     columns = kept.columns ∙ sym columns;
+    opened = omega (arith, kept.opened, more);
     within = within;
     kept = has;
   }
+
+  -- nothing was written
+  pub unwritten : (log : MapLog D) → KeepsChanges seen may_leave changes s log → AllRecover may_leave changes log.log.journal.at.durable log.log.journal.at.generation log.log
+  unwritten log kept = recovers log.log.columns seen may_leave changes log.log.journal.at log.log.journal.disk log.log.other kept.kept
 
 pub map_needed : {D : Type 0} {P Q : ℕ → Type 0} (other : Other D) → ((copied : ℕ) → P copied → Q copied) → IfNeeded other P → IfNeeded other Q
 map_needed (Free disk most) f p = tt
@@ -121,6 +129,6 @@ pub records_left : (C : ℕ) (h : History) (records : List Record) (read deltas 
 records_left C h records read deltas told at are same tells is =
     are ∙ ap (map record_of) (same ∙ tells ∙ ap (λ (p : Position). take MAX_RANGE (drop p.newest (deltas_of C (moment h).commits))) is)
 
-pub next_left : (C D : ℕ) (changes : List Change) (h : History) (n : ℕ) (records : List Record) → records ≡ left_after C n h → C ≡ D → (moment h).commits ≡ take (length (moment h).commits) changes → AreNext D changes n records
-next_left C D changes h n records is same made =
-    subst (λ (columns : ℕ). AreNext columns changes n records) same (subst (AreNext C changes n) (sym is) (next_records C changes h n made))
+pub next_left : (C D : ℕ) (changes : List Change) (h : History) (n : ℕ) (records : List Record) → records ≡ left_after C n h → C ≡ D → (made : AreFirstOf C changes (moment h).commits) → length made.before ≤ n → AreNext D changes n records
+next_left C D changes h n records is same made opened =
+    subst (λ (columns : ℕ). AreNext columns changes n records) same (subst (AreNext C changes n) (sym is) (next_records C changes h n made opened))

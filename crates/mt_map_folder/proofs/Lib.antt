@@ -1,5 +1,6 @@
 pub mod WrittenLemmas
 mod CleanLemmas
 mod RoundLemmas
+mod MadeLemmas
 mod ChangeLemmas
 mod OpenLemmas

@@ -1,9 +1,7 @@
--- Two empty files have no rows, and a map that is loaded with none has made no change.
-use Rattle.std.proofs.Common.{◌≡◌, ◌∙◌, ◌++◌, ◌+◌, ◌*◌, ◌⊎◌, ℕ, zero, suc, List, [], ◌∷◌, length, take, refl, sym, ap, subst, arith, inl, inr, length-append, Option, Some, None}
+-- What is opened over two empty files, and over files that have the first of some changes.
+use Rattle.std.proofs.Common.{◌≡◌, ◌≤◌, ◌⊎◌, ℕ, List, [], length, take, refl, ap, arith, inl, inr, length-append, Option, Some, None}
 use Rattle.mt_types.specs.declared.row.Change.{Change}
-use Rattle.mt_frame.specs.declared.entry.Entry.{Entry}
 use Rattle.mt_frame.specs.declared.entry.Entry.TheVariants.{Header}
-use Rattle.mt_frame.specs.declared.entry.LogHeader.{LogHeader}
 use Rattle.mt_frame.specs.Spelling.{frames_of}
 use Rattle.mt_journal.specs.Log.{header_frame, log_spelling}
 use Rattle.mt_journal.proofs.Frames.{frame_some}
@@ -16,7 +14,17 @@ use Rattle.mt_folder.specs.declared.opening.Spare.{Spare}
 use Rattle.mt_folder.specs.declared.opening.Spare.TheVariants.{Free, Needed}
 use Rattle.mt_folder.specs.Spares.{is_needed, IsSpareOf}
 use Rattle.std.specs.Prelude.{IfNone, IsFalse}
-use Rattle.mt_promise.specs.History.{History, moment}
+use Rattle.mt_types.specs.Rows.{after}
+use Rattle.mt_journal.proofs.Frames.{logs_read_one_way}
+use Rattle.mt_replay.proofs.FollowLemmas.{commits_are_redone}
+use Rattle.mt_folder.specs.declared.opening.OpenedLog.{OpenedLog}
+use Rattle.mt_folder.specs.Kept.{IsOpened}
+use Rattle.mt_folder_laws.specs.Left.{HaveFirst}
+use Rattle.mt_folder_laws.proofs.CrashLemmas.{first_are_read}
+use Rattle.mt_folder_log.specs.declared.checkpoint.Other.{Other}
+use Rattle.mt_folder_log.specs.Folder.{AreKept}
+use Rattle.mt_folder_log.specs.Moving.{IsOfSpare}
+use Rattle.mt_folder_log.proofs.OpenedLemmas.{reopened}
 
 -- no bytes are no log
 says_none : (C : ℕ) (bytes : List ℕ) (log : LogRead) → bytes ≡ [] → Says C bytes log → ⊥
@@ -40,16 +48,6 @@ nothing_read C even odd source read no_even no_odd are = elim are [
   | inr behind ↦ nothing_ahead C odd even source read no_odd behind
 ]
 
-none_long : (h : History) (n : ℕ) → length h ≡ 3 * n → n ≡ 0 → h ≡ []
-none_long [] n long none = refl
-none_long (x ∷ h) n long none = absurd (omega (arith, long, none))
-
--- the first of any changes
-pub none_made : (h : History) (n : ℕ) (changes : List Change) → length h ≡ 3 * n → n ≡ 0 → (moment h).commits ≡ take (length (moment h).commits) changes
-none_made h n changes long none =
-    let past = none_long h n long none in
-    subst (λ (h : History). (moment h).commits ≡ take (length (moment h).commits) changes) (sym past) refl
-
 -- ---- what is so if neither file had a log
 pub begun_of : (source : Option Source) (P : Type 0) → source ≡ None → IfNone source P → P
 begun_of (Some it) P none begun = cc
@@ -61,3 +59,29 @@ unneeded source (Needed disk) none is = absurd (clash source none (is.0 refl))
   where
     clash : (source : Option Source) → source ≡ None → source ≡ Some Both → ⊥
     clash source one two = cc
+
+swapped : {A B : Type 0} → A ⊎ B → B ⊎ A
+swapped either = elim either [
+  | inl a ↦ inr a
+  | inr b ↦ inl b
+]
+
+-- ---- files that have the first n changes: the rows that were read are those after them, and the folder keeps the changes
+abbrev pub Continues : {D : Type 0} → ℕ → (D → List ℕ) → (D → List ℕ → Type 0) → List Change → ℕ → OpenedLog D → Other D → Type 0
+Continues C seen may_leave changes n opened other =
+    (opened.read.commits ≡ n) × (opened.read.rows ≡ after C (take n changes)) × (n ≤ length changes)
+    × AreKept C seen may_leave changes opened.journal.at opened.journal.disk other
+
+module _ {D : Type 0} (C : ℕ) (seen : D → List ℕ) (may_leave : D → List ℕ → Type 0) (changes : List Change) (n : ℕ) (opened : OpenedLog D) (other : Other D) (of_spare : IsOfSpare opened.spare other) (needs : IsSpareOf opened.source opened.spare) where
+  continued : (bytes others : List ℕ) → HaveFirst C changes n bytes others → AreRows C bytes others opened.source opened.read ⊎ AreRows C others bytes opened.source opened.read
+      → IsOpened C seen may_leave bytes others opened ⊎ IsOpened C seen may_leave others bytes opened → Continues C seen may_leave changes n opened other
+  continued bytes others have rows is =
+      let read = first_are_read logs_read_one_way commits_are_redone C changes n bytes others opened.read have (opened.source, rows) in
+      (read.0, read.1, have.within, reopened C seen may_leave changes n bytes others have opened other of_spare needs is)
+
+  pub continued_either : (even odd : List ℕ) → HaveFirst C changes n even odd ⊎ HaveFirst C changes n odd even → AreRows C even odd opened.source opened.read ⊎ AreRows C odd even opened.source opened.read
+      → IsOpened C seen may_leave even odd opened ⊎ IsOpened C seen may_leave odd even opened → Continues C seen may_leave changes n opened other
+  continued_either even odd have rows is = elim have [
+    | inl ahead ↦ continued even odd ahead rows is
+    | inr behind ↦ continued odd even behind (swapped rows) (swapped is)
+  ]

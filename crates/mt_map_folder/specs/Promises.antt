@@ -1,7 +1,7 @@
 -- What the calls of a map's log promise, as relations of the log before a call and after it. Of a disk, a read sees `seen`, a
 -- crash may leave `leaves`, no sync has failed if `is_usable`, `faults` calls have failed, and each byte of an unsynced write is
 -- the old one or the new one if `is_mixing`.
-use Rattle.std.specs.Prelude.{◌≡◌, ℕ, nat_lt, Bool, false, List, length, Result, Ok, OnOk, OnErr, IfOk, IsTrue, IsFalse}
+use Rattle.std.specs.Prelude.{◌≡◌, ◌<◌, ℕ, nat_lt, Bool, false, List, length, Result, Ok, OnOk, OnErr, IfOk, IsTrue, IsFalse}
 use Rattle.mt_frame.specs.declared.entry.Entry.{Entry}
 use Rattle.mt_frame.specs.declared.entry.LogHeader.{LogHeader}
 use Rattle.mt_frame.specs.declared.entry.Part.{Part}
@@ -55,7 +55,7 @@ pub record Syncs {D : Type 0} (seen : D → List ℕ) (leaves : D → List ℕ �
 -- A ROUND OF A CHECKPOINT, if one is due or asked for
 pub record Advances {D : Type 0} (seen : D → List ℕ) (leaves : D → List ℕ → Type 0) (is_usable is_mixing : D → Bool) (s : MachineView) (begins : Bool) (old new : MapLog D) (result : Result Bool LogError) : Type 0 where
   pub moves : (header : LogHeader) (entries : List Entry) → Has seen leaves old header entries
-      → IsTrue (acts old.log s begins)
+      → IsTrue (acts old.log s begins) → 0 < old.log.journal.at.newest
       → IfMoves (next_of old.log) (IfFree old.log.other (OnOk result (Needs new.log.other (λ disk. AllAreLogs header entries (leaves disk)))))
   pub copies : (header : LogHeader) (entries : List Entry) → Has seen leaves old header entries
       → IsTrue (is_mixing new.log.journal.disk) → IsTrue (acts old.log s begins)

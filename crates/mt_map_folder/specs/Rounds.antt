@@ -42,7 +42,7 @@ is_made begins Seals = true
 
 -- what the log needs next
 abbrev pub next_of : {D : Type 0} → FolderLog D → Round
-next_of log = round_of log.least log.journal.at.end log.other
+next_of log = round_of log.least log.journal.at log.other
 
 -- A ROUND IS MADE: the log lacks no commit of the map, and the round is due or asked for
 abbrev pub acts : {D : Type 0} → FolderLog D → MachineView → Bool → Bool

@@ -1,6 +1,6 @@
 //! The commits of a map, written to the log of its folder.
 
-ghost use Rattle.std.specs.Prelude.{◌≡◌, ◌≤◌, ◌-◌, nat_lt, false, List, length, Ok, OnOk, OnErr, IfOk, IsTrue, IsFalse};
+ghost use Rattle.std.specs.Prelude.{◌≡◌, ◌<◌, ◌≤◌, ◌-◌, nat_lt, false, List, length, Ok, OnOk, OnErr, IfOk, IsTrue, IsFalse};
 ghost use Rattle.mt_commit.specs.Log.{newest};
 ghost use Rattle.mt_frame.specs.declared.entry.Entry.{Entry};
 ghost use Rattle.mt_frame.specs.declared.entry.LogHeader.{LogHeader};
@@ -178,6 +178,7 @@ impl<D: Disk + Drop> MapLog<D> {
     fn make(&mut self, map: &Map, round: Round) -> Result<(), LogError>
         ensures moves { (header : LogHeader) (entries : List Entry)
             → Keeps self.old.log.journal.at (D.Disk.seen self.old.log.journal.disk) (D.Disk.may_leave self.old.log.journal.disk) header entries
+            → 0 < self.old.log.journal.at.newest
             → IfMoves round (IfFree self.old.log.other (OnOk result (Needs self.new.log.other (λ disk. AllAreLogs header entries (D.Disk.may_leave disk))))) }
         ensures copies { (header : LogHeader) (entries : List Entry)
             → Keeps self.old.log.journal.at (D.Disk.seen self.old.log.journal.disk) (D.Disk.may_leave self.old.log.journal.disk) header entries
@@ -229,7 +230,7 @@ impl<D: Disk + Drop> MapLog<D> {
 
     /// Makes a round of a checkpoint, by which the log stays short: the log moves to the other file of the folder, the next rows
     /// are copied there, or it is sealed when all were. Begins one if it is due, or `begins` is true. Returns whether it has to
-    /// be continued. Nothing is done while the log lacks a commit. O(n) in the rows that are copied, at most [`PART`].
+    /// be continued. Nothing is done while the log lacks a commit, or has none. O(n) in the rows that are copied, at most [`PART`].
     ///
     ///     while log.advance(&map, true)? {}          // a whole checkpoint
     ///
@@ -239,7 +240,7 @@ impl<D: Disk + Drop> MapLog<D> {
     pub fn advance(&mut self, map: &Map, begins: bool) -> Result<bool, LogError>
         ensures moves { (header : LogHeader) (entries : List Entry)
             → Keeps self.old.log.journal.at (D.Disk.seen self.old.log.journal.disk) (D.Disk.may_leave self.old.log.journal.disk) header entries
-            → IsTrue (acts self.old.log map.now.machine begins)
+            → IsTrue (acts self.old.log map.now.machine begins) → 0 < self.old.log.journal.at.newest
             → IfMoves (next_of self.old.log) (IfFree self.old.log.other (OnOk result (Needs self.new.log.other
             (λ disk. AllAreLogs header entries (D.Disk.may_leave disk))))) }
         ensures copies { (header : LogHeader) (entries : List Entry)

@@ -1,9 +1,10 @@
 //! How a map is opened over a folder.
 
-ghost use Rattle.std.specs.Prelude.{◌≡◌, List, [], IfOk, MatchOption, Err};
+ghost use Rattle.std.specs.Prelude.{◌≡◌, ◌⊎◌, ℕ, List, [], IfOk, MatchOption, Err};
 ghost use Rattle.mt_types.specs.Limits.{open_fault};
 ghost use Rattle.mt_types.specs.declared.row.Change.{Change};
 ghost use Rattle.mt_folder.specs.declared.reading.RowsRead.{RowsRead};
+ghost use Rattle.mt_folder_laws.specs.Left.{HaveFirst};
 ghost use Rattle.mt_load.specs.Loaded.{IsLoaded};
 ghost use Rattle.mt_map_folder.specs.declared.error.OpenError.TheVariants.{Refused};
 ghost use Rattle.mt_journal.specs.Recovery.{Mixes};
@@ -39,7 +40,7 @@ const KEPT: u64 = 1000;
 ///     let OpenedMap { mut map, mut log } = open(alloc, files.even, files.odd, Options::default(), 67_108_864)?;
 ///
 /// Costs a read of the logs, and a put for each row. From two empty files on, each call of the log keeps the changes that the map
-/// makes (`begins`, [`MapLog`]).
+/// makes (`begins`, [`MapLog`]); and so it does after a crash, which leaves the first of them (`again`).
 ///
 /// # Errors
 ///
@@ -58,6 +59,13 @@ pub fn open<D: Disk + Drop>(
         × (Mixes D.Disk.is_mixing → KeepsRows D.Disk.seen D.Disk.may_leave opened.log read.rows))) }
     ensures begins { D.Disk.seen even ≡ [] → D.Disk.seen odd ≡ [] → IfOk result (λ opened. AreClean D.Disk.is_clean opened.log
         → (changes : List Change) → KeepsChanges D.Disk.seen D.Disk.may_leave changes opened.map.machine opened.log) }
+
+    // If the files have the first n of some changes, as a crash leaves them, the map has the rows after these, and the log keeps
+    // the changes that follow them.
+    ensures again { (changes : List Change) (n : ℕ) → HaveFirst options.columns changes n (D.Disk.seen even) (D.Disk.seen odd)
+        ⊎ HaveFirst options.columns changes n (D.Disk.seen odd) (D.Disk.seen even) → Mixes D.Disk.is_mixing
+        → IfOk result (λ opened. AreClean D.Disk.is_clean opened.log → (opened.log.log.journal.at.newest ≡ n)
+        × KeepsChanges D.Disk.seen D.Disk.may_leave changes opened.map.machine opened.log) }
     ensures tidies { IfOk result (λ opened. opened.map.tidies ≡ options.tidies) }
     ensures fault { MatchOption (open_fault options.columns options.log_capacity options.log_retention) (Unit {0})
         (λ refusal. result ≡ Err (Refused refusal)) }

@@ -26,11 +26,11 @@ begun g c =
     subst (λ (h : LogHeader). OnOk c.move_to.result (Keeps new.at (g.D.Disk.seen new.disk) (g.D.Disk.may_leave new.disk) h [])) header c.move_to.ensures.begins
 
 pub returns-clause-begins : goal.returns-clause-begins
-returns-clause-begins g c = if_free _ c.args.self.now.other (begun g c)
+returns-clause-begins g c = λ some. if_free _ c.args.self.now.other (begun g c)
 
 -- the file before is that of the log that was synced
 pub returns-clause-before : goal.returns-clause-before
-returns-clause-before g c = λ header entries keeps.
+returns-clause-before g c = λ header entries keeps some.
     let whole = c.in_ok-_durable.ensures.whole header entries keeps in
     if_free _ c.args.self.now.other
     (on_ok_weaker c.move_to.result (λ is. subst (λ (other : Other _). Needs other (λ disk. AllAreLogs header entries (g.D.Disk.may_leave disk))) (sym is) whole) c.move_to.ensures.before)
@@ -66,7 +66,7 @@ returns-in_err-_durable-clause-recover g c = λ changes kept.
     let free = sym c.replace.ensures.value ∙ c.in-Free.is in
     if_err c.from_residual.result
     (recovers_spare old.columns g.D.Disk.seen g.D.Disk.may_leave changes old.journal.at old.journal.disk c.sync.new.self.disk old.other c.replace.new.dest
-    (beside_free old.columns g.D.Disk.seen g.D.Disk.may_leave changes old.journal.at.generation c.in-Free.disk c.in-Free.most old.other c.replace.new.dest free (inl c.replace.ensures.after))
+    (beside_free old.columns g.D.Disk.seen g.D.Disk.may_leave changes old.journal.at.durable old.journal.at.generation c.in-Free.disk c.in-Free.most old.other c.replace.new.dest free (inl c.replace.ensures.after))
     c.sync.ensures.fewer kept)
 
 -- the log has moved: what it had is in the file before
@@ -99,6 +99,6 @@ returns-clause-recover g c = λ changes kept.
     subst (λ (columns : ℕ). AllFound columns g.D.Disk.may_leave changes old.journal.at.durable old.journal.at.generation then.journal.disk then.other) (sym c.move_to.ensures.columns)
     (subst (λ (journal : _). AllFound old.columns g.D.Disk.may_leave changes old.journal.at.durable old.journal.at.generation journal.disk then.other) (sym same)
     (recovers_spare old.columns g.D.Disk.seen g.D.Disk.may_leave changes old.journal.at old.journal.disk c.sync.new.self.disk old.other then.other
-    (beside_free old.columns g.D.Disk.seen g.D.Disk.may_leave changes old.journal.at.generation c.in-Free.disk c.in-Free.most old.other then.other free spare)
+    (beside_free old.columns g.D.Disk.seen g.D.Disk.may_leave changes old.journal.at.durable old.journal.at.generation c.in-Free.disk c.in-Free.most old.other then.other free spare)
     c.sync.ensures.fewer kept)))
     c.move_to.ensures.stays c.move_to.ensures.spare

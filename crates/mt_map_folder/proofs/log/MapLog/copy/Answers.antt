@@ -45,5 +45,5 @@ returns-clause-changes g c = λ changes kept few mixing.
     let all : n ≡ length (moment kept.h).commits = omega (arith, few, kept.within, c.commits-at.ensures.told kept.h kept.stands, c.commits-at.ensures.number) in
     let range = subst (λ (C : ℕ). IsRangeOfMap (after C (take n changes)) [] (start_of log.other) PART c.in_ok-rows.rows) kept.columns (next_rows s.columns changes kept.h n kept.made (start_of log.other) c.in_ok-rows.rows all pairs) in
     map_needed log.other
-    (λ copied has. after_call g.D.Disk.seen g.D.Disk.may_leave changes s c.args.self.now _ kept c.in_ok-copy.ensures.columns (omega (arith, c.in_ok-copy.ensures.newest, kept.within)) has)
+    (λ copied has. after_call g.D.Disk.seen g.D.Disk.may_leave changes s c.args.self.now _ kept c.in_ok-copy.ensures.columns (omega (arith, c.in_ok-copy.ensures.newest)) (omega (arith, c.in_ok-copy.ensures.newest, kept.within)) has)
     (c.in_ok-copy.ensures.changes changes kept.kept range mixing)

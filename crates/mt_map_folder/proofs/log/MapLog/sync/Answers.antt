@@ -6,5 +6,5 @@ use Rattle.mt_map_folder.proofs.log.MapLog.sync.Goals as goal
 pub returns-clause-changes : goal.returns-clause-changes
 returns-clause-changes g c = λ changes s kept.
     both_ok c.sync.result
-    (λ newest has. after_call g.D.Disk.seen g.D.Disk.may_leave changes s c.args.self.now _ kept c.sync.ensures.columns (omega (arith, newest, kept.within)) has)
+    (λ newest has. after_call g.D.Disk.seen g.D.Disk.may_leave changes s c.args.self.now _ kept c.sync.ensures.columns (omega (arith, newest)) (omega (arith, newest, kept.within)) has)
     c.sync.ensures.newest (c.sync.ensures.changes changes kept.kept)

@@ -1,4 +1,4 @@
-use Rattle.std.proofs.Common.{◌≡◌, ◌∙◌, ◌==◌, ℕ, List, length, map, take, drop, ap, sym, subst, arith}
+use Rattle.std.proofs.Common.{◌∙◌, ◌==◌, ℕ, List, length, ap, sym, subst, arith}
 use Rattle.mt_journal.specs.declared.position.Position.{Position}
 use Rattle.mt_journal.specs.Keeping.{AllSurvive}
 use Rattle.mt_map_folder.proofs.WrittenLemmas.{survive_with}
@@ -6,9 +6,8 @@ use Rattle.std.proofs.lemmas.List.{length-map}
 use Rattle.mt_frame.specs.declared.entry.Entry.{Entry}
 use Rattle.mt_replay.specs.Replay.{record_of}
 use Rattle.mt_journal.proofs.Kept.{unless_err}
-use Rattle.mt_folder_log.specs.Folder.{AllRecover}
 use Rattle.mt_map_folder.specs.Written.{left_after}
-use Rattle.mt_map_folder.proofs.ChangeLemmas.{after_call, few_records, next_left, records_left, written}
+use Rattle.mt_map_folder.proofs.ChangeLemmas.{after_call, few_records, next_left, records_left, unwritten, written}
 use Rattle.mt_map_folder.proofs.log.MapLog.write.Goals as goal
 
 -- nothing was written
@@ -24,11 +23,16 @@ returns-in_default-clause-crash g c = λ h header entries stands keeps mixing.
     survive_with c.args.self.now.log.journal.at header entries _ _ _
     (subst (λ (at : Position). AllSurvive header entries at.durable (g.D.Disk.may_leave disk)) c.position.ensures.value (c.position.ensures.survive header entries keeps))
 
--- the records that were written are those of the next commits
+pub returns-in-Err-clause-recover : goal.returns-in-Err-clause-recover
+returns-in-Err-clause-recover g c = λ changes kept mixing. unwritten g.D.Disk.seen g.D.Disk.may_leave changes c.args.map.now.machine c.args.self.now kept
+
+pub returns-then-is_empty-clause-recover : goal.returns-then-is_empty-clause-recover
+returns-then-is_empty-clause-recover g c = λ changes kept mixing. unwritten g.D.Disk.seen g.D.Disk.may_leave changes c.args.map.now.machine c.args.self.now kept
+
 pub returns-in_default-clause-recover : goal.returns-in_default-clause-recover
-returns-in_default-clause-recover g c = λ changes kept mixing.
-    let log = c.args.self.now.log in
-    subst (λ (at : Position). AllRecover g.D.Disk.may_leave changes at.durable at.generation log) c.position.ensures.value (c.position.ensures.recover changes kept.kept)
+returns-in_default-clause-recover g c = λ changes kept mixing. unwritten g.D.Disk.seen g.D.Disk.may_leave changes c.args.map.now.machine c.args.self.now kept
+
+-- the records that were written are those of the next commits
 
 pub returns-in-Err-append-clause-crash : goal.returns-in-Err-append-clause-crash
 returns-in-Err-append-clause-crash g c = λ h header entries stands keeps mixing.
@@ -45,7 +49,7 @@ returns-in-Err-append-clause-recover g c = λ changes kept mixing.
     let log = c.args.self.now.log in
     let s = c.args.map.now.machine in
     let is = records_left s.columns kept.h c.in-Ok-records_of.records c.deref.result.now c.in-Ok.deltas.items c.position.result log.journal.at c.in-Ok-records_of.ensures c.deref.ensures.value (c.in-Ok.ensures.tells kept.h kept.stands) c.position.ensures.value in
-    let next = next_left s.columns log.columns changes kept.h log.journal.at.newest c.in-Ok-records_of.records is kept.columns kept.made in
+    let next = next_left s.columns log.columns changes kept.h log.journal.at.newest c.in-Ok-records_of.records is kept.columns kept.made kept.opened in
     c.append.ensures.recover changes kept.kept next mixing
 
 pub returns-clause-recover : goal.returns-clause-recover
@@ -53,7 +57,7 @@ returns-clause-recover g c = λ changes kept mixing.
     let log = c.args.self.now.log in
     let s = c.args.map.now.machine in
     let is = records_left s.columns kept.h c.in-Ok-records_of.records c.deref.result.now c.in-Ok.deltas.items c.position.result log.journal.at c.in-Ok-records_of.ensures c.deref.ensures.value (c.in-Ok.ensures.tells kept.h kept.stands) c.position.ensures.value in
-    let next = next_left s.columns log.columns changes kept.h log.journal.at.newest c.in-Ok-records_of.records is kept.columns kept.made in
+    let next = next_left s.columns log.columns changes kept.h log.journal.at.newest c.in-Ok-records_of.records is kept.columns kept.made kept.opened in
     c.append.ensures.recover changes kept.kept next mixing
 
 pub returns-clause-changes : goal.returns-clause-changes
@@ -61,8 +65,8 @@ returns-clause-changes g c = λ changes kept mixing.
     let log = c.args.self.now.log in
     let s = c.args.map.now.machine in
     let is = records_left s.columns kept.h c.in-Ok-records_of.records c.deref.result.now c.in-Ok.deltas.items c.position.result log.journal.at c.in-Ok-records_of.ensures c.deref.ensures.value (c.in-Ok.ensures.tells kept.h kept.stands) c.position.ensures.value in
-    let next = next_left s.columns log.columns changes kept.h log.journal.at.newest c.in-Ok-records_of.records is kept.columns kept.made in
+    let next = next_left s.columns log.columns changes kept.h log.journal.at.newest c.in-Ok-records_of.records is kept.columns kept.made kept.opened in
     let has = unless_err c.append.result (c.append.ensures.changes changes kept.kept next mixing) c.in_default-append.not-Err in
     let newest = unless_err c.append.result c.append.ensures.newest c.in_default-append.not-Err in
     let few = few_records s.columns changes kept.h log.journal.at.newest kept.made kept.within in
-    after_call g.D.Disk.seen g.D.Disk.may_leave changes s c.args.self.now _ kept c.append.ensures.columns (omega (arith, newest, few, ap length is)) has
+    after_call g.D.Disk.seen g.D.Disk.may_leave changes s c.args.self.now _ kept c.append.ensures.columns (omega (arith, newest)) (omega (arith, newest, few, ap length is)) has
