@@ -85,8 +85,7 @@ module _ (one : LogsReadOneWay) (C : ℕ) (changes : List Change) (bytes others 
         let last = same_last one C bytes header entries are.newer is are.says in
         let commits : HasCommits C changes are.newer =
         subst (λ (h : LogHeader). HaveCommits C changes h.base are.newer.entries.items) found.0 (subst (HaveCommits C changes header.base) found.1 have) in
-        let before = sym (same_rows one C others on.older on.entries are.older on.log are.said) ∙ on.rows ∙ ap (λ (n : ℕ). after C (take n changes)) (same_last one C others on.older on.entries are.older on.log are.said) in
-        (
+        let before = sym (same_rows one C others on.older on.entries are.older on.log are.said) ∙ on.rows ∙ ap (λ (n : ℕ). after C (take n changes)) (same_last one C others on.older on.entries are.older on.log are.said) in (
           are.rows.2.commits ∙ sym last,
           are.rows.2.rows ∙ later_rows redone C changes are.newer are.older are.rows.1 are.rows.0 commits before ∙ ap (λ (n : ℕ). after C (take n changes)) (sym last),
         )

@@ -61,8 +61,7 @@ whole_of C changes header entries leaves all logs = elim all [
     begins = λ left may_left.
         let log = logs left may_left in
         let front = log_spelling header seal.first in
-        let more = frames_of header.generation (length front) seal.later in
-        (
+        let more = frames_of header.generation (length front) seal.later in (
           more ++ log.rest,
           log.parts ∙ ap (λ (l : List Entry). log_spelling header l ++ log.rest) seal.joined ∙ ap (λ (l : List ℕ). l ++ log.rest) (log_append header seal.first seal.later) ∙ append_assoc front more log.rest,
         );

@@ -76,8 +76,7 @@ BeginsAt C changes commits n = (made : AreFirstOf C changes commits) × (length 
 
 pub made_of : (C : ℕ) (changes commits : List Change) (n : ℕ) → length commits ≡ n → n ≤ length changes → after C commits ≡ after C (take n changes) → BeginsAt C changes commits n
 made_of C changes commits n long within rows =
-    let front : length (take n changes) ≡ n = omega (arith, length-take n changes, within) in
-    (
+    let front : length (take n changes) ≡ n = omega (arith, length-take n changes, within) in (
       record {
         loaded = commits;
         before = take n changes;

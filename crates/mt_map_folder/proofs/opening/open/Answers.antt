@@ -77,8 +77,7 @@ returns-clause-again g c = λ changes n have mixes clean.
     let commits = (moment loaded.h).commits in
     let rows : after c.args.options.columns commits ≡ after c.args.options.columns (take n changes) = loaded.has ∙ it.1 ∙ ap (λ (k : ℕ). after k (take n changes)) columns in
     let made = subst (λ (k : ℕ). BeginsAt k changes commits n) (sym loaded.columns) (made_of c.args.options.columns changes commits n (loaded.closed.commits ∙ it.0) it.2 rows) in
-    let newest : c.new.result.journal.at.newest ≡ n = ap (λ (journal : _). journal.at.newest) c.new.ensures.journal ∙ c.in_ok-journal.ensures.continues all ∙ it.0 in
-    (
+    let newest : c.new.result.journal.at.newest ≡ n = ap (λ (journal : _). journal.at.newest) c.new.ensures.journal ∙ c.in_ok-journal.ensures.continues all ∙ it.0 in (
       newest,
       record {
         h = loaded.h;
