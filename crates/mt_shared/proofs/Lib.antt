@@ -12,3 +12,4 @@ pub mod PassLemmas
 pub mod ReadLemmas
 pub mod PageLemmas
 pub mod AskedLemmas
+pub mod WalkLemmas

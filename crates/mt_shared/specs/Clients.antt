@@ -1,8 +1,9 @@
 -- What a client's method returns of the reply to its call, and what a call by borrowed bytes came to.
-use Rattle.std.specs.Prelude.{ℕ, ◌≡◌, ◌⊎◌, List, filter, Option, Some, None, Result, Ok, Err, MatchOption}
+use Rattle.std.specs.Prelude.{ℕ, ◌≡◌, ◌⊎◌, Bool, true, false, List, [], ◌∷◌, filter, Option, Some, None, Result, Ok, Err, MatchOption}
 use Rattle.std.specs.Option.{option_map}
 use Rattle.std.specs.declared.ops.Bound.{Bound}
 use Rattle.mt_asked.specs.Bounds.{is_within}
+use Rattle.mt_reads.specs.declared.quiet.QuietAnswer.{QuietAnswer}
 use Rattle.mt_types.specs.Limits.{page_fault, request_fault}
 use Rattle.mt_types.specs.declared.numbers.ViewNo.{ViewNo}
 use Rattle.mt_types.specs.declared.refusal.Refusal.{Refusal}
@@ -19,6 +20,7 @@ use Rattle.mt_shared.specs.Passes.{PassView}
 use Rattle.mt_shared.specs.Drives.{EventLaw, IsDrive}
 use Rattle.mt_shared.specs.Pages.{PageIsRead, PageLaw}
 use Rattle.mt_shared.specs.Reads.{IsCall, ReadLaw}
+use Rattle.mt_shared.specs.Quiet.{pairs_of}
 use Rattle.mt_shared.specs.Tidies.{IsDriveTidied, LookLaw}
 
 -- the row of a get, or none
@@ -26,6 +28,12 @@ abbrev pub row_of : Answer → Option (Option Row)
 row_of Absent = Some None
 row_of (Found row) = Some (Some row)
 row_of _ = None
+
+-- whether a get has found a row
+abbrev pub there_of : Answer → Option Bool
+there_of Absent = Some false
+there_of (Found row) = Some true
+there_of _ = None
 
 -- the commit of a put
 abbrev pub stored_of : Answer → Option ℕ
@@ -42,6 +50,18 @@ removed_of _ = None
 abbrev pub rows_of : Answer → Option (List (List ℕ × Row))
 rows_of (Rows pairs) = Some pairs
 rows_of _ = None
+
+-- the key of the first pair, if there is one
+abbrev pub first_key : List (List ℕ × Row) → Option (List ℕ)
+first_key [] = None
+first_key (pair ∷ pairs) = Some pair.0
+
+-- the key of the first pair of a range, and of a range against the order of the keys
+abbrev pub first_of : Answer → Option (Option (List ℕ))
+first_of answer = option_map first_key (rows_of answer)
+
+abbrev pub last_of : QuietAnswer → Option (Option (List ℕ))
+last_of answer = option_map first_key (pairs_of answer)
 
 -- those whose keys are within bounds
 abbrev pub rows_within : Bound (List ℕ) → Bound (List ℕ) → Answer → Option (List (List ℕ × Row))

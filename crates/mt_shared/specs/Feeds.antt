@@ -1,4 +1,4 @@
--- What the feed of a shared index returns, the copy of one of its views, and how many rows it has.
+-- What the feed of a shared index returns, the copy of one of its views, and how many rows and nodes it has.
 use Rattle.std.specs.Prelude.{ℕ, ◌≡◌, List, Result, Err, Some, IfOk, IfErr, MatchOption, take, drop}
 use Rattle.std.specs.FinMap.{len}
 use Rattle.std.specs.Global.{Vec}
@@ -6,6 +6,7 @@ use Rattle.mt_types.specs.declared.row.Delta.{Delta}
 use Rattle.mt_types.specs.declared.refusal.Refusal.{Refusal}
 use Rattle.mt_types.specs.declared.refusal.Refusal.TheVariants.{NoMemory, NoSuchView}
 use Rattle.mt_promise.specs.History.{History, moment, rows}
+use Rattle.mt_arena.specs.Node.{occupied}
 use Rattle.mt_commit.specs.Log.{newest}
 use Rattle.mt_commit.specs.Logged.{deltas_of}
 use Rattle.mt_view.specs.State.{StateView}
@@ -58,3 +59,15 @@ pub record CountsRowsSomewhere (result : At ℕ) : Type 0 where
   pub kept : InnerView
   pub keeps : IsInner kept
   pub counts : CountsRows kept.machine result
+
+-- How many numbers of nodes are occupied in a machine, with its number of commits.
+pub record CountsNodes (m : MachineView) (result : At ℕ) : Type 0 where
+  pub value : result.value ≡ occupied m.tree.nodes
+  pub from : result.from ≡ newest m.log
+  pub to : result.to ≡ newest m.log
+
+-- how many are occupied in something that the lock keeps
+pub record CountsNodesSomewhere (result : At ℕ) : Type 0 where
+  pub kept : InnerView
+  pub keeps : IsInner kept
+  pub counts : CountsNodes kept.machine result

@@ -14,3 +14,4 @@ pub mod Moments
 pub mod Pages
 pub mod Clients
 pub mod Loads
+pub mod Walks

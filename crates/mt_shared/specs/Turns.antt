@@ -1,11 +1,12 @@
--- The events by which a pass reads views and keeps them up.
-use Rattle.std.specs.Prelude.{ℕ, ◌≡◌, ◌<◌, ◌⊎◌, ⊤, List, [], ◌∷◌, ◌++◌, length, All, Result, Ok, Err}
+-- The events by which a pass reads views, keeps them up and frees nodes.
+use Rattle.std.specs.Prelude.{ℕ, ◌≡◌, ◌<◌, ◌⊎◌, ⊤, List, [], ◌∷◌, ◌++◌, length, All, Option, Some, None, Result, Ok, Err}
 use Rattle.mt_types.specs.declared.numbers.PassNo.{PassNo}
 use Rattle.mt_types.specs.declared.refusal.Refusal.{Refusal}
+use Rattle.mt_types.specs.declared.refusal.Refusal.TheVariants.{WrongPass}
 use Rattle.mt_types.specs.declared.event.Event.{Event}
-use Rattle.mt_types.specs.declared.event.Event.TheVariants.{Apply}
+use Rattle.mt_types.specs.declared.event.Event.TheVariants.{Advance, Apply, Begin, Collect, Step}
 use Rattle.mt_types.specs.declared.event.Outcome.{Outcome}
-use Rattle.mt_types.specs.declared.event.Outcome.TheVariants.{Applied, Current, Dropped, Refused}
+use Rattle.mt_types.specs.declared.event.Outcome.TheVariants.{Applied, Current, Dropped, Freed, Refused}
 use Rattle.mt_shared.specs.declared.trace.Entry.{Entry}
 use Rattle.mt_shared.specs.Traces.{entry, Gains}
 use Rattle.mt_shared.specs.Passes.{PassView}
@@ -15,6 +16,30 @@ use Rattle.mt_shared.specs.Drives.{EventLaw, Runs}
 abbrev pub drop_outcome : Result ⊤ Refusal → Outcome
 drop_outcome (Ok done) = Dropped
 drop_outcome (Err refusal) = Refused refusal
+
+-- an event that is no part of a call
+abbrev pub IsOutside : Event → Type 0
+IsOutside (Begin pass request) = ⊥
+IsOutside (Step call) = ⊥
+IsOutside _ = Unit {0}
+
+-- the outcome of the event that advanced a view, if it was behind, or of one that was refused
+abbrev pub apply_outcome : Result (Option ℕ) Refusal → Outcome
+apply_outcome (Ok (Some number)) = Applied number
+apply_outcome (Ok None) = Current
+apply_outcome (Err refusal) = Refused refusal
+
+-- how many nodes an event has freed. An outcome of another kind is of another index.
+abbrev pub freed_of : Outcome → Result ℕ Refusal
+freed_of (Freed count) = Ok count
+freed_of (Refused refusal) = Err refusal
+freed_of _ = Err WrongPass
+
+-- the epoch advances, and then so many nodes are freed that no open call can still visit
+abbrev pub FreesSome : {S : Type 0} → EventLaw S → S → PassView → Result ℕ Refusal → S → PassView → Type 0
+FreesSome {S} does s p result t q =
+    (m : S) × (r : PassView) × (next : Outcome) × (freed : Outcome) × does s p Advance next m r
+    × does m r Collect freed t q × (result ≡ freed_of freed)
 
 -- the apply of the view that is furthest behind
 abbrev pub furthest : Event

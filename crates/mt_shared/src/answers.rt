@@ -2,10 +2,11 @@
 
 ghost use Rattle.std.specs.Prelude.{◌≡◌};
 ghost use Rattle.std.specs.Range.Bound.{bound_map};
-ghost use Rattle.mt_shared.specs.Clients.{built_of, removed_of, row_of, rows_of, rows_within, stored_of, tidied_of, valued};
+ghost use Rattle.mt_shared.specs.Clients.{built_of, first_key, first_of, removed_of, row_of, rows_of, rows_within, stored_of, there_of, tidied_of, valued};
 
 use mt_asked::bounds::{Bounds, pairs_within};
 use mt_types::event::{Answer, TidyRule};
+use mt_types::key::Key;
 use mt_types::numbers::ViewNo;
 use mt_types::refusal::Refusal;
 use mt_types::row::{Pairs, Row};
@@ -42,6 +43,16 @@ pub(crate) fn row_of(answer: Answer) -> Option<Option<Row>>
     }
 }
 
+pub(crate) fn there_of(answer: Answer) -> Option<bool>
+    ensures { result ≡ there_of answer }
+{
+    match answer {
+        Answer::Absent => Some(false),
+        Answer::Found(_) => Some(true),
+        _ => None,
+    }
+}
+
 pub(crate) fn stored_of(answer: Answer) -> Option<u64>
     ensures { result ≡ stored_of answer }
 {
@@ -66,6 +77,28 @@ pub(crate) fn rows_of(answer: Answer) -> Option<Pairs>
 {
     match answer {
         Answer::Rows(pairs) => Some(pairs),
+        _ => None,
+    }
+}
+
+// Returns the key of the first pair.
+pub(crate) fn first_key(pairs: Pairs) -> Option<Key>
+    ensures { result ≡ first_key pairs }
+{
+    let mut pairs = pairs.into_vec();
+    if pairs.is_empty() {
+        return None;
+    }
+    let (key, _row) = pairs.swap_remove(0);
+    Some(key)
+}
+
+// Returns the key of the first pair of a range.
+pub(crate) fn first_of(answer: Answer) -> Option<Option<Key>>
+    ensures { result ≡ first_of answer }
+{
+    match answer {
+        Answer::Rows(pairs) => Some(first_key(pairs)),
         _ => None,
     }
 }

@@ -69,7 +69,7 @@ impl Inner {
 
     /// Begins a call of a pass, as [`Inner::begin`] does. If the run ends it by a change, views are then kept up, in at
     /// most `turns` turns. A turn that is refused changes nothing.
-    pub fn change(
+    pub(crate) fn change(
         &mut self,
         alloc: Global,
         pass: &mut Pass,

@@ -251,7 +251,7 @@ impl<S: Shared> Client<S> {
     }
 
     // Reads at once, if it may, after the limits are tested and the bytes copied.
-    fn read(&mut self, asked: &Asked<'_>) -> Result<Reply, Refusal>
+    pub(crate) fn read(&mut self, asked: &Asked<'_>) -> Result<Reply, Refusal>
         ensures reads { Reads S.does S.shows (S.columns self.old.shared) self.old.shared self.old.pass
             (request_of asked.now) result self.new.shared self.new.pass }
         ensures turns { self.new.turns ≡ self.old.turns }
@@ -264,7 +264,7 @@ impl<S: Shared> Client<S> {
     }
 
     // Makes a change, and keeps up the views, after the limits are tested and the bytes copied.
-    fn change(&mut self, asked: &Asked<'_>) -> Result<Reply, Refusal>
+    pub(crate) fn change(&mut self, asked: &Asked<'_>) -> Result<Reply, Refusal>
         ensures changes { Changes S.does S.looks (S.columns self.old.shared) self.old.shared self.old.pass
             (request_of asked.now) self.old.turns result self.new.shared self.new.pass }
         ensures turns { self.new.turns ≡ self.old.turns }
@@ -283,7 +283,7 @@ impl<S: Shared> Client<S> {
     }
 
     // Drives a call, after the limits are tested and the bytes copied.
-    fn drive(&mut self, asked: &Asked<'_>) -> Result<Reply, Refusal>
+    pub(crate) fn drive(&mut self, asked: &Asked<'_>) -> Result<Reply, Refusal>
         ensures drives { Drives S.does (S.columns self.old.shared) self.old.shared self.old.pass
             (request_of asked.now) result self.new.shared self.new.pass }
         ensures turns { self.new.turns ≡ self.old.turns }

@@ -1,25 +1,28 @@
-//! The methods of a client that read of one moment: many keys, the last rows before a bound, counts, the next deltas.
+//! More methods of a client that read: whether there is a key, the first and the last one, many keys, the last rows before a
+//! bound, counts.
 
-ghost use Rattle.std.specs.Prelude.{◌≡◌, IfOk};
+ghost use Rattle.std.specs.Prelude.{◌≡◌, IfOk, None, Result, []};
 ghost use Rattle.std.specs.Option.{option_copied};
+ghost use Rattle.mt_types.specs.declared.refusal.Refusal.{Refusal};
+ghost use Rattle.mt_types.specs.declared.event.Reply.{Reply};
+ghost use Rattle.mt_types.specs.declared.event.Request.TheVariants.{Get, Range};
 ghost use Rattle.mt_reads.specs.declared.quiet.QuietRead.TheVariants.{Gets, RangeBack, Count};
-ghost use Rattle.mt_shared.specs.Feeds.{CountsRowsSomewhere, FeedsSomewhere};
+ghost use Rattle.mt_shared.specs.Clients.{Reads, answer_at, first_of, last_of, there_of};
 ghost use Rattle.mt_shared.specs.Quiet.{ReadsQuietly, count_of, found_of, now_or_none, pairs_of, valued_now};
 
-use crate::answers::At;
+use crate::answers::{At, answer_at, first_key, first_of, there_of};
 use crate::client::Client;
-use crate::door::Door;
 use crate::driving::Shared;
 use crate::quiet::read_quiet;
 use bytes::Bytes;
-use mt_asked::asked::numbers_of;
+use mt_asked::asked::{Asked, numbers_of};
 use mt_reads::quiet::{QuietAnswer, QuietRead};
 use mt_types::copying::TryCopy;
 use mt_types::items::Items;
+use mt_types::key::Key;
 use mt_types::refusal::{NoMemory, Refusal};
-use mt_types::row::{Delta, Pairs, Row};
+use mt_types::row::{Pairs, Row};
 use std::alloc::Global;
-use std::sync::Wait;
 
 fn found_of(answer: QuietAnswer) -> Option<Items<Option<Row>>>
     ensures { result ≡ found_of answer }
@@ -35,6 +38,16 @@ fn pairs_of(answer: QuietAnswer) -> Option<Pairs>
 {
     match answer {
         QuietAnswer::Pairs(pairs) => Some(pairs),
+        _ => None,
+    }
+}
+
+// Returns the key of the first pair.
+fn last_of(answer: QuietAnswer) -> Option<Option<Key>>
+    ensures { result ≡ last_of answer }
+{
+    match answer {
+        QuietAnswer::Pairs(pairs) => Some(first_key(pairs)),
         _ => None,
     }
 }
@@ -80,6 +93,58 @@ fn keys_of(alloc: Global, keys: &[Bytes]) -> Result<Items<Bytes>, NoMemory>
 }
 
 impl<S: Shared> Client<S> {
+    /// Returns how many columns a row has.
+    ///
+    ///     println!(rt; "{} columns", client.columns())?;
+    pub fn columns(&self) -> u8
+        ensures { result ≡ S.columns self.now.shared }
+    {
+        self.shared.columns()
+    }
+
+    /// Returns whether `key` has a row. Costs what [`Client::get`] costs.
+    ///
+    ///     if !client.contains_key(b"apple")?.value {
+    ///         let _ = client.put(b"apple", &[])?;
+    ///     }
+    ///
+    /// # Errors
+    ///
+    /// Those of [`Client::get`].
+    pub fn contains_key(&mut self, key: &[u8]) -> Result<At<bool>, Refusal>
+        ensures answers { (ended : Result Reply Refusal) × (result ≡ answer_at there_of ended)
+            × Reads S.does S.shows (S.columns self.old.shared) self.old.shared self.old.pass (Get key.now []) ended
+            self.new.shared self.new.pass }
+        ensures turns { self.new.turns ≡ self.old.turns }
+    {
+        let columns = &[];
+        let reply = self.read(&Asked::Get { key, columns })?;
+        answer_at(reply.from, reply.to, there_of(reply.answer))
+    }
+
+    /// Returns the first key, or `None` if there are no rows. Costs what [`Client::pairs`] costs for one row.
+    ///
+    ///     if let Some(key) = client.first()?.value {
+    ///         let _ = client.remove(key.as_slice())?;
+    ///     }
+    ///
+    /// # Errors
+    ///
+    /// Those of [`Client::pairs`].
+    pub fn first(&mut self) -> Result<At<Option<Key>>, Refusal>
+        ensures answers { (ended : Result Reply Refusal) × (result ≡ answer_at first_of ended)
+            × Reads S.does S.shows (S.columns self.old.shared) self.old.shared self.old.pass (Range [] 1 []) ended
+            self.new.shared self.new.pass }
+        ensures turns { self.new.turns ≡ self.old.turns }
+    {
+        let reply = self.read(&Asked::Range {
+            start: b"",
+            limit: 1,
+            columns: &[],
+        })?;
+        answer_at(reply.from, reply.to, first_of(reply.answer))
+    }
+
     /// Returns the row of each key, or `None` if it has none, in the order of the keys: all of one moment. Each row has the
     /// columns that are asked for, or all if none is asked for. Returns `None` if a put, remove or tidy of another thread
     /// stays open ([`read_quiet`]).
@@ -151,6 +216,36 @@ impl<S: Shared> Client<S> {
         }
     }
 
+    /// Returns the last key, or `None` in it if there are no rows. Returns `None` if a put, remove or tidy of another thread
+    /// stays open ([`read_quiet`]).
+    ///
+    ///     if let Some(At { value: Some(key), .. }) = client.last()? {
+    ///         let _ = client.remove(key.as_slice())?;
+    ///     }
+    ///
+    /// Costs what [`Client::pairs_back`] costs for one row.
+    ///
+    /// # Errors
+    ///
+    /// `NoMemory`, and those of [`read_quiet`].
+    pub fn last(&mut self) -> Result<Option<At<Option<Key>>>, Refusal>
+        ensures answers { ReadsQuietly S.glances self.old.shared self.old.pass (RangeBack None 1 []) last_of result
+            self.new.pass }
+        ensures shared { self.new.shared ≡ self.old.shared }
+        ensures turns { self.new.turns ≡ self.old.turns }
+    {
+        let read = QuietRead::RangeBack {
+            before: None,
+            limit: 1,
+            columns: Items::new(self.alloc),
+        };
+        match read_quiet(self.alloc, &self.shared, &mut self.pass, &read) {
+            Some(Ok(at)) => valued(at.from, at.to, last_of(at.value)),
+            Some(Err(refusal)) => Err(refusal),
+            None => Ok(None),
+        }
+    }
+
     /// Returns how many rows have keys from `from` on and before `to`, or before no bound, counted up to `most`. Returns
     /// `None` if a put, remove or tidy of another thread stays open ([`read_quiet`]).
     ///
@@ -182,31 +277,5 @@ impl<S: Shared> Client<S> {
             Some(Err(refusal)) => Err(refusal),
             None => Ok(None),
         }
-    }
-}
-
-impl<'a, W: Wait> Client<Door<'a, W>> {
-    /// Returns the deltas of the commits after the first `from`, at most `limit`: [`Door::feed`].
-    ///
-    ///     for delta in client.feed(seen, 100)?.iter() {
-    ///         println!(rt; "commit {}", delta.number)?;
-    ///     }
-    ///
-    /// # Errors
-    ///
-    /// Those of [`Door::feed`].
-    pub fn feed(&self, from: u64, limit: u16) -> Result<Vec<Delta>, Refusal>
-        ensures { FeedsSomewhere from limit result }
-    {
-        self.shared.feed(self.alloc, from, limit)
-    }
-
-    /// Returns how many rows there are, and after how many commits: [`Door::len`].
-    ///
-    ///     println!(rt; "{} rows", client.len().value)?;
-    pub fn len(&self) -> At<usize>
-        ensures { CountsRowsSomewhere result }
-    {
-        self.shared.len()
     }
 }

@@ -1,6 +1,6 @@
 //! The access of one thread to a map that many threads share.
 
-ghost use Rattle.mt_shared.specs.Feeds.{CopiesSomewhere, CountsRowsSomewhere, FeedsSomewhere};
+ghost use Rattle.mt_shared.specs.Feeds.{CopiesSomewhere, CountsNodesSomewhere, CountsRowsSomewhere, FeedsSomewhere};
 ghost use Rattle.mt_shared.specs.Inner.{DoesSomewhere};
 ghost use Rattle.mt_shared.specs.Pages.{PagesSomewhere};
 ghost use Rattle.mt_shared.specs.Quiet.{QuietReadsSomewhere};
@@ -83,6 +83,15 @@ impl<'a, W: Wait> Door<'a, W> {
     {
         let index = self.index;
         index.kept.read(self.wait).count_rows()
+    }
+
+    /// Returns how many of the `MAX_NODES` node numbers are occupied, and after how many commits. Holds the lock once,
+    /// together with other reads. Makes no event.
+    pub fn nodes(&self) -> At<usize>
+        ensures { CountsNodesSomewhere result }
+    {
+        let index = self.index;
+        index.kept.read(self.wait).count_nodes()
     }
 
     /// Takes the lock, together with other reads, and returns the index as it is at this moment. The lock is held until

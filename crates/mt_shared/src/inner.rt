@@ -64,7 +64,7 @@ impl Inner {
     /// # Errors
     ///
     /// Those of `Machine::open`; `NoMemory` if an allocation is refused.
-    pub fn open(
+    pub(crate) fn open(
         alloc: Global,
         options: Options,
         passes: u16,
@@ -97,7 +97,7 @@ impl Inner {
     /// names another pass, or the step is of another pass's open call. The same holds if it is `Spent` because the
     /// count of events of the index or of the pass is at its greatest value. Every other refusal is one of the machine,
     /// and counts as an event.
-    pub fn event(&mut self, alloc: Global, pass: &mut Pass, event: &Event) -> Outcome
+    pub(crate) fn event(&mut self, alloc: Global, pass: &mut Pass, event: &Event) -> Outcome
         ensures does { Does self.old pass.old event.now result self.new pass.new }
         ensures limited { OutcomeIsLimited result }
         ensures kept { IsInner self.old × IsInner self.new }
@@ -125,7 +125,7 @@ impl Inner {
     /// # Errors
     ///
     /// Those of `Machine::feed`.
-    pub fn feed(&self, alloc: Global, from: u64, limit: u16) -> Result<Vec<Delta>, Refusal>
+    pub(crate) fn feed(&self, alloc: Global, from: u64, limit: u16) -> Result<Vec<Delta>, Refusal>
         ensures feeds { Feeds self.now.machine from limit result }
         ensures kept { IsInner self.now }
     {
@@ -138,7 +138,7 @@ impl Inner {
     /// # Errors
     ///
     /// Those of `Machine::view_copy`.
-    pub fn view_copy(&self, alloc: Global, view: ViewNo) -> Result<(u64, ViewState), Refusal>
+    pub(crate) fn view_copy(&self, alloc: Global, view: ViewNo) -> Result<(u64, ViewState), Refusal>
         ensures copies { Copies self.now.machine view.0 result }
         ensures kept { IsInner self.now }
     {
@@ -146,7 +146,7 @@ impl Inner {
     }
 
     /// Returns how many columns a row has.
-    pub fn columns(&self) -> u8
+    pub(crate) fn columns(&self) -> u8
         ensures columns { result ≡ self.now.machine.columns }
         ensures kept { IsInner self.now }
     {

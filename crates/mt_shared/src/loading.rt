@@ -64,7 +64,7 @@ impl Inner {
     /// # Errors
     ///
     /// Those of `mt_load::loading::load`; `Refused` with `Spent` if three events for each commit can't be counted.
-    pub fn load(
+    pub(crate) fn load(
         alloc: Global,
         options: Options,
         rows: Rows,

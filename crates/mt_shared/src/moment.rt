@@ -11,7 +11,7 @@ ghost use Rattle.mt_view.specs.Views.{state_at};
 ghost use Rattle.mt_index.specs.Viewing.{CopiesView, ListsViews};
 ghost use Rattle.mt_index.specs.Alone.{IsQuiet};
 ghost use Rattle.mt_index.specs.Stands.{Stands};
-ghost use Rattle.mt_shared.specs.Feeds.{CountsRows};
+ghost use Rattle.mt_shared.specs.Feeds.{CountsNodes, CountsRows};
 ghost use Rattle.mt_shared.specs.Inner.{IsInner};
 ghost use Rattle.mt_shared.specs.Moments.{machine_of};
 
@@ -116,6 +116,19 @@ impl Inner {
         let commits = self.machine.commits();
         At {
             value: self.machine.len(),
+            from: commits,
+            to: commits,
+        }
+    }
+
+    // How many node numbers are occupied, and after how many commits.
+    pub(crate) fn count_nodes(&self) -> At<usize>
+        ensures counts { CountsNodes self.now.machine result }
+        ensures kept { IsInner self.now }
+    {
+        let commits = self.machine.commits();
+        At {
+            value: self.machine.nodes(),
             from: commits,
             to: commits,
         }

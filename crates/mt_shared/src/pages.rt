@@ -22,7 +22,7 @@ impl Inner {
     /// # Errors
     ///
     /// Those of `Machine::page`.
-    pub fn page(
+    pub(crate) fn page(
         &self,
         alloc: Global,
         pass: PassNo,

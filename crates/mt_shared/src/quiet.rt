@@ -24,7 +24,7 @@ impl Inner {
     /// # Errors
     ///
     /// Those of `mt_reads::read_quiet`.
-    pub fn read_quiet(
+    pub(crate) fn read_quiet(
         &self,
         alloc: Global,
         read: &QuietRead,

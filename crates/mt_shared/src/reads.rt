@@ -86,7 +86,7 @@ fn answer(machine: &Machine, alloc: Global, request: &Request) -> Result<Answer,
 }
 
 /// Returns whether a request is a get or a range, which may be read at once.
-pub fn is_read(request: &Request) -> bool
+pub(crate) fn is_read(request: &Request) -> bool
     ensures { IsTrue result ↔ IsRead request.now }
 {
     matches!(request, Request::Get { .. } | Request::Range { .. })
@@ -103,7 +103,7 @@ impl Inner {
     ///
     /// The limit that the request breaks, as `KeyTooLong`, `BadColumn` or `BadLimit`; `NoMemory` if an allocation is
     /// refused.
-    pub fn read(
+    pub(crate) fn read(
         &self,
         alloc: Global,
         pass: PassNo,

@@ -70,7 +70,7 @@ impl Inner {
     /// # Errors
     ///
     /// Those of [`Inner::event`] for a step.
-    pub fn go(&mut self, alloc: Global, pass: &mut Pass, call: CallNo, most: u64) -> Outcome
+    pub(crate) fn go(&mut self, alloc: Global, pass: &mut Pass, call: CallNo, most: u64) -> Outcome
         ensures goes { HasGone Does self.old pass.old call result self.new pass.new }
         ensures most { pass.new.events ≤ pass.old.events + max 1 most }
         ensures fully { RunsFully self.old pass.old most result self.new pass.new }
@@ -149,7 +149,13 @@ impl Inner {
     /// # Errors
     ///
     /// Those of [`Inner::event`] for a begin.
-    pub fn begin(&mut self, alloc: Global, pass: &mut Pass, request: Request, most: u64) -> Started
+    pub(crate) fn begin(
+        &mut self,
+        alloc: Global,
+        pass: &mut Pass,
+        request: Request,
+        most: u64,
+    ) -> Started
         ensures starts { IsStarted Does self.old pass.old request result self.new pass.new }
         ensures most { pass.new.events ≤ pass.old.events + max 1 most }
         ensures fully { StartsFully self.old pass.old most result self.new pass.new }

@@ -29,7 +29,7 @@ impl Inner {
     /// # Errors
     ///
     /// `WrongPass` if they aren't.
-    pub fn settle(self, passes: &[Pass]) -> Result<Totals, Refusal>
+    pub(crate) fn settle(self, passes: &[Pass]) -> Result<Totals, Refusal>
         ensures made { IfOk result (λ totals. totals.events ≡ self.events) }
         ensures committed { IfOk result (λ totals. totals.commits ≡ newest self.machine.log) }
         ensures events { IfOk result (λ totals. totals.events ≡ events_by passes.now) }
@@ -58,7 +58,7 @@ impl Inner {
     /// # Errors
     ///
     /// `WrongPass` if they aren't, or if no trace was kept; `NoMemory` if a trace was lost.
-    pub fn settle_trace(self, passes: &[Pass]) -> Result<Vec<Entry>, Refusal>
+    pub(crate) fn settle_trace(self, passes: &[Pass]) -> Result<Vec<Entry>, Refusal>
         ensures legal { IfOk result (λ trace. IsLegalTrace self.machine.columns trace.items) }
         ensures parts { IfOk result (λ trace. All (HasItsPart trace.items) passes.now) }
         ensures count { IfOk result (λ trace. length trace.items ≡ events_by passes.now) }

@@ -21,7 +21,7 @@ impl Inner {
     /// empty. While a put, remove or tidy is open, the border isn't looked at, and counts as empty. Makes no event.
     ///
     /// Costs the visit of each node on the way to the key. Allocates nothing.
-    pub fn is_emptied(&self, key: &Key) -> bool
+    pub(crate) fn is_emptied(&self, key: &Key) -> bool
         ensures looks { Looks self.now key.now result }
         ensures kept { IsInner self.now }
     {

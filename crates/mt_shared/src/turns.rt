@@ -18,7 +18,7 @@ impl Inner {
     /// # Errors
     ///
     /// Those of [`Inner::event`].
-    pub fn turn(&mut self, alloc: Global, pass: &mut Pass) -> Outcome
+    pub(crate) fn turn(&mut self, alloc: Global, pass: &mut Pass) -> Outcome
         ensures does { Does self.old pass.old furthest result self.new pass.new }
         ensures kept { IsInner self.old × IsInner self.new }
     {

@@ -1,11 +1,11 @@
 //! What a pass does with views: it reads a page of one, drops one, or advances them all.
 
 ghost use Rattle.std.specs.Prelude.{◌≡◌, ◌+◌, ◌≤◌, IfOk, IfErr};
-ghost use Rattle.mt_types.specs.declared.event.Event.TheVariants.{ViewDrop};
+ghost use Rattle.mt_types.specs.declared.event.Event.TheVariants.{Apply, ViewDrop};
 ghost use Rattle.mt_types.specs.Limited.{PageIsLimited};
 ghost use Rattle.mt_shared.specs.Passes.{IsTold};
 ghost use Rattle.mt_shared.specs.Pages.{PageIsRead};
-ghost use Rattle.mt_shared.specs.Turns.{drop_outcome, furthest, KeepsUp, IsStopped};
+ghost use Rattle.mt_shared.specs.Turns.{apply_outcome, drop_outcome, furthest, KeepsUp, IsStopped};
 
 use crate::driving::Shared;
 use crate::pass::Pass;
@@ -74,6 +74,31 @@ pub fn view_drop<S: Shared>(
 {
     match shared.event(alloc, pass, &Event::ViewDrop(view)) {
         Outcome::Dropped => Ok(()),
+        Outcome::Refused(refusal) => Err(refusal),
+        _ => unreachable!(),
+    }
+}
+
+/// Advances a view by one commit; for `ViewNo(0)` the view that is furthest behind. Makes one event. Returns the number of
+/// commits at which the view then is, or `None` if it was at the newest commit, or if `view` is 0 and no view is behind.
+/// O(log n) in the rows of the view.
+///
+/// # Errors
+///
+/// `NoSuchView` if no view has this number; `NoMemory` if an allocation is refused. `WrongPass` and `Spent` as for any
+/// event of a pass. Nothing has changed then.
+pub(crate) fn view_apply<S: Shared>(
+    alloc: Global,
+    shared: &mut S,
+    pass: &mut Pass,
+    view: ViewNo,
+) -> Result<Option<u64>, Refusal>
+    ensures event { S.does shared.old pass.old (Apply view) (apply_outcome result) shared.new pass.new }
+    ensures told { IsTold pass.old (Apply view) (apply_outcome result) pass.new }
+{
+    match shared.event(alloc, pass, &Event::Apply(view)) {
+        Outcome::Applied(number) => Ok(Some(number)),
+        Outcome::Current => Ok(None),
         Outcome::Refused(refusal) => Err(refusal),
         _ => unreachable!(),
     }

@@ -3,6 +3,8 @@
 #![tactic(auto)]
 
 #[cfg(test)]
+mod as_a_map;
+#[cfg(test)]
 mod clients;
 #[cfg(test)]
 mod doors;

@@ -1,5 +1,5 @@
 //! An example: two threads share one map. Each puts ten keys of its own and gets them back; then one of their passes
-//! ranges over all keys. The calls of the threads come in between each other, differently in each run; what is printed
+//! walks over all rows. The calls of the threads come in between each other, differently in each run; what is printed
 //! is the same.
 #![tactic(auto)]
 
@@ -12,7 +12,6 @@ use mt_shared::map::SharedMap;
 use mt_shared::pass::Pass;
 use mt_types::refusal::Refusal;
 use std::alloc::Global;
-use std::ops::Bound;
 use std::sync::Wait;
 use std::thread;
 use std::thread::Threads;
@@ -52,6 +51,16 @@ fn get_all<R: Wait>(alloc: Global, client: &mut Guest<'_, R>) -> Result<Vec<u64>
     Ok(versions)
 }
 
+// How many rows there are, by a walk in pieces, each of a moment of its own.
+fn count_all<R: Wait>(client: &mut Guest<'_, R>) -> Result<usize, Refusal> {
+    let mut walk = client.walk(b"");
+    let mut rows: usize = 0;
+    while let Some(piece) = walk.next(client)? {
+        rows = rows.saturating_add(piece.value.len());
+    }
+    Ok(rows)
+}
+
 // What a thread does with its pass. It gives the pass back, since `close` asks for all of them.
 fn work<R: Wait>(
     rt: &R,
@@ -82,8 +91,7 @@ fn run<R: Threads + Wait + Sync + Print + AllocGlobal>(rt: &R) -> Result<()> {
     }
     let one = passes.pop().context("there is no pass")?;
     let mut client = Client::new(alloc, Door::new(&index, rt, MOST_EVENTS), one);
-    let rows = client.range((Bound::Unbounded, Bound::Unbounded))?.value;
-    println!(rt; "range: {} rows", rows.len())?;
+    println!(rt; "walk: {} rows", count_all(&mut client)?)?;
     passes.push(client.pass)?;
     let totals = index.close(passes)?;
     println!(rt; "close: {} commits", totals.commits)?;
