@@ -1,6 +1,6 @@
 //! How the log of a folder is shortened: it continues in the other file, and the rows are copied there between commits.
 
-ghost use Rattle.std.specs.Prelude.{◌≡◌, ◌⊎◌, ◌<◌, false, List, [], length, nat_lt, None, Err, OnOk, OnErr, IfOk, IsTrue};
+ghost use Rattle.std.specs.Prelude.{◌≡◌, ◌⊎◌, ◌<◌, false, List, [], length, nat_lt, None, Err, OnOk, OnErr, IfErr, IfOk, IsTrue};
 ghost use Rattle.mt_frame.specs.declared.entry.Entry.{Entry};
 ghost use Rattle.mt_frame.specs.declared.entry.LogHeader.{LogHeader};
 ghost use Rattle.mt_journal.specs.Appending.{with_part, with_seal};
@@ -178,6 +178,7 @@ impl<D: Disk + Drop> FolderLog<D> {
     /// file has failed, no checkpoint is made any more: `GivenUp`. `TooLong` if the log has the last generation.
     pub fn begin(&mut self) -> Result<(), JournalError>
         ensures columns { self.new.columns ≡ self.old.columns }
+        ensures least { self.new.least ≡ self.old.least }
         ensures newest { OnOk result (self.new.journal.at.newest ≡ self.old.journal.at.newest) }
 
         // Whatever a crash leaves of the file before is the whole log before.
@@ -235,6 +236,7 @@ impl<D: Disk + Drop> FolderLog<D> {
         ensures newest { OnOk result (self.new.journal.at.newest ≡ header.base) }
         ensures before { OnOk result (self.new.other ≡ Needed self.old.journal.disk None 0 false) }
         ensures columns { self.new.columns ≡ self.old.columns }
+        ensures least { self.new.least ≡ self.old.least }
         ensures spare { OnErr result ((self.new.other ≡ self.old.other) ⊎ IsFree self.new.other) }
         ensures begins { OnOk result (Keeps self.new.journal.at (D.Disk.seen self.new.journal.disk)
             (D.Disk.may_leave self.new.journal.disk) header []) }
@@ -266,7 +268,8 @@ impl<D: Disk + Drop> FolderLog<D> {
     ///
     /// `NoMemory`.
     pub fn start(&self) -> Result<Key, Refusal>
-        ensures { IfOk result (λ key. key ≡ start_of self.now.other) }
+        ensures key { IfOk result (λ key. key ≡ start_of self.now.other) }
+        ensures refused { IfErr result (λ refusal. refusal ≡ Refusal.NoMemory) }
     {
         match &self.other {
             Other::Needed {
@@ -294,6 +297,7 @@ impl<D: Disk + Drop> FolderLog<D> {
             → IsTrue (may_ask self.new.journal.is_given_up (D.Disk.is_usable self.new.journal.disk))
             → OnErr result (Keeps self.new.journal.at (D.Disk.seen self.new.journal.disk) (D.Disk.may_leave self.new.journal.disk) header entries) }
         ensures columns { self.new.columns ≡ self.old.columns }
+        ensures least { self.new.least ≡ self.old.least }
         ensures newest { OnOk result (self.new.journal.at.newest ≡ self.old.journal.at.newest) }
         ensures after { OnOk result (IsAfter (end_of part) (nat_lt (length part.rows) PART) self.old.other self.new.other) }
         ensures changes { (changes : List Change) → HasChanges D.Disk.seen D.Disk.may_leave changes self.old
@@ -336,6 +340,7 @@ impl<D: Disk + Drop> FolderLog<D> {
         ensures newest { OnOk result (self.new.journal.at.newest ≡ self.old.journal.at.newest) }
         ensures other { self.new.other ≡ self.old.other }
         ensures columns { self.new.columns ≡ self.old.columns }
+        ensures least { self.new.least ≡ self.old.least }
     {
         self.journal.append_seal(self.alloc, copied)?;
         self.journal.sync()?;
@@ -349,6 +354,7 @@ impl<D: Disk + Drop> FolderLog<D> {
     /// Those of [`mt_journal::journal::Journal::append_seal`] and [`FolderLog::sync`].
     pub fn seal(&mut self) -> Result<(), JournalError>
         ensures columns { self.new.columns ≡ self.old.columns }
+        ensures least { self.new.least ≡ self.old.least }
         ensures newest { OnOk result (self.new.journal.at.newest ≡ self.old.journal.at.newest) }
 
         // Whatever a crash leaves now is the sealed log, when the other file is free.

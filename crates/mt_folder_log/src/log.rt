@@ -91,6 +91,7 @@ impl<D: Disk + Drop> FolderLog<D> {
             → AllSurvive header (with_commits self.old.journal.at records entries) self.old.journal.at.durable
             (D.Disk.may_leave self.new.journal.disk) }
         ensures columns { self.new.columns ≡ self.old.columns }
+        ensures least { self.new.least ≡ self.old.least }
         ensures changes { (changes : List Change) → HasChanges D.Disk.seen D.Disk.may_leave changes self.old
             → AreNext self.old.columns changes self.old.journal.at.newest records → IsTrue (D.Disk.is_mixing self.new.journal.disk)
             → OnOk result (HasChanges D.Disk.seen D.Disk.may_leave changes self.new) }
@@ -131,6 +132,7 @@ impl<D: Disk + Drop> FolderLog<D> {
             → OnOk result (AllAreLogs header entries (D.Disk.may_leave self.new.journal.disk)) }
         ensures fewer { (left : List ℕ) → D.Disk.may_leave self.new.journal.disk left → D.Disk.may_leave self.old.journal.disk left }
         ensures columns { self.new.columns ≡ self.old.columns }
+        ensures least { self.new.least ≡ self.old.least }
         ensures changes { (changes : List Change) → HasChanges D.Disk.seen D.Disk.may_leave changes self.old
             → OnOk result (HasChanges D.Disk.seen D.Disk.may_leave changes self.new) }
         ensures recover { (changes : List Change) → HasChanges D.Disk.seen D.Disk.may_leave changes self.old

@@ -13,7 +13,7 @@ use Rattle.mt_map_folder.proofs.log.MapLog.copy.Goals as goal
 pub returns-clause-copies : goal.returns-clause-copies
 returns-clause-copies g c = λ header entries keeps mixing.
     let s = c.args.map.now.machine in
-    let start = c.as_slice.ensures.value ∙ c.in_ok-start.ensures in (
+    let start = c.as_slice.ensures.value ∙ c.in_ok-start.ensures.key in (
       record { at = c.commits-at.result; rows = c.in_ok-rows.rows },
       record {
         at = c.commits-at.ensures.number;
@@ -40,7 +40,7 @@ returns-clause-changes g c = λ changes kept few mixing.
     let s = c.args.map.now.machine in
     let log = c.args.self.now.log in
     let n = log.journal.at.newest in
-    let start = c.as_slice.ensures.value ∙ c.in_ok-start.ensures in
+    let start = c.as_slice.ensures.value ∙ c.in_ok-start.ensures.key in
     let pairs = subst (λ (from : List ℕ). IsRangeOfMap (rows s.columns (moment kept.h)) [] from PART c.in_ok-rows.rows) start (c.in_ok-rows.ensures.pairs kept.h kept.stands) in
     let all : n ≡ length (moment kept.h).commits = omega (arith, few, kept.within, c.commits-at.ensures.told kept.h kept.stands, c.commits-at.ensures.number) in
     let range = subst (λ (C : ℕ). IsRangeOfMap (after C (take n changes)) [] (start_of log.other) PART c.in_ok-rows.rows) kept.columns (next_rows s.columns changes kept.h n kept.made (start_of log.other) c.in_ok-rows.rows all pairs) in
