@@ -1,6 +1,6 @@
 -- The turns of connections are the frames of their worker.
-use Rattle.std.proofs.Common.{◌≡◌, ◌≢◌, ℕ, Bool, true, false, List, [], ◌∷◌, ◌++◌, Option, Some, None, IsSome, refl, sym, ap, subst, ◌∙◌, inl, inr, append-nil}
-use Rattle.std.specs.Prelude.{◌⊎◌, MatchOption, Result, Ok, Err, IfOk, IfErr, IsTrue, IsFalse, IsErrOf}
+use Rattle.std.proofs.Common.{◌≡◌, ◌≢◌, ℕ, Bool, true, false, List, [], ◌∷◌, ◌++◌, Option, Some, None, refl, sym, ap, subst, ◌∙◌, inl, inr, append-nil}
+use Rattle.std.specs.Prelude.{◌⊎◌, Err, IsTrue, IsFalse, IsErrOf}
 use Rattle.mt_shared.specs.Passes.{PassView}
 use Rattle.mt_shared.specs.Drives.{EventLaw}
 use Rattle.mt_shared.specs.Reads.{ReadLaw}
@@ -15,7 +15,8 @@ use Rattle.mt_wire.specs.declared.server.ServerQuery.TheVariants.{Hello, Ping, I
 use Rattle.mt_wire.specs.declared.frame.Frame.{Frame}
 use Rattle.mt_wire.specs.declared.fault.WireFault.{WireFault}
 use Rattle.mt_wire.specs.declared.fault.WireFault.TheVariants.{BadLength, BadVersion, BadBody, NoMemory}
-use Rattle.mt_wire.specs.Frames.{RequestsFit, FaultStands, request_frame, reply_frame}
+use Rattle.mt_types.specs.declared.limits.TheConstants.{MAX_REQUEST_BODY}
+use Rattle.mt_wire.specs.Frames.{IsBegun, RequestsFit, FaultStands, request_frame, reply_frame}
 use Rattle.mt_wire.proofs.ReadingLaws.{request_frames_read_one_way}
 use Rattle.mt_talk.specs.declared.tokens.Token.{Token}
 use Rattle.mt_talk.specs.declared.serving.Server.{Server}
@@ -27,7 +28,7 @@ use Rattle.mt_talk.specs.Sessions.{IsRoleFor, ServesOne}
 use Rattle.mt_serve.specs.declared.answerer.Answerer.{Answerer}
 use Rattle.mt_serve.specs.Asking.{AnswersFrames}
 use Rattle.mt_serve.specs.Reading.{answers_by}
-use Rattle.mt_loop.specs.Working.{Taken, Answered, Stopped, stops_by, Does, DoesAll, Works, AreAsked, HasNotStopped, FramesAreOneChain, Gains, Turns}
+use Rattle.mt_loop.specs.Working.{Taken, Answered, Stopped, stops_by, DoesAll, Works, AreAsked, FramesAreOneChain, Gains, Turns}
 
 -- ---- in which role
 pub role_kept : (tokens : List Token) (role now : Option Role) (query : Option ServerQuery) → now ≡ role → IsRoleFor tokens role query now
@@ -64,6 +65,14 @@ module _ {S : Type 0} (does : EventLaw S) (shows : ReadLaw S) (pages : PageLaw S
 
   pub works_on : (s m t : S) (p r q : PassView) → Works does shows pages glances looks s p m r → Works does shows pages glances looks m r t q → Works does shows pages glances looks s p t q
   works_on s m t p r q (xs, one) (ys, more) = (xs ++ ys, all_on s m t p r q xs ys one more)
+
+  pub works_at : (s t u : S) (p q v : PassView) → Works does shows pages glances looks s p t q → u ≡ t → v ≡ q → Works does shows pages glances looks s p u v
+  works_at s t u p q v works shared pass =
+      subst (λ (x : S). Works does shows pages glances looks s p x v) (sym shared) (subst (λ (w : PassView). Works does shows pages glances looks s p t w) (sym pass) works)
+
+  pub works_next : (s m n t u : S) (p r v q : PassView) → Works does shows pages glances looks s p m r → n ≡ m → v ≡ r → Works does shows pages glances looks n v t q → u ≡ t → Works does shows pages glances looks s p u q
+  works_next s m n t u p r v q one shared pass more then =
+      works_at s t u p q q (works_on s n t p v q (works_at s m n p r v one shared pass) more) then refl
 
   -- ---- one chain
   abbrev Chain : S → PassView → List Taken → S → PassView → Type 0
@@ -110,11 +119,15 @@ module _ {S : Type 0} (does : EventLaw S) (shows : ReadLaw S) (pages : PageLaw S
   gains_then IsBroken Then old more new last on (inr (broken, none)) (inl same) = inr (on broken, same ∙ none)
   gains_then IsBroken Then old more new last on gains (inr gone) = inr gone
 
+  rests_then : (Begun IsBroken Then : Type 0) → (IsBroken → Then) → Begun ⊎ IsBroken → Begun ⊎ Then
+  rests_then Begun IsBroken Then on (inl begun) = inl begun
+  rests_then Begun IsBroken Then on (inr broken) = inr (on broken)
+
   pub turns_then : (tokens : List Token) (IsBroken Then : Type 0) (v w x : Kept) (role after last : Option Role) (s t : S) (p q : PassView) → (IsBroken → Then) → x.bytes ≡ w.bytes → (x.output ≡ w.output) ⊎ (Then × (x.output ≡ [])) → last ≡ after
       → (taken : Option Taken) × Turns does shows pages glances looks tokens IsBroken v role s p taken w after t q
       → (taken : Option Taken) × Turns does shows pages glances looks tokens Then v role s p taken x last t q
   turns_then tokens IsBroken Then v w x role after last s t p q on bytes output is (None, turn) =
-      (None, (bytes ∙ turn.0, gains_then IsBroken Then v.output [] w.output x.output on turn.1 output, turn.2, turn.3))
+      (None, (bytes ∙ turn.0, gains_then IsBroken Then v.output [] w.output x.output on turn.1 output, turn.2, turn.3, rests_then (IsBegun MAX_REQUEST_BODY v.bytes) IsBroken Then on turn.4))
   turns_then tokens IsBroken Then v w x role after last s t p q on bytes output is (Some (Answered frame reply), (fits, front, gains, one, es, ep, et, eq)) = (
     Some (Answered frame reply),
     (
@@ -178,14 +191,14 @@ module _ {S : Type 0} (does : EventLaw S) (shows : ReadLaw S) (pages : PageLaw S
     same_output same = inl (same ∙ sym (append-nil v.output))
 
     pub turned_waits : Waits a s p v w b t q → Turned
-    turned_waits waits = (None, (ap (λ (k : Kept). k.bytes) waits.2, same_output (ap (λ (k : Kept). k.output) waits.2), waits.4, waits.5))
+    turned_waits waits = (None, (ap (λ (k : Kept). k.bytes) waits.2, same_output (ap (λ (k : Kept). k.output) waits.2), waits.4, waits.5, inl waits.0))
 
-    pub turned_not : w.bytes ≡ v.bytes → w.output ≡ v.output → t ≡ s → q ≡ p → Turned
-    turned_not bytes output same pass = (None, (bytes, same_output output, same, pass))
+    turned_not : IsBroken → w.bytes ≡ v.bytes → w.output ≡ v.output → t ≡ s → q ≡ p → Turned
+    turned_not broken bytes output same pass = (None, (bytes, same_output output, same, pass, inr broken))
 
     gave_up : w.output ≡ v.output → IsBroken
         → ((w.bytes ≡ v.bytes) × (t ≡ s) × (q ≡ p)) ⊎ ((frame : Frame Query) × RequestsFit frame × (v.bytes ≡ request_frame frame ++ w.bytes) × StopsFrame (stops_by does shows pages glances looks) a s p frame t q) → Turned
-    gave_up output broken (inl (bytes, same, pass)) = (None, (bytes, same_output output, same, pass))
+    gave_up output broken (inl (bytes, same, pass)) = turned_not broken bytes output same pass
     gave_up output broken (inr (frame, fits, front, stops)) = (Some (Stopped frame), (fits, front, same_output output, broken, a, stops))
 
     pub turned_gave_up : IsBroken → GivesUp (StopsFrame (stops_by does shows pages glances looks) a) s p v w t q → Turned
@@ -194,9 +207,9 @@ module _ {S : Type 0} (does : EventLaw S) (shows : ReadLaw S) (pages : PageLaw S
     pub turned_fault : (fault : WireFault) → IsBroken
         → (fault ≢ NoMemory → FaultStands fault v.bytes × (w.bytes ≡ v.bytes) × (w.output ≡ v.output) × (t ≡ s) × (q ≡ p))
         → (fault ≡ NoMemory → GivesUp (StopsFrame (stops_by does shows pages glances looks) a) s p v w t q) → Turned
-    turned_fault BadLength broken fault memory = let f = fault (λ e. cc) in turned_not f.1 f.2 f.3 f.4
-    turned_fault BadVersion broken fault memory = let f = fault (λ e. cc) in turned_not f.1 f.2 f.3 f.4
-    turned_fault BadBody broken fault memory = let f = fault (λ e. cc) in turned_not f.1 f.2 f.3 f.4
+    turned_fault BadLength broken fault memory = let f = fault (λ e. cc) in turned_not broken f.1 f.2 f.3 f.4
+    turned_fault BadVersion broken fault memory = let f = fault (λ e. cc) in turned_not broken f.1 f.2 f.3 f.4
+    turned_fault BadBody broken fault memory = let f = fault (λ e. cc) in turned_not broken f.1 f.2 f.3 f.4
     turned_fault NoMemory broken fault memory = turned_gave_up broken (memory refl)
 
     pub turned_ok : (some : Bool) → (IsTrue some → Takes (ServesFrame (answers_by does shows pages glances looks)) a s p v w b t q) → (IsFalse some → Waits a s p v w b t q) → Turned

@@ -10,7 +10,8 @@ use Rattle.mt_wire.specs.declared.query.Query.{Query}
 use Rattle.mt_wire.specs.declared.response.Response.{Response}
 use Rattle.mt_wire.specs.declared.server.Role.{Role}
 use Rattle.mt_wire.specs.declared.frame.Frame.{Frame}
-use Rattle.mt_wire.specs.Frames.{RequestsFit, request_frame, reply_frame}
+use Rattle.mt_types.specs.declared.limits.TheConstants.{MAX_REQUEST_BODY}
+use Rattle.mt_wire.specs.Frames.{IsBegun, RequestsFit, request_frame, reply_frame}
 use Rattle.mt_talk.specs.declared.tokens.Token.{Token}
 use Rattle.mt_talk.specs.declared.serving.Server.{Server}
 use Rattle.mt_talk.specs.Frames.{ServesFrame, StopsFrame}
@@ -76,12 +77,13 @@ FramesAreOneChain {S} does shows pages glances looks =
 abbrev pub Gains : Type 0 → List ℕ → List ℕ → List ℕ → Type 0
 Gains IsBroken old more new = (new ≡ old ++ more) ⊎ (IsBroken × (new ≡ []))
 
--- A CONNECTION'S TURN, from what its session keeps, in the role of its client: nothing is done; or the frame at the front of
--- its own session is taken off and answered, as one of a session among others, and the answer is appended to what that
--- session has to go; or memory runs out in that frame, and the session is broken off.
+-- A CONNECTION'S TURN, from what its session keeps, in the role of its client: nothing is done, since no whole frame is there or
+-- the session is broken off; or the frame at the front of its own session is taken off and answered, as one of a session among
+-- others, and the answer is appended to what that session has to go; or memory runs out in that frame, and the session is broken
+-- off.
 abbrev pub Turns : {S : Type 0} → EventLaw S → ReadLaw S → PageLaw S → QuietLaw S → LookLaw S → List Token → Type 0 → Kept → Option Role → S → PassView → Option Taken → Kept → Option Role → S → PassView → Type 0
 Turns does shows pages glances looks tokens IsBroken v role s p None w after t q =
-    (w.bytes ≡ v.bytes) × Gains IsBroken v.output [] w.output × (t ≡ s) × (q ≡ p)
+    (w.bytes ≡ v.bytes) × Gains IsBroken v.output [] w.output × (t ≡ s) × (q ≡ p) × (IsBegun MAX_REQUEST_BODY v.bytes ⊎ IsBroken)
 Turns does shows pages glances looks tokens IsBroken v role s p (Some (Answered frame reply)) w after t q =
     RequestsFit frame × (v.bytes ≡ request_frame frame ++ w.bytes) × Gains IsBroken v.output (reply_frame reply) w.output
     × (one : ServesOne (answers_by does shows pages glances looks) tokens role frame reply after)

@@ -117,10 +117,12 @@ impl<D: Disk + Drop> Log<D> {
         !matches!(self.checkpoints.stage, Stage::Waits { .. })
     }
 
-    // Whether the log is so long that it moves to the other file.
+    // Whether the log is so long that it moves to the other file. (A log that begins with commit 1 has all rows: one that was left
+    // there without commits would hide those of this one.)
     fn is_due(&self) -> bool {
         match self.checkpoints.stage {
             Stage::Waits { most } => self.checkpoints.least > 0
+                && self.logger.position().newest > 0
                 && self.logger.position().end >= most
                 && self.checkpoints.spare.is_some(),
             _ => false,

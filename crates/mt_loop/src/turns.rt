@@ -1,6 +1,7 @@
 //! The frames of a round: they are answered one after another, and then retired nodes are freed.
 
 ghost use Rattle.std.specs.Prelude.{◌≡◌, ◌≢◌};
+ghost use Rattle.mt_loop.specs.Working.{Works};
 
 use crate::connection::{Connection, Front};
 use crate::gauge::Gauge;
@@ -73,7 +74,10 @@ impl Turns {
         gauge: &Gauge<'_, R>,
         shared: &mut S,
         connection: &mut Connection,
-    ) -> bool {
+    ) -> bool
+        ensures shared { shared.new ≡ shared.old }
+        ensures pass { self.new.pass ≡ self.old.pass }
+    {
         let query = connection.server_query();
         if query.is_none() {
             return false;
@@ -99,7 +103,9 @@ impl Turns {
         &mut self,
         gauge: &Gauge<'_, R>,
         connection: &mut Connection,
-    ) -> bool {
+    ) -> bool
+        ensures pass { self.new.pass ≡ self.old.pass }
+    {
         if !connection.changes {
             return false;
         }
@@ -137,7 +143,9 @@ impl Turns {
         gauge: &Gauge<'_, R>,
         shared: &mut S,
         connection: &mut Connection,
-    ) -> u64 {
+    ) -> u64
+        ensures works { Works S.does S.shows S.pages S.glances S.looks shared.old self.old.pass shared.new self.new.pass }
+    {
         self.server.inner.count = 0;
         self.server.keeper.is_memory_full = gauge.memory.is_full();
         let (server, pass) = (&mut self.server, &mut self.pass);
@@ -163,7 +171,9 @@ impl Turns {
         keys: &[usize],
         front: Front,
         keeping: Keeping,
-    ) {
+    )
+        ensures works { Works S.does S.shows S.pages S.glances S.looks shared.old self.old.pass shared.new self.new.pass }
+    {
         self.server.inner.keeping = keeping;
         let mut held = 0u64;
         for key in keys {
@@ -187,14 +197,17 @@ impl Turns {
         shared.hold(Hold::Nothing);
     }
 
-    /// Answers frames of the connections of this round, one of each after the other, until none is to be answered.
+    /// Answers frames of the connections of this round, one of each after the other, until none is to be answered. All that is
+    /// done to the index meanwhile is what these frames ask, in the order in which they are answered.
     pub fn answer_all<R: Wait + Clock + Eprint, S: Shared>(
         &mut self,
         gauge: &Gauge<'_, R>,
         shared: &mut S,
         connections: &mut Slab<Connection>,
         keys: &[usize],
-    ) {
+    )
+        ensures works { Works S.does S.shows S.pages S.glances S.looks shared.old self.old.pass shared.new self.new.pass }
+    {
         for _ in 0..=TURN {
             let (reads, others) = find_all(connections, keys);
             if reads == 0 && others == 0 {

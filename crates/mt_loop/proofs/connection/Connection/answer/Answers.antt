@@ -1,4 +1,4 @@
-use Rattle.std.proofs.Common.{◌≡◌, ◌∙◌, IsSome, refl, ap}
+use Rattle.std.proofs.Common.{◌∙◌, IsSome, refl, ap}
 use Rattle.mt_talk.specs.Turns.{Kept}
 use Rattle.mt_loop.proofs.WorkingLemmas.{output_then, turns_then}
 use Rattle.mt_loop.proofs.connection.Connection.answer.Goals as goal

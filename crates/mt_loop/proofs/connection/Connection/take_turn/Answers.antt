@@ -1,4 +1,4 @@
-use Rattle.std.proofs.Common.{◌≡◌, IsSome, refl, ap, inl}
+use Rattle.std.proofs.Common.{IsSome, refl, ap, inl}
 use Rattle.mt_talk.specs.Turns.{Kept}
 use Rattle.mt_talk.specs.declared.server.Keeper.{Keeper}
 use Rattle.mt_talk.specs.declared.serving.Server.{Server}
