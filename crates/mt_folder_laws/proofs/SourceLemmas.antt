@@ -47,7 +47,7 @@ module _ (one : LogsReadOneWay) (C : ℕ) (bytes others : List ℕ) (header : Lo
   spelled : Spells C bytes header
   spelled = record { entries = entries; log = is; columns = columns }
 
-  -- ---- a whole log, beside a file without a newer one
+  -- ---- a whole log, next to a file without a newer one
   pub of_whole : (source : Option Source) → IsTrue ((header.base == 0) || list_any is_seal entries) → AreRows C bytes others source read → source ≡ Some Newer
   of_whole (Some Newer) whole are = refl
   of_whole (Some Older) whole are = absurd (are.rows.0 (same_whole one C bytes header entries are.newer is are.says whole))

@@ -31,7 +31,7 @@ pub record IsUnsealed (C : ℕ) (changes : List Change) (header : LogHeader) (en
   pub within : number_after header.base entries ≤ length changes
   pub unsealed : list_any is_seal entries ≡ false
 
--- A WHOLE LOG that a crash has left so, beside a file without a newer log
+-- A WHOLE LOG that a crash has left so, next to a file without a newer log
 abbrev pub SealedLogsSurvive : Type 0
 SealedLogsSurvive =
     (C : ℕ) (changes : List Change) (log : LogRead) (left others : List ℕ) (read : RowsRead)

@@ -71,7 +71,7 @@ pub record AreLeft (C : ℕ) (changes : List Change) (durable : ℕ) (bytes othe
   pub enough : durable ≤ count
   pub again : (later : List Change) → take count later ≡ take count changes → HaveFirst C later count bytes others
 
--- A LOG FROM THE FIRST COMMIT ON, of which a crash has left this, beside a file without a newer log
+-- A LOG FROM THE FIRST COMMIT ON, of which a crash has left this, next to a file without a newer log
 abbrev pub FirstLogsSurvive : Type 0
 FirstLogsSurvive =
     (C : ℕ) (changes : List Change) (header : LogHeader) (entries : List Entry) (durable : ℕ) (left others : List ℕ)
@@ -80,7 +80,7 @@ FirstLogsSurvive =
     → HasNoNewer C header.generation durable others
     → AreLeft C changes durable left others
 
--- A LOG WHOSE CHECKPOINT IS IN PROGRESS, of which a crash has left this, beside the whole log that it continues
+-- A LOG WHOSE CHECKPOINT IS IN PROGRESS, of which a crash has left this, next to the whole log that it continues
 abbrev pub CheckpointsSurvive : Type 0
 CheckpointsSurvive =
     (C : ℕ) (changes : List Change) (header : LogHeader) (entries : List Entry) (durable : ℕ) (left others : List ℕ)
@@ -88,11 +88,12 @@ CheckpointsSurvive =
     → Survives header entries durable left
     → AreLeft C changes durable left others
 
--- A SEALED LOG that has grown, of which a crash has left this, the first entries among it, beside a file without a newer log
+-- A SEALED LOG that has grown, of which a crash has left this, the first entries among it, next to a file without a newer log
 abbrev pub GrownLogsSurvive : Type 0
 GrownLogsSurvive =
     (C : ℕ) (changes : List Change) (header : LogHeader) (first later : List Entry) (durable : ℕ) (left rest others : List ℕ)
-    → HaveCommits C changes header.base (first ++ later) → number_after header.base (first ++ later) ≤ length changes → IsSealed C changes header first later → MaySay header first
+    → HaveCommits C changes header.base (first ++ later) → number_after header.base (first ++ later) ≤ length changes
+    → IsSealed C changes header first later → MaySay header first
     → Survives header (first ++ later) durable left → left ≡ log_spelling header first ++ rest
     → HasNoNewer C header.generation durable others
     → AreLeft C changes durable left others

@@ -44,7 +44,7 @@ HasRole C changes may_leave (Needed disk last copied has_all) header entries lea
     × AreCopied C changes header.base entries (Covers last has_all)
 HasRole C changes may_leave Gone header entries leaves = IsWhole C changes header entries leaves
 
--- THESE CHANGES ARE KEPT by the log at this position of this disk, beside the other file: the log has the commits that follow its
+-- THESE CHANGES ARE KEPT by the log at this position of this disk, with the other file: the log has the commits that follow its
 -- base, and the rows are in it, or in the log before and in part in it
 pub record AreKept {D : Type 0} (C : ℕ) (seen : D → List ℕ) (may_leave : D → List ℕ → Type 0) (changes : List Change) (at : Position) (disk : D) (other : Other D) : Type 0 where
   pub header : LogHeader

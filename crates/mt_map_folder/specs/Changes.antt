@@ -7,7 +7,7 @@ use Rattle.mt_index.specs.Stands.{MachineView, Stands}
 use Rattle.mt_folder_log.specs.Folder.{HasChanges}
 use Rattle.mt_map_folder.specs.declared.log.MapLog.{MapLog}
 
--- THESE COMMITS ARE THE FIRST OF THE CHANGES; or they are but for those before the map was opened, as many, which made the same rows
+-- THESE COMMITS ARE THE FIRST OF THE CHANGES. Those by which the map was loaded may be others, as many, which made the same rows
 pub record AreFirstOf (C : ℕ) (changes commits : List Change) : Type 0 where
   pub loaded : List Change
   pub before : List Change
