@@ -50,7 +50,7 @@ DoesAll {S} does shows pages glances looks s p (taken ∷ more) t q =
 abbrev pub Works : {S : Type 0} → EventLaw S → ReadLaw S → PageLaw S → QuietLaw S → LookLaw S → S → PassView → S → PassView → Type 0
 Works does shows pages glances looks s p t q = (taken : List Taken) × DoesAll does shows pages glances looks s p taken t q
 
--- those that the index answered, and their answers, in order: a server has answered the others by itself
+-- those that the index answered, and their answers, in order: a server has answered the others
 abbrev pub AreAsked : List Taken → List (Frame Query) → List (Frame Response) → Type 0
 AreAsked [] frames replies = (frames ≡ []) × (replies ≡ [])
 AreAsked (Answered frame reply ∷ more) frames replies =

@@ -1,6 +1,6 @@
 -- A walk in pieces: the last key of a piece is within its bounds, and after the last key before.
-use Rattle.std.proofs.Common.{ℕ, ◌≡◌, ◌<◌, ◌≤◌, ◌-◌, ◌&&◌, inl, inr, Bool, true, false, List, [], ◌∷◌, length, refl, sym, ap, subst}
-use Rattle.std.specs.Prelude.{Option, Some, None, Result, Ok, Err, IfOk, IfSome, MatchOption, All, filter, slice_get}
+use Rattle.std.proofs.Common.{ℕ, ◌≡◌, ◌<◌, ◌≤◌, ◌-◌, ◌&&◌, inl, inr, Bool, true, false, List, length, refl, sym, subst}
+use Rattle.std.specs.Prelude.{Option, Some, None, Result, Ok, Err, IfSome, MatchOption, All, filter, slice_get}
 use Rattle.std.specs.Option.{option_map}
 use Rattle.std.specs.Ordering.{is_lt}
 use Rattle.std.specs.declared.cmp.Ordering.{Ordering}
@@ -69,7 +69,7 @@ pub is_later : (start end : Bound (List ℕ)) (ended : Result Reply Refusal) (at
     → IsLastKey at.value (Ok (Some last)) → is_from start last ≡ true
 is_later start end ended at last is key = later_of start end at.value (slice_get at.value (length at.value - 1)) last refl key (within_of start end ended at is)
 
--- ---- what a piece comes to
+-- ---- what a piece is
 
 -- there are rows, of which this is the last key
 pub piece_of : (read : Result (At Rows) Refusal) (at : At Rows) (before : Option (List ℕ)) (last : List ℕ) → read ≡ Ok at
@@ -106,7 +106,7 @@ pub refused_piece : (read : Result (At Rows) Refusal) (refusal : Refusal) (befor
     → IsPiece read before (Err refusal) before
 refused_piece read refusal before is = subst (λ (r : Result (At Rows) Refusal). IsPiece r before (Err refusal) before) (sym is) (refl, refl)
 
--- what a piece comes to between its bounds, which are said in another way
+-- what a piece is between its bounds, which are said in another way
 pub moved : (Read : Bound (List ℕ) → Result Reply Refusal → Type 0) (from from' end end' : Bound (List ℕ)) (ended : Result Reply Refusal) (before : Option (List ℕ)) (result : Result (Option (At Rows)) Refusal) (next : Option (List ℕ))
     → from ≡ from' → end ≡ end' → Read from ended → IsPiece (answer_at (rows_within from end) ended) before result next
     → (e : Result Reply Refusal) × Read from' e × IsPiece (answer_at (rows_within from' end') e) before result next

@@ -35,7 +35,7 @@ freed_of (Freed count) = Ok count
 freed_of (Refused refusal) = Err refusal
 freed_of _ = Err WrongPass
 
--- the epoch advances, and then so many nodes are freed that no open call can still visit
+-- the epoch advances, and then the nodes are freed that no open call can still visit
 abbrev pub FreesSome : {S : Type 0} → EventLaw S → S → PassView → Result ℕ Refusal → S → PassView → Type 0
 FreesSome {S} does s p result t q =
     (m : S) × (r : PassView) × (next : Outcome) × (freed : Outcome) × does s p Advance next m r

@@ -101,7 +101,7 @@ impl<'b> Walk<'b> {
     ///
     /// # Errors
     ///
-    /// Those of [`Client::range`]; `NoMemory` if an allocation is refused. The walk is then as it was, and may go on.
+    /// Those of [`Client::range`]; `NoMemory` if an allocation is refused. The walk is then as it was, and may continue.
     pub fn next<S: Shared>(&mut self, client: &mut Client<S>) -> Result<Option<At<Pairs>>, Refusal>
         ensures piece { (ended : Result Reply Refusal)
             × Reads S.does S.shows (S.columns client.old.shared) client.old.shared client.old.pass

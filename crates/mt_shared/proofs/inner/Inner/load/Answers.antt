@@ -1,4 +1,4 @@
-use Rattle.std.proofs.Common.{◌≡◌, ◌∙◌, ◌≤◌, ◌*◌, ℕ, sym, subst, ap, arith}
+use Rattle.std.proofs.Common.{◌≡◌, ◌∙◌, ◌≤◌, ◌*◌, ℕ, sym, subst, arith}
 use Rattle.std.specs.Prelude.{All}
 use Rattle.mt_shared.specs.declared.counters.Counters.{Counters}
 use Rattle.mt_shared.proofs.LoadLemmas.{is_untraced}

@@ -6,7 +6,7 @@ use Rattle.mt_asked.specs.Bounds.{is_from}
 use Rattle.std.proofs.lemmas.Result.{err_from_is_err_and}
 use Rattle.mt_shared.specs.declared.answers.At.{At}
 use Rattle.mt_shared.specs.Walks.{IsLastKey, IsPiece, Rows}
-use Rattle.std.specs.Prelude.{Result, Some, None, []}
+use Rattle.std.specs.Prelude.{Result, Some, []}
 use Rattle.mt_types.specs.declared.limits.TheConstants.{MAX_RANGE}
 use Rattle.mt_types.specs.declared.refusal.Refusal.{Refusal}
 use Rattle.mt_types.specs.declared.refusal.Refusal.TheVariants.{NoMemory}
