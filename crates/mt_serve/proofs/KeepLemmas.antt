@@ -1,14 +1,12 @@
 -- Reads leave a store as it is: its changes, its views, and how many views were built.
-use Rattle.std.proofs.Common.{◌≡◌, ℕ, ◌<◌, ◌≤◌, Bool, true, false, inl, inr, List, [], ◌∷◌, ◌++◌, length, refl, sym, ap, subst, ◌∙◌, arith, append-nil, Option, None, Some}
-use Rattle.std.specs.Prelude.{◌⊎◌, ◌+◌, MatchBool, MatchOption, All, map, Result, Ok, Err}
+use Rattle.std.proofs.Common.{◌≡◌, ℕ, Bool, true, false, inl, inr, List, [], ◌∷◌, ◌++◌, length, refl, ap, subst, ◌∙◌, arith, append-nil, Option, None, Some}
+use Rattle.std.specs.Prelude.{◌⊎◌, MatchBool, All, map, Result, Ok, Err}
 use Rattle.std.proofs.lemmas.List.Elements.{All-head, All-tail}
-use Rattle.mt_types.specs.Numbers.{greatest_number}
 use Rattle.mt_types.specs.Rows.{Rows}
 use Rattle.mt_types.specs.declared.numbers.PassNo.{PassNo}
 use Rattle.mt_types.specs.declared.numbers.CallNo.{CallNo}
 use Rattle.mt_types.specs.declared.row.Change.{Change}
 use Rattle.mt_types.specs.declared.refusal.Refusal.{Refusal}
-use Rattle.mt_types.specs.declared.event.Event.{Event}
 use Rattle.mt_types.specs.declared.event.Event.TheVariants.{Begin, Step as StepOf}
 use Rattle.mt_types.specs.declared.event.Outcome.{Outcome}
 use Rattle.mt_types.specs.declared.event.Outcome.TheVariants.{Moved, Again, Commit, Done, Refused, Call as Called}
@@ -29,15 +27,14 @@ use Rattle.mt_wire.specs.declared.query.Query.TheVariants.{Call, Read, ViewRead,
 use Rattle.mt_wire.specs.declared.read.ReadQuery.{ReadQuery}
 use Rattle.mt_wire.specs.declared.response.Response.{Response}
 use Rattle.mt_wire.specs.declared.response.Response.TheVariants.{Refused as Refusing}
-use Rattle.mt_wire.specs.declared.frame.Frame.{Frame}
 use Rattle.mt_wire.specs.declared.server.Role.TheVariants as role
 use Rattle.mt_wire.specs.Answered.{end_of}
 use Rattle.mt_types.specs.declared.refusal.Refusal.TheVariants.{BadLimit}
 use Rattle.mt_talk.specs.Serving.{reads, may_all}
-use Rattle.mt_serve.specs.Asking.{call_response, page_response, changes, end_changes, counts_too_far, found_response, quiet_of}
+use Rattle.mt_serve.specs.Asking.{call_response, page_response, changes, end_changes, counts_too_far, quiet_of}
 use Rattle.mt_serve.specs.Store.{Store, now, newest, EndsBy, ComesTo}
-use Rattle.mt_serve.specs.Plain.{CallEnds, CallRuns, IsReadAtOnce, IsTurnedAway, IsGivenUp, IsFound, read_response, PlainlyAsks, PlainlyFollows, PlainlyAnswers, PlainlyAnswersAll, PlainlyAnswersFrames}
-use Rattle.mt_serve.specs.Reading.{AllRead, HoldsTheSame, ReadsKeepTheStore}
+use Rattle.mt_serve.specs.Plain.{CallEnds, CallRuns, IsReadAtOnce, IsTurnedAway, IsGivenUp, IsFound, read_response, PlainlyAsks, PlainlyFollows, PlainlyAnswers, PlainlyAnswersAll}
+use Rattle.mt_serve.specs.Reading.{HoldsTheSame, ReadsKeepTheStore}
 use Rattle.mt_serve.proofs.OnlyLemmas.{head_reads, tail_reads}
 
 -- ---- the same

@@ -1,6 +1,6 @@
 -- Queries that read make no events but those of reads.
-use Rattle.std.proofs.Common.{◌≡◌, ℕ, Bool, true, false, inl, inr, List, [], ◌∷◌, ◌++◌, refl, sym, ap, subst}
-use Rattle.std.specs.Prelude.{◌⊎◌, ◌||◌, not, MatchBool, All, Result, Ok, Err}
+use Rattle.std.proofs.Common.{◌≡◌, ℕ, Bool, true, false, inl, inr, List, [], ◌∷◌, ◌++◌, refl, sym, subst}
+use Rattle.std.specs.Prelude.{◌||◌, not, MatchBool, All, Result, Ok, Err}
 use Rattle.std.specs.List.{list_any, AllByRecursion}
 use Rattle.std.proofs.lemmas.List.Elements.{All-append, All-head, All-tail, All-nil, All-cons}
 use Rattle.mt_types.specs.declared.numbers.PassNo.{PassNo}
@@ -23,15 +23,14 @@ use Rattle.mt_shared.specs.Reads.{ReadLaw, IsRead, IsCall}
 use Rattle.mt_shared.specs.Pages.{PageLaw, PageIsRead}
 use Rattle.mt_shared.specs.Quiet.{QuietLaw}
 use Rattle.mt_shared.specs.Tidies.{LookLaw}
-use Rattle.mt_shared.specs.Turns.{furthest, turn, IsTurn, HasTurned, IsLast, KeepsUp, IsStopped}
-use Rattle.mt_index.specs.Viewing.{page_outcome}
+use Rattle.mt_shared.specs.Turns.{furthest, turn, IsTurn, HasTurned, IsLast}
 use Rattle.mt_wire.specs.declared.query.Query.{Query}
 use Rattle.mt_wire.specs.declared.query.Query.TheVariants.{Call, ViewRead, ViewDrop, Read, Server}
 use Rattle.mt_wire.specs.declared.response.Response.{Response}
 use Rattle.mt_wire.specs.declared.frame.Frame.{Frame}
 use Rattle.mt_wire.specs.declared.server.Role.TheVariants as role
 use Rattle.mt_talk.specs.Serving.{reads, may, may_all}
-use Rattle.mt_serve.specs.Asking.{Asks, KeepsViews, PurgesFor, Follows, Answers, AnswersAll, AnswersFrame, AnswersFrames, changes}
+use Rattle.mt_serve.specs.Asking.{Asks, KeepsViews, PurgesFor, Follows, AnswersAll, AnswersFrames, changes}
 use Rattle.mt_serve.specs.Reading.{AllRead, only}
 
 -- ---- each query of a list reads

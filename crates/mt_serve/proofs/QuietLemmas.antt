@@ -1,12 +1,12 @@
 -- A read of one moment on an index of one caller: the answer is that of a plain store, and there is one answer.
-use Rattle.std.proofs.Common.{ℕ, ◌≡◌, ◌∙◌, Bool, true, false, List, length, Option, Some, None, Result, Ok, Err, refl, sym, ap, subst, inl, inr, arith}
+use Rattle.std.proofs.Common.{ℕ, ◌≡◌, ◌∙◌, Bool, true, false, length, Option, Some, None, Result, Ok, Err, sym, ap, subst, inl, inr, arith}
 use Rattle.std.specs.Prelude.{MatchBool, MatchOption}
 use Rattle.mt_types.specs.declared.refusal.Refusal.{Refusal}
 use Rattle.mt_types.specs.declared.refusal.Refusal.TheVariants.{BadLimit, NoMemory}
 use Rattle.mt_promise.specs.History.{History, Moment, moment, rows}
 use Rattle.mt_index.specs.Alone.{IsQuiet}
 use Rattle.mt_index.specs.Calls.{changing}
-use Rattle.mt_reads.specs.Quiet.{IsQuietAnswer, quiet_fault}
+use Rattle.mt_reads.specs.Quiet.{quiet_fault}
 use Rattle.mt_reads.specs.declared.quiet.QuietRead.{QuietRead}
 use Rattle.mt_reads.specs.declared.quiet.QuietAnswer.{QuietAnswer}
 use Rattle.mt_reads.proofs.QuietOnce.{quiet_once}

@@ -1,6 +1,5 @@
 -- A session that reads leaves the index of one caller as it is.
-use Rattle.std.proofs.Common.{◌≡◌, ℕ, ◌<◌, ◌≤◌, true, List, [], ◌∷◌, Option, None, Some, refl, sym, ap, subst, ◌∙◌, arith}
-use Rattle.std.specs.Prelude.{MatchOption}
+use Rattle.std.proofs.Common.{◌≡◌, ◌<◌, ◌≤◌, List, [], ◌∷◌, None, Some, sym, ap, subst, arith}
 use Rattle.mt_types.specs.Numbers.{greatest_number}
 use Rattle.mt_promise.specs.History.{History}
 use Rattle.mt_shared.specs.Inner.{InnerView, Does}
@@ -12,7 +11,6 @@ use Rattle.mt_shared.specs.Tidies.{Looks}
 use Rattle.mt_wire.specs.declared.query.Query.{Query}
 use Rattle.mt_wire.specs.declared.response.Response.{Response}
 use Rattle.mt_wire.specs.declared.frame.Frame.{Frame}
-use Rattle.mt_wire.specs.Spelling.{framed}
 use Rattle.mt_talk.specs.declared.serving.Server.{Server}
 use Rattle.mt_talk.specs.Frames.{ServesFrame}
 use Rattle.mt_talk.specs.Laws.{Talk, Step, Came, Took, Went}

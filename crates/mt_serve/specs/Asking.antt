@@ -1,5 +1,5 @@
 -- What is done for a query, and what is answered: over any events that are made on what is shared.
-use Rattle.std.specs.Prelude.{ℕ, nat_lt, Option, Some, None, ◌≡◌, ◌⊎◌, ⊤, Bool, true, false, List, [], ◌∷◌, Result, Ok, Err, MatchBool}
+use Rattle.std.specs.Prelude.{ℕ, nat_lt, Some, None, ◌≡◌, ◌⊎◌, ⊤, Bool, true, false, List, [], ◌∷◌, Result, Ok, Err, MatchBool}
 use Rattle.mt_types.specs.declared.refusal.Refusal.{Refusal}
 use Rattle.mt_types.specs.declared.refusal.Refusal.TheVariants.{BadLimit}
 use Rattle.mt_types.specs.declared.event.Event.TheVariants.{ViewDrop as DropOf}

@@ -1,10 +1,9 @@
 -- WHAT A CLIENT THAT MAY READ DOES TO AN INDEX: it changes no row, and builds and drops no view.
-use Rattle.std.specs.Prelude.{ℕ, ◌≡◌, ◌<◌, ◌⊎◌, true, false, List, length, Option}
+use Rattle.std.specs.Prelude.{◌≡◌, ◌<◌, ◌⊎◌, true, false, List, length, Option}
 use Rattle.std.specs.List.{AllByRecursion}
 use Rattle.mt_types.specs.Numbers.{greatest_number}
 use Rattle.mt_types.specs.declared.event.Event.{Event}
 use Rattle.mt_types.specs.declared.event.Event.TheVariants.{Begin, Step, ViewRead}
-use Rattle.mt_types.specs.declared.event.Outcome.{Outcome}
 use Rattle.mt_promise.specs.History.{History}
 use Rattle.mt_shared.specs.Inner.{InnerView, Does}
 use Rattle.mt_shared.specs.Passes.{PassView}
