@@ -1,5 +1,5 @@
 -- How a log moves to the other file of its folder.
-use Rattle.std.specs.Prelude.{◌≡◌, ◌+◌, ◌-◌, ℕ, nat_le, nat_lt, Bool, true, false, IsTrue, ◌&&◌, if◌then◌else◌, List, [], length, slice_get, Option, Some, None}
+use Rattle.std.specs.Prelude.{◌≡◌, ◌+◌, ◌-◌, ℕ, nat_le, nat_lt, Bool, true, false, IsTrue, IsFalse, ◌&&◌, if◌then◌else◌, List, [], length, slice_get, Option, Some, None}
 use Rattle.std.specs.Option.{option_map, option_or}
 use Rattle.mt_folder.specs.declared.opening.Spare.{Spare}
 use Rattle.mt_folder.specs.declared.opening.Spare.TheVariants.{Free as FreeSpare, Needed as NeededSpare}
@@ -10,8 +10,9 @@ use Rattle.mt_folder_log.specs.declared.checkpoint.Round.TheVariants.{Rests, Mov
 use Rattle.mt_frame.specs.declared.entry.LogHeader.{LogHeader}
 use Rattle.mt_frame.specs.declared.entry.Part.{Part}
 use Rattle.mt_journal.specs.declared.error.JournalError.{JournalError}
-use Rattle.mt_journal.specs.declared.error.JournalError.TheVariants.{Disk, DiskFull}
+use Rattle.mt_journal.specs.declared.error.JournalError.TheVariants.{Disk, DiskFull, GivenUp, NoMemory, TooLong}
 use Rattle.mt_journal.specs.declared.position.Position.{Position}
+use Rattle.sqlite_disk.specs.Disk.{MoreFaults}
 use Rattle.sqlite_disk.specs.Refusal.{is_no_room}
 
 -- the header of the log that continues a log at this position
@@ -35,6 +36,16 @@ disk_of Gone = None
 abbrev pub full_as_such : JournalError → JournalError
 full_as_such (Disk error) = if is_no_room error then DiskFull else Disk error
 full_as_such error = error
+
+-- THE CAUSE of an error of a call that writes an entry and syncs: `asks` is that the log might ask its disk, `long` that there is no
+-- place for the entry, `old` and `new` are how many calls of the disk had failed
+abbrev pub MayFail : JournalError → Bool → Type 0 → ℕ → ℕ → Type 0
+MayFail GivenUp asks long old new = IsFalse asks
+MayFail TooLong asks long old new = long
+MayFail NoMemory asks long old new = IsTrue asks × (new ≡ old)
+MayFail DiskFull asks long old new = MoreFaults old new
+MayFail (Disk error) asks long old new = MoreFaults old new
+MayFail _ asks long old new = ⊥
 
 -- the log may move to the other file
 abbrev pub IfFree : {D : Type 0} → Other D → Type 0 → Type 0

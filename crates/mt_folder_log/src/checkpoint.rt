@@ -4,12 +4,13 @@ ghost use Rattle.std.specs.Prelude.{◌≡◌, ◌⊎◌, ◌<◌, false, List, 
 ghost use Rattle.mt_frame.specs.declared.entry.Entry.{Entry};
 ghost use Rattle.mt_frame.specs.declared.entry.LogHeader.{LogHeader};
 ghost use Rattle.mt_journal.specs.Appending.{with_part, with_seal};
-ghost use Rattle.mt_journal.specs.Causes.{may_ask};
+ghost use Rattle.mt_frame.specs.declared.entry.Entry.TheVariants.{Rows, Sealed};
+ghost use Rattle.mt_journal.specs.Causes.{may_ask, AppendHasCause, IsTooLong};
 ghost use Rattle.mt_journal.specs.Keeping.{AllAreLogs, AllSurvive, Keeps};
 ghost use Rattle.mt_journal.specs.Recovery.{Mixes};
 ghost use Rattle.mt_types.specs.declared.row.Change.{Change};
 ghost use Rattle.mt_folder_log.specs.Folder.{AllRecover, AreNextRows, HasAll, HasChanges};
-ghost use Rattle.mt_folder_log.specs.Moving.{continued, disk_of, end_of, start_of, IfFree, IfNeeded, IsAfter, IsFree, IsOfSpare, MayMoveTo, Needs};
+ghost use Rattle.mt_folder_log.specs.Moving.{continued, disk_of, end_of, start_of, IfFree, IfNeeded, IsAfter, IsFree, IsOfSpare, MayFail, MayMoveTo, Needs};
 ghost use Rattle.mt_folder_log.specs.declared.checkpoint.Other.TheVariants.{Needed};
 ghost use Rattle.mt_folder_log.specs.declared.checkpoint.TheConstants.{PART};
 
@@ -299,6 +300,9 @@ impl<D: Disk + Drop> FolderLog<D> {
         ensures columns { self.new.columns ≡ self.old.columns }
         ensures least { self.new.least ≡ self.old.least }
         ensures newest { OnOk result (self.new.journal.at.newest ≡ self.old.journal.at.newest) }
+        ensures cause { (result ≡ Err JournalError.NoMemory) ⊎ AppendHasCause result
+            (may_ask self.old.journal.is_given_up (D.Disk.is_usable self.old.journal.disk)) (IsTooLong self.old.journal.at (Rows part))
+            (D.Disk.faults self.old.journal.disk) (D.Disk.faults self.new.journal.disk) }
         ensures after { OnOk result (IsAfter (end_of part) (nat_lt (length part.rows) PART) self.old.other self.new.other) }
         ensures changes { (changes : List Change) → HasChanges D.Disk.seen D.Disk.may_leave changes self.old
             → AreNextRows self.old.columns changes self.old.journal.at.newest self.old.other part
@@ -337,6 +341,8 @@ impl<D: Disk + Drop> FolderLog<D> {
             → Keeps self.old.journal.at (D.Disk.seen self.old.journal.disk) (D.Disk.may_leave self.old.journal.disk) header entries
             → Mixes D.Disk.is_mixing
             → OnErr result (AllSurvive header (with_seal copied entries) self.old.journal.at.durable (D.Disk.may_leave self.new.journal.disk)) }
+        ensures cause { IfErr result (λ error. MayFail error (may_ask self.old.journal.is_given_up (D.Disk.is_usable self.old.journal.disk))
+            (IsTooLong self.old.journal.at (Sealed copied)) (D.Disk.faults self.old.journal.disk) (D.Disk.faults self.new.journal.disk)) }
         ensures newest { OnOk result (self.new.journal.at.newest ≡ self.old.journal.at.newest) }
         ensures other { self.new.other ≡ self.old.other }
         ensures columns { self.new.columns ≡ self.old.columns }
@@ -356,6 +362,10 @@ impl<D: Disk + Drop> FolderLog<D> {
         ensures columns { self.new.columns ≡ self.old.columns }
         ensures least { self.new.least ≡ self.old.least }
         ensures newest { OnOk result (self.new.journal.at.newest ≡ self.old.journal.at.newest) }
+
+        ensures cause { IfNeeded self.old.other (λ copied. IfErr result (λ error. MayFail error
+            (may_ask self.old.journal.is_given_up (D.Disk.is_usable self.old.journal.disk)) (IsTooLong self.old.journal.at (Sealed copied))
+            (D.Disk.faults self.old.journal.disk) (D.Disk.faults self.new.journal.disk))) }
 
         // Whatever a crash leaves now is the sealed log, when the other file is free.
         ensures sealed { (header : LogHeader) (entries : List Entry)

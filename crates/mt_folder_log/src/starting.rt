@@ -1,6 +1,6 @@
 //! What the moves of a log are made of: a file in which one begins, and what is left of a file in which none could.
 
-ghost use Rattle.std.specs.Prelude.{◌≡◌, [], Err, IfOk, IsTrue};
+ghost use Rattle.std.specs.Prelude.{◌≡◌, [], Err, IfErr, IfOk, IsTrue};
 ghost use Rattle.mt_journal.specs.Keeping.{Keeps};
 ghost use Rattle.mt_folder_log.specs.Moving.{end_of, full_as_such};
 
@@ -24,7 +24,8 @@ pub(crate) fn rows_after(part: &Part, last: &Option<Key>) -> u64 {
 
 // The key of the last row of a part.
 pub(crate) fn end_of(alloc: Global, part: &Part) -> Result<Option<Key>, JournalError>
-    ensures { IfOk result (λ end. end ≡ end_of part.now) }
+    ensures end { IfOk result (λ end. end ≡ end_of part.now) }
+    ensures refused { IfErr result (λ error. error ≡ JournalError.NoMemory) }
 {
     let Some((key, _)) = part.rows.as_slice().last() else {
         return Ok(None);

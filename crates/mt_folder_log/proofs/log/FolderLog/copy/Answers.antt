@@ -26,7 +26,7 @@ returns-clause-changes g c = λ changes kept range mixing.
     let then = c.append_rows.new.self in
     let last : nat_lt c.len.result c.from.result ≡ nat_lt (length c.args.part.rows) PART = ap (λ (n : ℕ). nat_lt n c.from.result) c.len.ensures ∙ ap (nat_lt (length c.args.part.rows)) c.from.ensures in
     let after = subst (λ (other : Other _). IsAfter (end_of c.args.part) (nat_lt (length c.args.part.rows) PART) other c.after.result) c.replace-other.ensures.value
-    (subst (λ (end : Option (List ℕ)). IsAfter end (nat_lt (length c.args.part.rows) PART) c.replace-other.result c.after.result) c.in_ok-end.ensures
+    (subst (λ (end : Option (List ℕ)). IsAfter end (nat_lt (length c.args.part.rows) PART) c.replace-other.result c.after.result) c.in_ok-end.ensures.end
     (subst (λ (is_last : Bool). IsAfter c.in_ok-end.end is_last c.replace-other.result c.after.result) last c.after.ensures)) in
     let done : Result (Unit {0}) JournalError = Ok tt in
     copied_if old.columns g.D.Disk.seen g.D.Disk.may_leave changes done old.journal.at then.at old.journal.disk then.disk old.other c.after.result c.args.part kept range after

@@ -1,4 +1,5 @@
 use Rattle.std.proofs.Common.{ℕ, subst, sym, ◌∙◌}
+use Rattle.std.proofs.lemmas.Result.{err_from_is_err_and}
 use Rattle.mt_folder_log.specs.Folder.{AllFound, AreKept, HasAll}
 use Rattle.mt_folder_log.proofs.ChangeLemmas.{sealed, seal_recovers}
 use Rattle.mt_folder_log.proofs.MovingLemmas.{if_err, if_needed, is_needed}
@@ -39,3 +40,10 @@ returns-in_err-write_seal-clause-recover g c = λ changes kept all mixes.
     if_err c.from_residual.result
     (subst (λ (columns : ℕ). AllFound columns g.D.Disk.may_leave changes old.journal.at.durable old.journal.at.generation then.disk c.write_seal.new.self.other) (sym c.write_seal.ensures.columns)
     (subst (AllFound old.columns g.D.Disk.may_leave changes old.journal.at.durable old.journal.at.generation then.disk) (sym (c.write_seal.ensures.other ∙ o.is)) found))
+
+-- the error is that of the seal
+pub returns-in_err-write_seal-clause-cause : goal.returns-in_err-write_seal-clause-cause
+returns-in_err-write_seal-clause-cause g c =
+    let o = c.in-Needed in
+    let p = err_from_is_err_and c.from_residual.result c.from_residual.ensures.1 in
+    if_needed _ c.args.self.now.other o.disk o.last o.copied o.has_all o.is (rw (p.1, p.2) c.in_err-write_seal.ensures.cause)
