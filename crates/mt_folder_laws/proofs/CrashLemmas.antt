@@ -100,7 +100,7 @@ module _ (one : LogsReadOneWay) (C : ℕ) (changes : List Change) (bytes others 
     ]
 
 -- ---- a log that was begun after the last commit, and not used, is the newer one
-have_nothing : (C : ℕ) (changes : List Change) (n : ℕ) → HaveCommits C changes n []
+pub have_nothing : (C : ℕ) (changes : List Change) (n : ℕ) → HaveCommits C changes n []
 have_nothing C changes n =
     let none : number_after n [] - n ≡ 0 = omega arith in
     ap (λ (k : ℕ). take k (drop n (records_of C changes))) (sym none)

@@ -34,7 +34,7 @@ use Rattle.mt_replay.proofs.FollowLemmas.{commits_are_redone}
 use Rattle.mt_folder.proofs.SourceLemmas.{last_is}
 use Rattle.mt_folder_laws.specs.Copied.{Covers}
 use Rattle.mt_folder_laws.proofs.CopiedLemmas.{sealed_rows}
-use Rattle.mt_folder_laws.proofs.CrashLemmas.{all_rows}
+use Rattle.mt_folder_laws.proofs.CrashLemmas.{all_rows, have_nothing}
 use Rattle.mt_folder_laws.proofs.PartLemmas.{copied_part}
 use Rattle.mt_folder_log.specs.declared.checkpoint.Other.{Other}
 use Rattle.mt_folder_log.specs.declared.checkpoint.Other.TheVariants.{Free, Needed, Gone}
@@ -52,11 +52,6 @@ or_true false = refl
 -- the number of the last commit, of a log in use
 newest_is : (at : Position) (seen : List ℕ) (may : List ℕ → Type 0) (header : LogHeader) (entries : List Entry) → Keeps at seen may header entries → at.newest ≡ number_after header.base entries
 newest_is at seen may header entries keeps = keeps.newest ∙ last_is header.base entries
-
-have_nothing : (C : ℕ) (changes : List Change) (n : ℕ) → HaveCommits C changes n []
-have_nothing C changes n =
-    let none : number_after n [] - n ≡ 0 = omega arith in
-    ap (λ (k : ℕ). take k (drop n (records_of C changes))) (sym none)
 
 -- an entry without commits
 pub have_other : (C : ℕ) (changes : List Change) (b : ℕ) (entries : List Entry) (entry : Entry) → records_in (entry ∷ []) ≡ [] → HaveCommits C changes b entries → HaveCommits C changes b (entries ++ entry ∷ [])

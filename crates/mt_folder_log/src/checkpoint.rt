@@ -182,6 +182,9 @@ impl<D: Disk + Drop> FolderLog<D> {
         ensures least { self.new.least ≡ self.old.least }
         ensures newest { OnOk result (self.new.journal.at.newest ≡ self.old.journal.at.newest) }
 
+        // A log without commits stays as it is.
+        ensures rests { self.old.journal.at.newest ≡ 0 → OnErr result ⊥ × (self.new ≡ self.old) }
+
         // Whatever a crash leaves of the file before is the whole log before.
         ensures before { (header : LogHeader) (entries : List Entry)
             → Keeps self.old.journal.at (D.Disk.seen self.old.journal.disk) (D.Disk.may_leave self.old.journal.disk) header entries
