@@ -181,11 +181,7 @@ impl<D: Disk + Drop> FolderLog<D> {
         ensures columns { self.new.columns ≡ self.old.columns }
         ensures least { self.new.least ≡ self.old.least }
         ensures newest { OnOk result (self.new.journal.at.newest ≡ self.old.journal.at.newest) }
-
-        // A log without commits stays as it is.
         ensures rests { self.old.journal.at.newest ≡ 0 → OnErr result ⊥ × (self.new ≡ self.old) }
-
-        // Whatever a crash leaves of the file before is the whole log before.
         ensures before { (header : LogHeader) (entries : List Entry)
             → Keeps self.old.journal.at (D.Disk.seen self.old.journal.disk) (D.Disk.may_leave self.old.journal.disk) header entries
             → 0 < self.old.journal.at.newest
@@ -369,8 +365,6 @@ impl<D: Disk + Drop> FolderLog<D> {
         ensures cause { IfNeeded self.old.other (λ copied. IfErr result (λ error. MayFail error
             (may_ask self.old.journal.is_given_up (D.Disk.is_usable self.old.journal.disk)) (IsTooLong self.old.journal.at (Sealed copied))
             (D.Disk.faults self.old.journal.disk) (D.Disk.faults self.new.journal.disk))) }
-
-        // Whatever a crash leaves now is the sealed log, when the other file is free.
         ensures sealed { (header : LogHeader) (entries : List Entry)
             → Keeps self.old.journal.at (D.Disk.seen self.old.journal.disk) (D.Disk.may_leave self.old.journal.disk) header entries
             → Mixes D.Disk.is_mixing
