@@ -1,5 +1,5 @@
 -- The rows of logs that were read are those of the files that spell these logs.
-use Rattle.std.proofs.Common.{◌≡◌, ◌∷◌, ◌+◌, ℕ, List, [], length, Option, Some, None, IsTrue, sym, subst, arith}
+use Rattle.std.proofs.Common.{◌≡◌, ◌∷◌, ◌+◌, ℕ, List, [], length, Option, Some, None, Result, Ok, Err, IfOk, IsTrue, sym, subst, arith}
 use Rattle.std.proofs.lemmas.List.{length-append}
 use Rattle.mt_frame.specs.declared.entry.Entry.{Entry}
 use Rattle.mt_frame.specs.declared.entry.Entry.TheVariants.{Header, Commits as Group, Rows as Listed, Sealed, Closed}
@@ -53,3 +53,8 @@ last_is n (Group commits ∷ entries) =
 last_is n (Listed part ∷ entries) = last_is n entries
 last_is n (Sealed count ∷ entries) = last_is n entries
 last_is n (Closed number ∷ entries) = last_is n entries
+
+-- what holds of this source holds of the source of the log that was opened
+pub by_source : {D E : Type 0} (result : Result (OpenedLog D) E) (P : OpenedLog D → Type 0) (K : Option Source → OpenedLog D → Type 0) (source : Option Source) → IfOk result (λ r. r.source ≡ source) → IfOk result (λ r. P r → K source r) → IfOk result (λ r. P r → K r.source r)
+by_source (Ok r) P K source is holds = λ p. subst (λ (s : Option Source). K s r) (sym is) (holds p)
+by_source (Err error) P K source is holds = tt

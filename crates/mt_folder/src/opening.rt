@@ -72,6 +72,7 @@ fn make_log<D: Disk + Drop>(
     ensures rows { IfOk result (λ opened. AreClean D.Disk.is_clean opened
         → AreRows columns (D.Disk.seen side.disk) (D.Disk.seen other.disk) opened.source opened.read) }
     ensures continues { IfOk result (λ r. r.journal.at.newest ≡ r.read.commits) }
+    ensures durable { IfOk result (λ r. r.journal.at.durable ≡ r.journal.at.newest) }
     ensures spare { IfOk result (λ r. IsSpareOf r.source r.spare) }
     ensures kept { IfOk result (KeepsRows D.Disk.seen D.Disk.may_leave) }
     ensures logs { (bytes others : List ℕ) → IfOk result (λ r. KeepsLogs columns D.Disk.seen D.Disk.may_leave bytes others r.source r) }
@@ -108,6 +109,8 @@ fn whole_log<D: Disk + Drop>(
     ensures rows { IfOk result (λ r. HasRows opened.log r.read) }
     ensures source { IfOk result (λ r. r.source ≡ Some source) }
     ensures journal { IfOk result (λ r. r.journal ≡ opened.journal) }
+    ensures durable { opened.journal.at.durable ≡ opened.journal.at.newest
+        → IfOk result (λ r. r.journal.at.durable ≡ r.journal.at.newest) }
     ensures spare { IfOk result (λ r. IsFalse (is_needed r.spare)) }
     ensures disk { IfOk result (λ r. disk_of r.spare ≡ other) }
     ensures kept { (IsTrue (D.Disk.is_clean opened.journal.disk) → Keeps opened.journal.at (D.Disk.seen opened.journal.disk)
@@ -146,6 +149,8 @@ fn later_log<D: Disk + Drop>(
     ensures rows { IfOk result (λ r. HasRowsOfBoth newer.log older.log r.read) }
     ensures source { IfOk result (λ r. r.source ≡ Some Source.Both) }
     ensures newest { IfOk result (λ r. r.journal.at.newest ≡ newer.journal.at.newest) }
+    ensures durable { newer.journal.at.durable ≡ newer.journal.at.newest
+        → IfOk result (λ r. r.journal.at.durable ≡ r.journal.at.newest) }
     ensures spare { IfOk result (λ r. IsTrue (is_needed r.spare)) }
     ensures clean { IfOk result (λ r. IsTrue (D.Disk.is_clean r.journal.disk) → IsTrue (D.Disk.is_clean newer.journal.disk)) }
     ensures disk { IfOk result (λ r. disk_of r.spare ≡ older.journal.disk) }
@@ -197,6 +202,8 @@ fn open_both<D: Disk + Drop>(
     ensures rows { IfOk result (λ r. AreOfSource newer.log older.log r.source r.read) }
     ensures continues { newer.journal.at.newest ≡ last_number newer.log → older.journal.at.newest ≡ last_number older.log
         → IfOk result (λ r. r.journal.at.newest ≡ r.read.commits) }
+    ensures durable { newer.journal.at.durable ≡ newer.journal.at.newest → older.journal.at.durable ≡ older.journal.at.newest
+        → IfOk result (λ r. r.journal.at.durable ≡ r.journal.at.newest) }
     ensures spare { IfOk result (λ r. IsSpareOf r.source r.spare) }
     ensures clean { IfOk result (λ r. AreClean D.Disk.is_clean r
         → IsTrue (D.Disk.is_clean newer.journal.disk) × IsTrue (D.Disk.is_clean older.journal.disk)) }
@@ -239,6 +246,7 @@ fn open_newer<D: Disk + Drop>(
         → IfOk result (λ opened. AreClean D.Disk.is_clean opened → KeepsRows D.Disk.seen D.Disk.may_leave opened) }
     ensures logs { Mixes D.Disk.is_mixing → IfOk result (λ opened. AreClean D.Disk.is_clean opened → KeepsLogs columns
         D.Disk.seen D.Disk.may_leave (D.Disk.seen newer.disk) (D.Disk.seen older.disk) opened.source opened) }
+    ensures durable { IfOk result (λ r. r.journal.at.durable ≡ r.journal.at.newest) }
     ensures spare { IfOk result (λ r. IsSpareOf r.source r.spare) }
     ensures begins { IfOk result (BeginsLog columns D.Disk.seen D.Disk.may_leave) }
 {
@@ -283,6 +291,7 @@ pub fn open_sides<D: Disk + Drop>(
     ensures logs { Mixes D.Disk.is_mixing → IfOk result (λ opened. AreClean D.Disk.is_clean opened
         → IsOpened columns D.Disk.seen D.Disk.may_leave (D.Disk.seen even.disk) (D.Disk.seen odd.disk) opened
         ⊎ IsOpened columns D.Disk.seen D.Disk.may_leave (D.Disk.seen odd.disk) (D.Disk.seen even.disk) opened) }
+    ensures durable { IfOk result (λ r. r.journal.at.durable ≡ r.journal.at.newest) }
     ensures spare { IfOk result (λ r. IsSpareOf r.source r.spare) }
     ensures begins { IfOk result (BeginsLog columns D.Disk.seen D.Disk.may_leave) }
 {
@@ -321,6 +330,7 @@ pub fn open_log<D: Disk + Drop>(
     ensures logs { Mixes D.Disk.is_mixing → IfOk result (λ opened. AreClean D.Disk.is_clean opened
         → IsOpened columns D.Disk.seen D.Disk.may_leave (D.Disk.seen even) (D.Disk.seen odd) opened
         ⊎ IsOpened columns D.Disk.seen D.Disk.may_leave (D.Disk.seen odd) (D.Disk.seen even) opened) }
+    ensures durable { IfOk result (λ r. r.journal.at.durable ≡ r.journal.at.newest) }
     ensures spare { IfOk result (λ r. IsSpareOf r.source r.spare) }
     ensures begins { IfOk result (BeginsLog columns D.Disk.seen D.Disk.may_leave) }
 {

@@ -146,6 +146,7 @@ impl<D: Disk + Drop> Side<D> {
         ensures whole { IfOk result (λ opened. IsTrue (D.Disk.is_clean opened.journal.disk) → LacksNone columns (D.Disk.seen self.disk)) }
         ensures newest { IfOk result (λ opened. IsTrue (D.Disk.is_clean opened.journal.disk)
             → opened.journal.at.newest ≡ last_number opened.log) }
+        ensures durable { IfOk result (λ opened. opened.journal.at.durable ≡ opened.journal.at.newest) }
         ensures clean { IfOk result (λ opened. IsTrue (D.Disk.is_clean opened.journal.disk) → IsTrue (D.Disk.is_clean self.disk)) }
         ensures kept { IfOk result (λ opened. IsTrue (D.Disk.is_clean opened.journal.disk) → Keeps opened.journal.at
             (D.Disk.seen opened.journal.disk) (D.Disk.may_leave opened.journal.disk) opened.log.header opened.log.entries.items) }
@@ -178,6 +179,7 @@ impl<D: Disk + Drop> Side<D> {
     /// If the disk fails, or out of memory.
     pub fn make(self, alloc: Global, columns: u8) -> Result<Journal<D>, FolderError>
         ensures newest { IfOk result (λ journal. journal.at.newest ≡ 0) }
+        ensures durable { IfOk result (λ journal. journal.at.durable ≡ journal.at.newest) }
         ensures kept { IfOk result (λ journal. Keeps journal.at (D.Disk.seen journal.disk) (D.Disk.may_leave journal.disk)
             (record { columns = columns; generation = 0; base = 0; run = 0 }) []) }
         ensures clean { IfOk result (λ journal. IsTrue (D.Disk.is_clean journal.disk) → IsTrue (D.Disk.is_clean self.disk)) }

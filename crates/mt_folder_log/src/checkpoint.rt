@@ -6,7 +6,7 @@ ghost use Rattle.mt_frame.specs.declared.entry.LogHeader.{LogHeader};
 ghost use Rattle.mt_journal.specs.Appending.{with_part, with_seal};
 ghost use Rattle.mt_frame.specs.declared.entry.Entry.TheVariants.{Rows, Sealed};
 ghost use Rattle.mt_journal.specs.Causes.{may_ask, AppendHasCause, IsTooLong};
-ghost use Rattle.mt_journal.specs.Keeping.{AllAreLogs, AllSurvive, Keeps};
+ghost use Rattle.mt_journal.specs.Keeping.{AllAreLogs, AllSurvive, Keeps, StaysDurable};
 ghost use Rattle.mt_journal.specs.Recovery.{Mixes};
 ghost use Rattle.mt_types.specs.declared.row.Change.{Change};
 ghost use Rattle.mt_folder_log.specs.Folder.{AllRecover, AreNextRows, HasAll, HasChanges};
@@ -181,6 +181,7 @@ impl<D: Disk + Drop> FolderLog<D> {
         ensures columns { self.new.columns ≡ self.old.columns }
         ensures least { self.new.least ≡ self.old.least }
         ensures newest { OnOk result (self.new.journal.at.newest ≡ self.old.journal.at.newest) }
+        ensures durable { OnOk result (StaysDurable self.old.journal.at self.new.journal.at) }
         ensures rests { self.old.journal.at.newest ≡ 0 → OnErr result ⊥ × (self.new ≡ self.old) }
         ensures before { (header : LogHeader) (entries : List Entry)
             → Keeps self.old.journal.at (D.Disk.seen self.old.journal.disk) (D.Disk.may_leave self.old.journal.disk) header entries
@@ -234,6 +235,7 @@ impl<D: Disk + Drop> FolderLog<D> {
     // grown.
     fn move_to(&mut self, disk: D, header: LogHeader) -> Result<(), JournalError>
         ensures newest { OnOk result (self.new.journal.at.newest ≡ header.base) }
+        ensures durable { OnOk result (self.new.journal.at.durable ≡ header.base) }
         ensures before { OnOk result (self.new.other ≡ Needed self.old.journal.disk None 0 false) }
         ensures columns { self.new.columns ≡ self.old.columns }
         ensures least { self.new.least ≡ self.old.least }
@@ -299,6 +301,7 @@ impl<D: Disk + Drop> FolderLog<D> {
         ensures columns { self.new.columns ≡ self.old.columns }
         ensures least { self.new.least ≡ self.old.least }
         ensures newest { OnOk result (self.new.journal.at.newest ≡ self.old.journal.at.newest) }
+        ensures durable { OnOk result (StaysDurable self.old.journal.at self.new.journal.at) }
         ensures cause { (result ≡ Err JournalError.NoMemory) ⊎ AppendHasCause result
             (may_ask self.old.journal.is_given_up (D.Disk.is_usable self.old.journal.disk)) (IsTooLong self.old.journal.at (Rows part))
             (D.Disk.faults self.old.journal.disk) (D.Disk.faults self.new.journal.disk) }
@@ -343,6 +346,7 @@ impl<D: Disk + Drop> FolderLog<D> {
         ensures cause { IfErr result (λ error. MayFail error (may_ask self.old.journal.is_given_up (D.Disk.is_usable self.old.journal.disk))
             (IsTooLong self.old.journal.at (Sealed copied)) (D.Disk.faults self.old.journal.disk) (D.Disk.faults self.new.journal.disk)) }
         ensures newest { OnOk result (self.new.journal.at.newest ≡ self.old.journal.at.newest) }
+        ensures durable { OnOk result (StaysDurable self.old.journal.at self.new.journal.at) }
         ensures other { self.new.other ≡ self.old.other }
         ensures columns { self.new.columns ≡ self.old.columns }
         ensures least { self.new.least ≡ self.old.least }
@@ -361,6 +365,7 @@ impl<D: Disk + Drop> FolderLog<D> {
         ensures columns { self.new.columns ≡ self.old.columns }
         ensures least { self.new.least ≡ self.old.least }
         ensures newest { OnOk result (self.new.journal.at.newest ≡ self.old.journal.at.newest) }
+        ensures durable { OnOk result (StaysDurable self.old.journal.at self.new.journal.at) }
 
         ensures cause { IfNeeded self.old.other (λ copied. IfErr result (λ error. MayFail error
             (may_ask self.old.journal.is_given_up (D.Disk.is_usable self.old.journal.disk)) (IsTooLong self.old.journal.at (Sealed copied))

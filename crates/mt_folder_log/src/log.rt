@@ -9,7 +9,7 @@ ghost use Rattle.mt_types.specs.declared.row.Change.{Change};
 ghost use Rattle.mt_folder.specs.Spares.{is_needed};
 ghost use Rattle.mt_folder_log.specs.Folder.{AllRecover, AreNext, HasChanges};
 ghost use Rattle.mt_folder_log.specs.Moving.{disk_of, round_of, IsOfSpare};
-ghost use Rattle.mt_journal.specs.Keeping.{AllAreLogs, AllSurvive, Keeps};
+ghost use Rattle.mt_journal.specs.Keeping.{AllAreLogs, AllSurvive, Keeps, StaysDurable};
 
 use crate::checkpoint::{Other, Round};
 use mt_folder::opening::Spare;
@@ -103,6 +103,7 @@ impl<D: Disk + Drop> FolderLog<D> {
             → IsTrue (may_ask self.new.journal.is_given_up (D.Disk.is_usable self.new.journal.disk))
             → OnErr result (Keeps self.new.journal.at (D.Disk.seen self.new.journal.disk) (D.Disk.may_leave self.new.journal.disk) header entries) }
         ensures newest { OnOk result (self.new.journal.at.newest ≡ self.old.journal.at.newest + length records) }
+        ensures durable { StaysDurable self.old.journal.at self.new.journal.at }
         ensures number { IfOk result (λ number. number ≡ self.old.journal.at.newest + length records) }
         ensures cause { AppendHasCause result
             (may_ask self.old.journal.is_given_up (D.Disk.is_usable self.old.journal.disk))

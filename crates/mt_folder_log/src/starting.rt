@@ -44,6 +44,7 @@ pub(crate) fn start_over<D: Disk>(
 ) -> Result<Position, JournalError>
     ensures kept { IfOk result (λ at. Keeps at (D.Disk.seen file.new) (D.Disk.may_leave file.new) header []) }
     ensures newest { IfOk result (λ at. at.newest ≡ header.base) }
+    ensures durable { IfOk result (λ at. at.durable ≡ header.base) }
     ensures again { result ≡ Err JournalError.NoMemory → IsTrue (D.Disk.is_usable file.new) }
     ensures never { result ≡ Err JournalError.DiskFull → ⊥ }
 {

@@ -1,5 +1,5 @@
 -- What a journal keeps of its file, and what a crash leaves of it.
-use Rattle.std.specs.Prelude.{◌≡◌, ℕ, ◌+◌, ◌<◌, ◌≤◌, List, ◌++◌, length, take, replicate}
+use Rattle.std.specs.Prelude.{◌≡◌, ◌⊎◌, ℕ, ◌+◌, ◌<◌, ◌≤◌, List, ◌++◌, length, take, replicate}
 use Rattle.mt_frame.specs.declared.entry.Entry.{Entry}
 use Rattle.mt_frame.specs.declared.entry.LogHeader.{LogHeader}
 use Rattle.mt_frame.specs.Spelling.{frames_of}
@@ -65,3 +65,7 @@ AllBegin front may_leave = (left : List ℕ) → may_leave left → (rest : List
 -- bytes before this place with which whatever a crash leaves began, it begins with after the call too
 abbrev pub KeepsFronts : ℕ → (List ℕ → Type 0) → (List ℕ → Type 0) → Type 0
 KeepsFronts place before after = (front : List ℕ) → length front ≤ place → AllBegin front before → AllBegin front after
+
+-- what was durable stays so: as many commits are durable as before, or all that were written then
+abbrev pub StaysDurable : Position → Position → Type 0
+StaysDurable old new = (new.durable ≡ old.durable) ⊎ (new.durable ≡ old.newest)

@@ -4,7 +4,7 @@ ghost use Rattle.std.specs.Prelude.{◌≡◌, List, Err, OnOk, OnErr, IsTrue};
 ghost use Rattle.mt_frame.specs.declared.entry.Entry.{Entry};
 ghost use Rattle.mt_frame.specs.declared.entry.LogHeader.{LogHeader};
 ghost use Rattle.mt_frame.specs.declared.entry.Entry.TheVariants.{Rows, Sealed};
-ghost use Rattle.mt_journal.specs.Keeping.{Keeps, KeepsFronts, AllSurvive};
+ghost use Rattle.mt_journal.specs.Keeping.{Keeps, KeepsFronts, AllSurvive, StaysDurable};
 ghost use Rattle.mt_journal.specs.Appending.{with_part, with_seal};
 ghost use Rattle.mt_journal.specs.Causes.{may_ask, IsTooLong, AppendHasCause, TellsFull, GivesUp, HasRoom, GoesOn};
 
@@ -34,6 +34,7 @@ impl<D: Disk + Drop> Journal<D> {
             → Keeps self.old.at (D.Disk.seen self.old.disk) (D.Disk.may_leave self.old.disk) header entries
             → KeepsFronts self.old.at.end (D.Disk.may_leave self.old.disk) (D.Disk.may_leave self.new.disk) }
         ensures newest { OnOk result (self.new.at.newest ≡ self.old.at.newest) }
+        ensures durable { StaysDurable self.old.at self.new.at }
         ensures cause { AppendHasCause result
             (may_ask self.old.is_given_up (D.Disk.is_usable self.old.disk))
             (IsTooLong self.old.at (Rows part))
@@ -75,6 +76,7 @@ impl<D: Disk + Drop> Journal<D> {
             → Keeps self.old.at (D.Disk.seen self.old.disk) (D.Disk.may_leave self.old.disk) header entries
             → KeepsFronts self.old.at.end (D.Disk.may_leave self.old.disk) (D.Disk.may_leave self.new.disk) }
         ensures newest { OnOk result (self.new.at.newest ≡ self.old.at.newest) }
+        ensures durable { StaysDurable self.old.at self.new.at }
         ensures cause { AppendHasCause result
             (may_ask self.old.is_given_up (D.Disk.is_usable self.old.disk))
             (IsTooLong self.old.at (Sealed rows))

@@ -3,7 +3,7 @@
 ghost use Rattle.std.specs.Prelude.{◌≡◌, ◌⊎◌, ◌+◌, ◌<◌, ◌^◌, ℕ, List, length, replicate, OnOk, IsTrue, IsFalse};
 ghost use Rattle.mt_frame.specs.declared.entry.Entry.{Entry};
 ghost use Rattle.mt_frame.specs.declared.entry.LogHeader.{LogHeader};
-ghost use Rattle.mt_journal.specs.Keeping.{Keeps, KeepsFronts, AllSurvive, HasZeros};
+ghost use Rattle.mt_journal.specs.Keeping.{Keeps, KeepsFronts, AllSurvive, HasZeros, StaysDurable};
 ghost use Rattle.sqlite_disk.specs.Disk.{CountsFault};
 ghost use Rattle.sqlite_disk.specs.Tally.{CountsRefusal};
 ghost use Rattle.mt_journal.specs.Growing.{IsGrown, CountsFull, IfUnsynced};
@@ -55,7 +55,7 @@ pub fn grow<D: Disk>(disk: &mut D, at: &mut Position, zeros: &[u8]) -> Result<()
     ensures room { OnOk result (at.new.room ≡ at.old.room + length zeros.now) }
     ensures end { at.new.end ≡ at.old.end }
     ensures newest { at.new.newest ≡ at.old.newest }
-    ensures durable { (at.new.durable ≡ at.old.durable) ⊎ (at.new.durable ≡ at.old.newest) }
+    ensures durable { StaysDurable at.old at.new }
     ensures usable { IsGrown result (IsTrue (D.Disk.is_usable disk.new)) }
     ensures faults { CountsFault result (D.Disk.faults disk.old) (D.Disk.faults disk.new) }
     ensures full { CountsFull result (D.Disk.tally_of disk.old).refused (D.Disk.tally_of disk.new).refused }

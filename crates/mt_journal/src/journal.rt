@@ -7,7 +7,7 @@ ghost use Rattle.mt_frame.specs.declared.entry.Entry.TheVariants.{Closed};
 ghost use Rattle.mt_frame.specs.declared.limits.TheConstants.{MAX_RECORDS};
 ghost use Rattle.mt_frame.specs.Fits.{CountFits};
 ghost use Rattle.mt_journal.specs.Log.{AreNumbered, last_number};
-ghost use Rattle.mt_journal.specs.Keeping.{Keeps, KeepsFronts, AllAreLogs, AllSurvive};
+ghost use Rattle.mt_journal.specs.Keeping.{Keeps, KeepsFronts, AllAreLogs, AllSurvive, StaysDurable};
 ghost use Rattle.mt_journal.specs.Appending.{with_commits, with_end};
 ghost use Rattle.mt_journal.specs.Causes.{may_ask, next_commits, LacksPlace, IsTooLong, AppendHasCause, SyncHasCause, TellsFull, GivesUp, HasRoom, GoesOn};
 
@@ -94,7 +94,7 @@ impl<D: Disk + Drop> Journal<D> {
         ensures usable { OnOk result (IsTrue (D.Disk.is_usable self.new.disk)) }
         ensures end { self.new.at.end ≡ self.old.at.end }
         ensures newest { self.new.at.newest ≡ self.old.at.newest }
-        ensures durable { (self.new.at.durable ≡ self.old.at.durable) ⊎ (self.new.at.durable ≡ self.old.at.newest) }
+        ensures durable { StaysDurable self.old.at self.new.at }
         ensures room { OnOk result (self.new.at.room ≡ self.old.at.room + length zeros.now) }
         ensures cause { AppendHasCause result true ⊥
             (D.Disk.faults self.old.disk) (D.Disk.faults self.new.disk) }
@@ -145,7 +145,7 @@ impl<D: Disk + Drop> Journal<D> {
         ensures room { OnOk result (self.new.at.end + count < self.new.at.room) }
         ensures end { self.new.at.end ≡ self.old.at.end }
         ensures newest { self.new.at.newest ≡ self.old.at.newest }
-        ensures durable { (self.new.at.durable ≡ self.old.at.durable) ⊎ (self.new.at.durable ≡ self.old.at.newest) }
+        ensures durable { StaysDurable self.old.at self.new.at }
         ensures cause { AppendHasCause result true (LacksPlace self.old.at count)
             (D.Disk.faults self.old.disk) (D.Disk.faults self.new.disk) }
         ensures full { TellsFull result (D.Disk.tally_of self.old.disk).refused (D.Disk.tally_of self.new.disk).refused }
@@ -195,6 +195,7 @@ impl<D: Disk + Drop> Journal<D> {
             → Keeps self.old.at (D.Disk.seen self.old.disk) (D.Disk.may_leave self.old.disk) header entries
             → KeepsFronts self.old.at.end (D.Disk.may_leave self.old.disk) (D.Disk.may_leave self.new.disk) }
         ensures newest { OnOk result (self.new.at.newest ≡ self.old.at.newest + count) }
+        ensures durable { StaysDurable self.old.at self.new.at }
         ensures usable { OnOk result (IsTrue (D.Disk.is_usable self.new.disk)) }
         ensures fits { self.old.at.newest < 2 ^ 64 }
         ensures many { (CountFits entry.now → ⊥) → result ≡ Err JournalError.TooLong }
@@ -245,6 +246,7 @@ impl<D: Disk + Drop> Journal<D> {
             → KeepsFronts self.old.at.end (D.Disk.may_leave self.old.disk) (D.Disk.may_leave self.new.disk) }
         ensures number { IfOk result (λ number. number ≡ self.old.at.newest + length records) }
         ensures newest { OnOk result (self.new.at.newest ≡ self.old.at.newest + length records) }
+        ensures durable { StaysDurable self.old.at self.new.at }
         ensures cause { AppendHasCause result
             (may_ask self.old.is_given_up (D.Disk.is_usable self.old.disk))
             ((2 ^ 64 ≤ self.old.at.newest + length records + 1) ⊎ IsTooLong self.old.at (next_commits self.old.at records))
@@ -334,6 +336,7 @@ impl<D: Disk + Drop> Journal<D> {
             → Keeps self.old.at (D.Disk.seen self.old.disk) (D.Disk.may_leave self.old.disk) header entries
             → KeepsFronts self.old.at.end (D.Disk.may_leave self.old.disk) (D.Disk.may_leave self.new.disk) }
         ensures newest { OnOk result (self.new.at.newest ≡ self.old.at.newest) }
+        ensures durable { StaysDurable self.old.at self.new.at }
         ensures cause { AppendHasCause result
             (may_ask self.old.is_given_up (D.Disk.is_usable self.old.disk))
             (IsTooLong self.old.at (Closed self.old.at.newest))

@@ -87,6 +87,7 @@ pub fn recover<D: Disk>(alloc: Global, disk: &mut D, columns: u8) -> Result<Reco
     ensures crash { (header : LogHeader) (entries : List Entry) → IsLog header entries (D.Disk.seen disk.old)
         → IsTrue (D.Disk.is_clean disk.new) → Mixes D.Disk.is_mixing
         → (left : List ℕ) → D.Disk.may_leave disk.new left → D.Disk.may_leave disk.old left ⊎ IsLog header entries left }
+    ensures durable { IfOk result (λ read. read.at.durable ≡ read.at.newest) }
     ensures columns { IfOk result (λ read. read.header.columns ≡ columns) }
     ensures usable { OnOk result (IsTrue (D.Disk.is_usable disk.new)) }
     ensures clean { IsTrue (D.Disk.is_clean disk.new) → IsTrue (D.Disk.is_clean disk.old) }
@@ -144,6 +145,7 @@ pub fn open<D: Disk + Drop>(
     // No crash undoes an entry that was read.
     ensures whole { IfOk result (λ opened. IsTrue (D.Disk.is_clean opened.journal.disk)
         → AllAreLogs opened.header opened.entries.items (D.Disk.may_leave opened.journal.disk)) }
+    ensures durable { IfOk result (λ opened. opened.journal.at.durable ≡ opened.journal.at.newest) }
     ensures columns { IfOk result (λ opened. opened.header.columns ≡ columns) }
     ensures asks { IfOk result (λ opened. IsTrue (may_ask opened.journal.is_given_up (D.Disk.is_usable opened.journal.disk))) }
     ensures clean { IfOk result (λ opened. IsTrue (D.Disk.is_clean opened.journal.disk) → IsTrue (D.Disk.is_clean disk)) }
@@ -179,6 +181,7 @@ fn put_header<D: Disk>(
     requires frame { frame.now ≡ header_frame header.now }
     requires has { HasFrame 0 0 (Header header.now) }
     requires room { length frame.now < room }
+    ensures durable { IfOk result (λ at. at.durable ≡ at.newest) }
     ensures kept { IfOk result (λ at. (rest : List ℕ) → D.Disk.seen disk.old ≡ replicate room 0 ++ rest
         → Keeps at (D.Disk.seen disk.new) (D.Disk.may_leave disk.new) header.now []) }
     ensures usable { OnOk result (IsTrue (D.Disk.is_usable disk.new)) }
@@ -209,6 +212,7 @@ pub fn start<D: Disk>(
     disk: &mut D,
     header: LogHeader,
 ) -> Result<Position, JournalError>
+    ensures durable { IfOk result (λ at. at.durable ≡ at.newest) }
     ensures kept { IfOk result (λ at. Keeps at (D.Disk.seen disk.new) (D.Disk.may_leave disk.new) header []) }
     ensures usable { OnOk result (IsTrue (D.Disk.is_usable disk.new)) }
     ensures clean { IsTrue (D.Disk.is_clean disk.new) → IsTrue (D.Disk.is_clean disk.old) }
@@ -240,6 +244,7 @@ pub fn create<D: Disk + Drop>(
     mut disk: D,
     header: LogHeader,
 ) -> Result<Journal<D>, JournalError>
+    ensures durable { IfOk result (λ journal. journal.at.durable ≡ journal.at.newest) }
     ensures kept { IfOk result (λ journal. Keeps journal.at (D.Disk.seen journal.disk) (D.Disk.may_leave journal.disk) header []) }
     ensures asks { IfOk result (λ journal. IsTrue (may_ask journal.is_given_up (D.Disk.is_usable journal.disk))) }
     ensures clean { IfOk result (λ journal. IsTrue (D.Disk.is_clean journal.disk) → IsTrue (D.Disk.is_clean disk)) }
