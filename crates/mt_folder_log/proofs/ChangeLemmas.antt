@@ -39,7 +39,7 @@ use Rattle.mt_folder_laws.proofs.PartLemmas.{copied_part}
 use Rattle.mt_folder_log.specs.declared.checkpoint.Other.{Other}
 use Rattle.mt_folder_log.specs.declared.checkpoint.Other.TheVariants.{Free, Needed, Gone}
 use Rattle.mt_folder_log.specs.declared.checkpoint.TheConstants.{PART}
-use Rattle.mt_folder_log.specs.Folder.{AllFound, AreKept, AreNext, AreNextRows, HasRole, IsWhole, MayBeBeside}
+use Rattle.mt_folder_log.specs.Folder.{AllHaveHeader, AllFound, AreKept, AreNext, AreNextRows, HasRole, IsWhole, MayBeBeside}
 use Rattle.mt_folder_log.specs.Moving.{continued, end_of, start_of, IfNeeded, IsAfter, IsFree, IsOfSpare}
 use Rattle.mt_folder_log.proofs.MovingLemmas.{if_err}
 use Rattle.mt_folder_log.proofs.RoleLemmas.{found, found_before, found_whole, has_rows, have_next, role_commits, role_fewer, unsealed_next, within_next}
@@ -287,3 +287,11 @@ module _ {D : Type 0} (C : ℕ) (seen : D → List ℕ) (may_leave : D → List 
   copied_if result at then disk new (Free file most) after part kept range is keeps = tt
   copied_if result at then disk new (Needed file last copied has_all) after part kept range is keeps = copied_more file last copied has_all at disk new kept result then after part is.0 range is.1 keeps
   copied_if result at then disk new Gone after part kept range is keeps = tt
+
+-- ---- the header that a crash leaves
+pub headed : (header : LogHeader) (entries : List Entry) (durable : ℕ) (may : List ℕ → Type 0) → AllSurvive header entries durable may → AllHaveHeader header may
+headed header entries durable may survive = λ left leaves. let is = survive left leaves in (take is.count entries, is.log)
+
+-- a log that was not written to
+pub still_headed : (at : Position) (seen : List ℕ) (may : List ℕ → Type 0) (header : LogHeader) (entries : List Entry) → Keeps at seen may header entries → AllHaveHeader header may
+still_headed at seen may header entries keeps = headed header entries at.durable may (all_survive at seen may may header entries keeps (λ left leaves. leaves))

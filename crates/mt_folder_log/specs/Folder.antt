@@ -9,7 +9,7 @@ use Rattle.mt_frame.specs.declared.entry.Part.{Part}
 use Rattle.mt_frame.specs.declared.entry.Record.{Record}
 use Rattle.mt_journal.specs.declared.position.Position.{Position}
 use Rattle.mt_journal.specs.Keeping.{Keeps, AllBegin}
-use Rattle.mt_journal.specs.Log.{log_spelling}
+use Rattle.mt_journal.specs.Log.{log_spelling, IsLog}
 use Rattle.mt_promise.specs.Alone.{IsRangeOfMap}
 use Rattle.mt_replay.specs.Redo.{is_seal, number_after}
 use Rattle.mt_replay.specs.RedoLaws.{HaveCommits}
@@ -89,3 +89,7 @@ AllFound C may_leave changes durable generation disk other =
 abbrev pub AllRecover : {D : Type 0} → (D → List ℕ → Type 0) → List Change → ℕ → ℕ → FolderLog D → Type 0
 AllRecover may_leave changes durable generation log =
     AllFound log.columns may_leave changes durable generation log.journal.disk log.other
+
+-- whatever a crash leaves of the log in use is a log with this header
+abbrev pub AllHaveHeader : LogHeader → (List ℕ → Type 0) → Type 0
+AllHaveHeader header may_leave = (left : List ℕ) → may_leave left → (entries : List Entry) × IsLog header entries left

@@ -9,7 +9,7 @@ ghost use Rattle.mt_journal.specs.Causes.{may_ask, AppendHasCause, IsTooLong};
 ghost use Rattle.mt_journal.specs.Keeping.{AllAreLogs, AllSurvive, Keeps, StaysDurable};
 ghost use Rattle.mt_journal.specs.Recovery.{Mixes};
 ghost use Rattle.mt_types.specs.declared.row.Change.{Change};
-ghost use Rattle.mt_folder_log.specs.Folder.{AllRecover, AreNextRows, HasAll, HasChanges};
+ghost use Rattle.mt_folder_log.specs.Folder.{AllHaveHeader, AllRecover, AreNextRows, HasAll, HasChanges};
 ghost use Rattle.mt_folder_log.specs.Moving.{continued, disk_of, end_of, start_of, IfFree, IfNeeded, IsAfter, IsFree, IsOfSpare, MayFail, MayMoveTo, Needs};
 ghost use Rattle.mt_folder_log.specs.declared.checkpoint.Other.TheVariants.{Needed};
 ghost use Rattle.mt_folder_log.specs.declared.checkpoint.TheConstants.{PART};
@@ -199,6 +199,9 @@ impl<D: Disk + Drop> FolderLog<D> {
         ensures again { IfFree self.old.other (result ≡ Err JournalError.NoMemory → IsFree self.new.other) }
         ensures full { IfFree self.old.other (result ≡ Err JournalError.DiskFull → IsFree self.new.other) }
 
+        ensures heads { (header : LogHeader) (entries : List Entry)
+            → Keeps self.old.journal.at (D.Disk.seen self.old.journal.disk) (D.Disk.may_leave self.old.journal.disk) header entries
+            → OnErr result (AllHaveHeader header (D.Disk.may_leave self.new.journal.disk)) }
         // The folder has the same changes; and if the call failed, whatever a crash leaves has all that were durable.
         ensures changes { (changes : List Change) → HasChanges D.Disk.seen D.Disk.may_leave changes self.old
             → OnOk result (HasChanges D.Disk.seen D.Disk.may_leave changes self.new) }
@@ -306,6 +309,10 @@ impl<D: Disk + Drop> FolderLog<D> {
             (may_ask self.old.journal.is_given_up (D.Disk.is_usable self.old.journal.disk)) (IsTooLong self.old.journal.at (Rows part))
             (D.Disk.faults self.old.journal.disk) (D.Disk.faults self.new.journal.disk) }
         ensures after { OnOk result (IsAfter (end_of part) (nat_lt (length part.rows) PART) self.old.other self.new.other) }
+        ensures heads { (header : LogHeader) (entries : List Entry)
+            → Keeps self.old.journal.at (D.Disk.seen self.old.journal.disk) (D.Disk.may_leave self.old.journal.disk) header entries
+            → IsTrue (D.Disk.is_mixing self.new.journal.disk)
+            → OnErr result (AllHaveHeader header (D.Disk.may_leave self.new.journal.disk)) }
         ensures changes { (changes : List Change) → HasChanges D.Disk.seen D.Disk.may_leave changes self.old
             → AreNextRows self.old.columns changes self.old.journal.at.newest self.old.other part
             → IsTrue (D.Disk.is_mixing self.new.journal.disk)
@@ -382,6 +389,10 @@ impl<D: Disk + Drop> FolderLog<D> {
             → IsTrue (may_ask self.new.journal.is_given_up (D.Disk.is_usable self.new.journal.disk))
             → OnErr result (Keeps self.new.journal.at (D.Disk.seen self.new.journal.disk) (D.Disk.may_leave self.new.journal.disk) header entries) }
 
+        ensures heads { (header : LogHeader) (entries : List Entry)
+            → Keeps self.old.journal.at (D.Disk.seen self.old.journal.disk) (D.Disk.may_leave self.old.journal.disk) header entries
+            → Mixes D.Disk.is_mixing
+            → OnErr result (AllHaveHeader header (D.Disk.may_leave self.new.journal.disk)) }
         // If all rows were copied, the folder has the same changes; and if the call failed, whatever a crash leaves has all that
         // were durable.
         ensures changes { (changes : List Change) → HasChanges D.Disk.seen D.Disk.may_leave changes self.old

@@ -9,6 +9,8 @@ mod crashes;
 #[cfg(test)]
 mod leaving;
 #[cfg(test)]
+mod living;
+#[cfg(test)]
 mod recording;
 #[cfg(test)]
 mod reopened;

@@ -10,11 +10,11 @@ ghost use Rattle.mt_folder_log.specs.declared.checkpoint.TheConstants.{PART};
 ghost use Rattle.mt_index.specs.Feed.{feed_fault};
 ghost use Rattle.mt_index.specs.Stands.{MachineView, Stands};
 ghost use Rattle.mt_types.specs.declared.row.Change.{Change};
-ghost use Rattle.mt_folder_log.specs.Folder.{AllRecover, HasChanges};
+ghost use Rattle.mt_folder_log.specs.Folder.{AllHaveHeader, AllRecover, HasChanges};
 ghost use Rattle.mt_map_folder.specs.Changes.{KeepsChanges};
 ghost use Rattle.mt_journal.specs.Appending.{with_part, with_seal};
 ghost use Rattle.mt_journal.specs.Causes.{may_ask};
-ghost use Rattle.mt_journal.specs.Keeping.{AllAreLogs, AllSurvive, Keeps};
+ghost use Rattle.mt_journal.specs.Keeping.{AllAreLogs, AllSurvive, Keeps, StaysDurable};
 ghost use Rattle.mt_journal.specs.Recovery.{Mixes};
 ghost use Rattle.mt_promise.specs.History.{History};
 ghost use Rattle.mt_types.specs.declared.limits.TheConstants.{MAX_RANGE as MAX_LIMIT};
@@ -98,6 +98,10 @@ impl<D: Disk + Drop> MapLog<D> {
         ensures cause { WriteHasCause result (feed_fault map.now.machine.log self.old.log.journal.at.newest MAX_LIMIT) (self.new ≡ self.old)
             (may_ask self.old.log.journal.is_given_up (D.Disk.is_usable self.old.log.journal.disk)) self.old.log.journal.at
             (D.Disk.faults self.old.log.journal.disk) (D.Disk.faults self.new.log.journal.disk) }
+        ensures newest { (h : History) → Stands map.now.machine h → OnOk result (self.new.log.journal.at.newest
+            ≡ self.old.log.journal.at.newest + length (left_after map.now.machine.columns self.old.log.journal.at.newest h)) }
+        ensures durable { OnOk result (StaysDurable self.old.log.journal.at self.new.log.journal.at) }
+        ensures columns { self.new.log.columns ≡ self.old.log.columns }
         ensures changes { (changes : List Change) → KeepsChanges D.Disk.seen D.Disk.may_leave changes map.now.machine self.old
             → IsTrue (D.Disk.is_mixing self.new.log.journal.disk)
             → OnOk result (KeepsChanges D.Disk.seen D.Disk.may_leave changes map.now.machine self.new) }
@@ -136,6 +140,8 @@ impl<D: Disk + Drop> MapLog<D> {
             → AllSurvive header entries self.old.log.journal.at.durable (D.Disk.may_leave self.new.log.journal.disk) }
         ensures number { IfOk result (λ number. number ≡ self.old.log.journal.at.newest) }
         ensures durable { OnOk result (self.new.log.journal.at.durable ≡ self.old.log.journal.at.newest) }
+        ensures columns { self.new.log.columns ≡ self.old.log.columns }
+        ensures newest { OnOk result (self.new.log.journal.at.newest ≡ self.old.log.journal.at.newest) }
         ensures stops { OnErr result (IsFalse (may_ask self.new.log.journal.is_given_up (D.Disk.is_usable self.new.log.journal.disk))) }
         ensures changes { (changes : List Change) (s : MachineView) → KeepsChanges D.Disk.seen D.Disk.may_leave changes s self.old
             → OnOk result (KeepsChanges D.Disk.seen D.Disk.may_leave changes s self.new) }
@@ -155,6 +161,12 @@ impl<D: Disk + Drop> MapLog<D> {
             × Keeps self.new.log.journal.at (D.Disk.seen self.new.log.journal.disk) (D.Disk.may_leave self.new.log.journal.disk) header
             (with_part part entries)) }
         ensures newest { OnOk result (self.new.log.journal.at.newest ≡ self.old.log.journal.at.newest) }
+        ensures heads { (header : LogHeader) (entries : List Entry)
+            → Keeps self.old.log.journal.at (D.Disk.seen self.old.log.journal.disk) (D.Disk.may_leave self.old.log.journal.disk) header entries
+            → IsTrue (D.Disk.is_mixing self.new.log.journal.disk)
+            → OnErr result (AllHaveHeader header (D.Disk.may_leave self.new.log.journal.disk)) }
+        ensures durable { OnOk result (StaysDurable self.old.log.journal.at self.new.log.journal.at) }
+        ensures columns { self.new.log.columns ≡ self.old.log.columns }
         ensures stays { (header : LogHeader) (entries : List Entry)
             → Keeps self.old.log.journal.at (D.Disk.seen self.old.log.journal.disk) (D.Disk.may_leave self.old.log.journal.disk) header entries
             → IsTrue (may_ask self.new.log.journal.is_given_up (D.Disk.is_usable self.new.log.journal.disk))
@@ -195,6 +207,12 @@ impl<D: Disk + Drop> MapLog<D> {
             × Keeps self.new.log.journal.at (D.Disk.seen self.new.log.journal.disk) (D.Disk.may_leave self.new.log.journal.disk) header
             (with_seal copied entries)))) }
         ensures newest { OnOk result (self.new.log.journal.at.newest ≡ self.old.log.journal.at.newest) }
+        ensures heads { (header : LogHeader) (entries : List Entry)
+            → Keeps self.old.log.journal.at (D.Disk.seen self.old.log.journal.disk) (D.Disk.may_leave self.old.log.journal.disk) header entries
+            → Mixes D.Disk.is_mixing
+            → OnErr result (AllHaveHeader header (D.Disk.may_leave self.new.log.journal.disk)) }
+        ensures durable { OnOk result (StaysDurable self.old.log.journal.at self.new.log.journal.at) }
+        ensures columns { self.new.log.columns ≡ self.old.log.columns }
         ensures stays { (header : LogHeader) (entries : List Entry)
             → Keeps self.old.log.journal.at (D.Disk.seen self.old.log.journal.disk) (D.Disk.may_leave self.old.log.journal.disk) header entries
             → IsTrue (may_ask self.new.log.journal.is_given_up (D.Disk.is_usable self.new.log.journal.disk))
@@ -263,6 +281,12 @@ impl<D: Disk + Drop> MapLog<D> {
         ensures going { IsTrue (acts self.old.log map.now.machine begins)
             → IfOk result (λ going. going ≡ is_going (next_of self.new.log)) }
         ensures newest { OnOk result (self.new.log.journal.at.newest ≡ self.old.log.journal.at.newest) }
+        ensures heads { (header : LogHeader) (entries : List Entry)
+            → Keeps self.old.log.journal.at (D.Disk.seen self.old.log.journal.disk) (D.Disk.may_leave self.old.log.journal.disk) header entries
+            → Mixes D.Disk.is_mixing
+            → OnErr result (AllHaveHeader header (D.Disk.may_leave self.new.log.journal.disk)) }
+        ensures durable { OnOk result (StaysDurable self.old.log.journal.at self.new.log.journal.at) }
+        ensures columns { self.new.log.columns ≡ self.old.log.columns }
         ensures stays { (header : LogHeader) (entries : List Entry)
             → Keeps self.old.log.journal.at (D.Disk.seen self.old.log.journal.disk) (D.Disk.may_leave self.old.log.journal.disk) header entries
             → IsTrue (may_ask self.new.log.journal.is_given_up (D.Disk.is_usable self.new.log.journal.disk))

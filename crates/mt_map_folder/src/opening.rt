@@ -66,6 +66,7 @@ pub fn open<D: Disk + Drop>(
         ⊎ HaveFirst options.columns changes n (D.Disk.seen odd) (D.Disk.seen even) → Mixes D.Disk.is_mixing
         → IfOk result (λ opened. AreClean D.Disk.is_clean opened.log → (opened.log.log.journal.at.newest ≡ n)
         × KeepsChanges D.Disk.seen D.Disk.may_leave changes opened.map.machine opened.log) }
+    ensures durable { IfOk result (λ opened. opened.log.log.journal.at.durable ≡ opened.log.log.journal.at.newest) }
     ensures tidies { IfOk result (λ opened. opened.map.tidies ≡ options.tidies) }
     ensures fault { MatchOption (open_fault options.columns options.log_capacity options.log_retention) (Unit {0})
         (λ refusal. result ≡ Err (Refused refusal)) }

@@ -43,7 +43,7 @@ made_by request (Stored number) = change_of request
 made_by request (Removed number) = change_of request
 made_by request _ = []
 
-made_is : (map : Rows) (commits : ℕ) (request : Request) (answer : Answer) (made : List Change) → IsPlain map commits request answer made → made ≡ made_by request answer
+pub made_is : (map : Rows) (commits : ℕ) (request : Request) (answer : Answer) (made : List Change) → IsPlain map commits request answer made → made ≡ made_by request answer
 made_is map commits (Get key asked) Absent made p = p.1
 made_is map commits (Get key asked) (Found row) made p = p.1
 made_is map commits (Put key sets) (Stored number) made p = p.1

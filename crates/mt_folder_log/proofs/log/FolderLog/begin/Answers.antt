@@ -8,8 +8,8 @@ use Rattle.mt_journal.specs.Keeping.{AllAreLogs}
 use Rattle.mt_folder_log.specs.declared.checkpoint.Other.{Other}
 use Rattle.mt_folder_log.specs.declared.checkpoint.Other.TheVariants.{Gone}
 use Rattle.mt_folder_log.specs.Moving.{IsFree, Needs}
-use Rattle.mt_folder_log.specs.Folder.{AllFound, AreKept, HasRole}
-use Rattle.mt_folder_log.proofs.ChangeLemmas.{beside_free, moved, recovers, recovers_spare}
+use Rattle.mt_folder_log.specs.Folder.{AllFound, AllHaveHeader, AreKept, HasRole}
+use Rattle.mt_folder_log.proofs.ChangeLemmas.{beside_free, headed, moved, recovers, recovers_spare, still_headed}
 use Rattle.mt_folder_log.proofs.MovingLemmas.{both_err, both_ok, if_err, if_free}
 use Rattle.mt_folder_log.specs.Moving.{continued}
 use Rattle.mt_folder_log.proofs.log.FolderLog.begin.Given.{Over}
@@ -102,3 +102,26 @@ returns-clause-recover g c = λ changes kept.
     (beside_free old.columns g.D.Disk.seen g.D.Disk.may_leave changes old.journal.at.durable old.journal.at.generation c.in-Free.disk c.in-Free.most old.other then.other free spare)
     c.sync.ensures.fewer kept)))
     c.move_to.ensures.stays c.move_to.ensures.spare
+
+-- the log that stays has its header
+pub returns-in_default-clause-heads : goal.returns-in_default-clause-heads
+returns-in_default-clause-heads g c = λ header entries keeps.
+    let journal = c.args.self.now.journal in
+    still_headed journal.at (g.D.Disk.seen journal.disk) (g.D.Disk.may_leave journal.disk) header entries keeps
+
+pub returns-in-Gone-clause-heads : goal.returns-in-Gone-clause-heads
+returns-in-Gone-clause-heads g c = λ header entries keeps.
+    let journal = c.args.self.now.journal in
+    still_headed journal.at (g.D.Disk.seen journal.disk) (g.D.Disk.may_leave journal.disk) header entries keeps
+
+pub returns-in_err-_durable-clause-heads : goal.returns-in_err-_durable-clause-heads
+returns-in_err-_durable-clause-heads g c = λ header entries keeps.
+    if_err c.from_residual.result (headed header entries c.args.self.now.journal.at.durable (g.D.Disk.may_leave c.sync.new.self.disk) (c.sync.ensures.crash header entries keeps))
+
+pub returns-clause-heads : goal.returns-clause-heads
+returns-clause-heads g c = λ header entries keeps.
+    let kept = c.in_ok-_durable.ensures.kept header entries keeps in
+    let journal = c.sync.new.self in
+    on_err_weaker c.move_to.result
+    (λ same. subst (λ (j : _). AllHaveHeader header (g.D.Disk.may_leave j.disk)) (sym same) (still_headed journal.at (g.D.Disk.seen journal.disk) (g.D.Disk.may_leave journal.disk) header entries kept))
+    c.move_to.ensures.stays

@@ -1,7 +1,8 @@
 use Rattle.std.proofs.Common.{ℕ, subst, sym, ◌∙◌}
 use Rattle.std.proofs.lemmas.Result.{err_from_is_err_and}
-use Rattle.mt_folder_log.specs.Folder.{AllFound, AreKept, HasAll}
-use Rattle.mt_folder_log.proofs.ChangeLemmas.{sealed, seal_recovers}
+use Rattle.mt_journal.specs.Appending.{with_seal}
+use Rattle.mt_folder_log.specs.Folder.{AllFound, AllHaveHeader, AreKept, HasAll}
+use Rattle.mt_folder_log.proofs.ChangeLemmas.{headed, sealed, seal_recovers}
 use Rattle.mt_folder_log.proofs.MovingLemmas.{if_err, if_needed, is_needed}
 use Rattle.mt_folder_log.proofs.log.FolderLog.seal.Goals as goal
 
@@ -47,3 +48,9 @@ returns-in_err-write_seal-clause-cause g c =
     let o = c.in-Needed in
     let p = err_from_is_err_and c.from_residual.result c.from_residual.ensures.1 in
     if_needed _ c.args.self.now.other o.disk o.last o.copied o.has_all o.is (rw (p.1, p.2) c.in_err-write_seal.ensures.cause)
+
+-- the log has its header
+pub returns-in_err-write_seal-clause-heads : goal.returns-in_err-write_seal-clause-heads
+returns-in_err-write_seal-clause-heads g c = λ header entries keeps mixes.
+    if_err c.from_residual.result
+    (headed header (with_seal c.in-Needed.copied entries) c.args.self.now.journal.at.durable (g.D.Disk.may_leave c.write_seal.new.self.journal.disk) (c.in_err-write_seal.ensures.crash header entries keeps mixes))
