@@ -53,6 +53,42 @@ class PoolTest(unittest.TestCase):
         self.assertLessEqual(len(pool._idle), 4)
         self.assertEqual(pool._in_use, 0)
 
+    def test_calls_that_wait_have_turns(self) -> None:
+        """A call that comes later isn't before one that waits for a connection."""
+        pool, order = self.pool(size=1), []
+
+        def take(name: str) -> None:
+            client = pool._take()
+            order.append(name)
+            pool._give_back(client)
+
+        client, names, threads = pool._take(), ["first", "second", "third"], []
+        for count, name in enumerate(names, 1):
+            threads.append(threading.Thread(target=take, args=(name,)))
+            threads[-1].start()
+            while len(pool._waiting) < count:
+                time.sleep(0.01)
+        pool._give_back(client)
+        take("last")
+        for thread in threads:
+            thread.join()
+        self.assertEqual(order, [*names, "last"])
+        self.assertEqual((pool._in_use, len(pool._waiting)), (0, 0))
+
+    def test_calls_that_wait_when_it_is_closed(self) -> None:
+        pool = self.pool(size=1)
+        client = pool._take()
+        threads = [threading.Thread(target=lambda: self.assertRaises(Closed, pool.get, b"a")) for _ in range(3)]
+        for thread in threads:
+            thread.start()
+        while len(pool._waiting) < len(threads):
+            time.sleep(0.01)
+        pool.close()
+        for thread in threads:
+            thread.join(SECONDS)
+        self.assertEqual(len(pool._waiting), 0)
+        pool._give_back(client)
+
     def test_a_pipeline_and_a_view(self) -> None:
         pool = self.pool(size=2)
         with pool.pipeline() as pipeline:
