@@ -3,9 +3,8 @@ from __future__ import annotations
 
 import socket
 import threading
-import time
 from collections import deque
-from typing import TYPE_CHECKING, Any, Deque, List, Optional, Sequence, Tuple
+from typing import TYPE_CHECKING, Any, Deque, List, Optional, Sequence
 
 from .address import Port, checked_address
 from .client import Asker, Client, Commit
@@ -19,9 +18,6 @@ if TYPE_CHECKING:
     import ssl
 
 __all__ = ["Busy", "Pool"]
-
-# after how many seconds without use it is looked whether a connection has ended
-QUIET_SECONDS = 0.5
 
 
 class Busy(RowanspanError, TimeoutError):
@@ -63,8 +59,8 @@ class Pool(Asker):
         self._changed = threading.RLock()
         # the calls that wait for a connection, in the order in which they came; each is told when it may be its turn
         self._waiting: Deque[threading.Condition] = deque()
-        # those that no call uses, with the time of their last use; the one that was used last is the last
-        self._idle: List[Tuple[Client, float]] = []
+        # those that no call uses; the one that was used last is the last
+        self._idle: List[Client] = []
         self._in_use = 0
         self._is_closed = False
         # the greatest number of a commit that was shown, and that is known to be durable; and whether a connection has
@@ -88,7 +84,7 @@ class Pool(Asker):
             idle, self._idle = self._idle, []
             for turn in self._waiting:
                 turn.notify()
-        for client, _ in idle:
+        for client in idle:
             client.close()
 
     def exchange(self, queries: Sequence[Query[Any]], messages: Sequence[bytes]) -> List[Outcome]:
@@ -191,8 +187,8 @@ class Pool(Asker):
         """An idle connection that hasn't ended, if there is one. Those that have ended are dropped; and also one that
         could be used, if a new one is to be opened in its place."""
         while self._idle:
-            client, used = self._idle.pop()
-            if not is_new and (time.monotonic() < used + QUIET_SECONDS or client.is_usable()):
+            client = self._idle.pop()
+            if not is_new and client.is_usable():
                 return client
             self._note(client, has_ended=True)
             client.close()
@@ -206,7 +202,7 @@ class Pool(Asker):
             keeps = not client.is_lost and not self._is_closed
             self._note(client, client.is_lost)
             if keeps:
-                self._idle.append((client, time.monotonic()))
+                self._idle.append(client)
         if not keeps:
             client.close()
         self._release()
