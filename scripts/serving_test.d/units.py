@@ -48,7 +48,8 @@ def want_verified(lines: List[str], folder: str) -> None:
     path.write_text("\n".join(lines).replace(ROWAN, "/bin/true") + "\n")
     done = subprocess.run(["systemd-analyze", "verify", str(path)], capture_output=True, timeout=SECONDS, check=False)
     # (of the machine's other units it may say something too)
-    want_same("what systemd says of the unit", [line for line in done.stderr.decode().splitlines() if path.name in line], [])
+    said = [line for line in done.stderr.decode().splitlines() if path.name in line]
+    want_same("what systemd says of the unit", said, [])
 
 
 def run_unit(serve: str, lines: List[str], token: bytes) -> None:
