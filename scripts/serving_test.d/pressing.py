@@ -184,18 +184,19 @@ def send_badly(port: int, chance: random.Random) -> None:
         elif kind == 1:
             connection.sendall(frame[:chance.randrange(1, len(frame))])
         elif kind == 2:
-            connection.sendall(request_frame([GetRange().spelled()] * 64))
+            connection.sendall(request_frame([GetRange(b"", 100).spelled()] * 8))
             connection.setsockopt(socket.SOL_SOCKET, socket.SO_LINGER, struct.pack("ii", 1, 0))
         elif kind == 3:
             connection.sendall(chance.randbytes(200))
         else:
-            connection.sendall(request_frame([GetRange().spelled()] * 8))
+            connection.sendall(request_frame([GetRange(b"", 100).spelled()] * 8))
             time.sleep(0.05)
 
 
-def press(port: int, seed: int, ends: float) -> None:
+def press(port: int, seed: int, is_over: Callable[[], bool]) -> None:
+    """Hostile clients, one after the other."""
     chance = random.Random(seed)
-    while time.monotonic() < ends:
+    while not is_over():
         try:
             send_badly(port, chance)
         except OSError:
@@ -227,7 +228,8 @@ def answers_beside_hostile_clients(start: Start) -> None:
         ends = time.monotonic() + PRESSING
         parts: List[Tuple[Dict[bytes, Row], List[int]]] = [({}, []) for _ in range(WRITERS)]
         with ThreadPoolExecutor(HOSTILE + WRITERS) as threads:
-            working = [threads.submit(press, server.port, seed, ends) for seed in range(HOSTILE)]
+            working = [threads.submit(press, server.port, seed, lambda: time.monotonic() >= ends)
+                       for seed in range(HOSTILE)]
             working += [threads.submit(write, server.port, own, ends, *part) for own, part in enumerate(parts)]
             for one in working:
                 one.result()
