@@ -4,6 +4,7 @@ from __future__ import annotations
 import asyncio
 import inspect
 import socket
+import traceback
 import unittest
 from typing import Any, Callable, Coroutine, List, Optional, Sequence, Set, Tuple
 from unittest import mock
@@ -304,6 +305,69 @@ class AioTest(unittest.TestCase):
                 server.written[1].write(framed(["01" + "00" * 16]))
                 self.assertIsNone(await again)
                 await index.close()
+
+        asyncio.run(run())
+
+    def test_tasks_that_connect_at_once(self) -> None:
+        """They share a connection, or why there is none. So no answer is taken for another one's."""
+        async def run(port: int) -> None:
+            index = aio.Client(port, timeout=SECONDS, name="a test")
+            for count in (1, 2):
+                await asyncio.gather(*(index.connect() for _ in range(20)))
+                self.assertEqual((await index.info())["connections_all"], count)
+                values = [b"%d" % number for number in range(50)]
+                await asyncio.gather(*(index.put(value, value) for value in values))
+                rows = await asyncio.gather(*(index.get(value, columns=[0]) for value in values))
+                self.assertEqual([row.columns for row in rows if row], [(value,) for value in values])
+                await index.close()
+
+        with StandIn(Options()) as server:
+            asyncio.run(run(server.port))
+
+    def test_tasks_that_connect_to_nothing(self) -> None:
+        async def run(port: int) -> None:
+            index = aio.Client(port, timeout=SECONDS)
+            outcomes = await asyncio.gather(*(index.connect() for _ in range(5)), return_exceptions=True)
+            self.assertEqual([type(outcome) for outcome in outcomes], [ConnectionLost] * 5)
+            self.assertEqual(len({id(outcome) for outcome in outcomes}), 5)
+            with self.assertRaises(Closed):
+                await index.get(b"a")
+
+        listener = socket.create_server(("127.0.0.1", 0))
+        port = listener.getsockname()[1]
+        listener.close()
+        asyncio.run(run(port))
+
+    def test_a_connect_that_is_cancelled(self) -> None:
+        """Another task that has called it at the same time connects."""
+        async def run() -> None:
+            async with Silent() as server:
+                index = aio.Client(server.port, name="a test")
+                first, second = [asyncio.ensure_future(index.connect()) for _ in range(2)]
+                await server.has(1)
+                first.cancel()
+                await server.has(2)
+                server.written[1].write(framed(["10030301" + "00" * 32], 3))
+                self.assertIs(await second, index)
+                self.assertTrue(first.cancelled())
+                await index.close()
+
+        asyncio.run(run())
+
+    def test_a_fault_that_is_raised_often(self) -> None:
+        async def run() -> None:
+            async with Silent() as server, aio.Client(server.port) as index:
+                call = asyncio.ensure_future(index.get(b"a"))
+                await server.has(1)
+                server.written[0].close()
+                with self.assertRaises(ConnectionLost):
+                    await call
+                lengths = set()
+                for _ in range(10):
+                    with self.assertRaises(ConnectionLost) as met:
+                        await index.get(b"a")
+                    lengths.add(len(traceback.extract_tb(met.exception.__traceback__)))
+                self.assertEqual(len(lengths), 1)
 
         asyncio.run(run())
 

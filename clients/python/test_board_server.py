@@ -2,6 +2,8 @@
 test_rowanspan.py runs them."""
 from __future__ import annotations
 
+import socket
+import threading
 import time
 import unittest
 from typing import Callable, Dict, List
@@ -237,6 +239,29 @@ class ServerPollerTest(PollerCase):
             self.cut()
             self.until(lambda: self.at(own) == 1)
             self.assertEqual((own.number, self.poller._greeting is None), (2, newest == 2))
+
+    def test_a_full_server(self) -> None:
+        """One that ends each connection at once isn't taken for another run, nor for another version."""
+        self.start()
+        own, server = self.poller.build(Prefix(b"a")), self.server
+        self.until(lambda: self.at(own) == 0)
+        met: List[int] = []
+
+        def turn_away() -> None:
+            while len(met) < 2:
+                connection, _ = listener.accept()
+                connection.close()
+                met.append(1)
+
+        with socket.create_server(("127.0.0.1", 0)) as listener:
+            turning = threading.Thread(target=turn_away)
+            turning.start()
+            with mock.patch.object(self, "server", mock.Mock(port=listener.getsockname()[1])):
+                self.cut()
+                turning.join(SECONDS)
+        server.index.answer(Put(b"a", b"\5"))
+        self.until(lambda: self.at(own) == 1)
+        self.assertEqual((own.number, own.trouble, len(self.board.cards())), (1, "", 1))
 
     def test_a_reader(self) -> None:
         self.server = StandIn(Options(workers=8, tokens=TOKENS))

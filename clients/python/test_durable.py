@@ -7,9 +7,9 @@ import errno
 import pickle
 import socket
 import threading
-import time
 import unittest
 from typing import Any, Callable, Coroutine, Optional
+from unittest import mock
 
 import rowanspan
 from rowanspan import (Build, Client, ConnectionLost, DiskFailed, DiskFull, Get, GetInfo, InMemory, ListViews,
@@ -219,11 +219,15 @@ class PoolCases(DurableTest):
         self.addCleanup(pool.close)
         return pool
 
-    def break_idle(self, pool: Pool) -> None:
-        """Ends the connections that no call uses, without that it can be seen before."""
-        for client, _ in pool._idle:
+    def break_idle(self, pool: Pool, is_seen: bool = False) -> None:
+        """Ends the connections that no call uses, with or without that it can be seen before."""
+        for client in pool._idle:
             assert client._connection is not None
             client._connection.shutdown(socket.SHUT_RDWR)
+            if not is_seen:
+                hidden = mock.patch.object(client, "is_usable", return_value=True)
+                hidden.start()
+                self.addCleanup(hidden.stop)
 
 
 class PoolTest(PoolCases):
@@ -252,9 +256,7 @@ class PoolTest(PoolCases):
             with self.subTest(is_seen=is_seen):
                 pool = self.pool()
                 pool.put(b"a", b"v")
-                self.break_idle(pool)
-                if is_seen:
-                    pool._idle = [(client, time.monotonic() - 60) for client, _ in pool._idle]
+                self.break_idle(pool, is_seen)
                 # (a read is asked again, by a new connection)
                 self.assertIsNotNone(pool.get(b"a"))
                 self.server.index.sync()

@@ -339,6 +339,38 @@ class AioTest(AioCases, Waits):
 
         asyncio.run(run())
 
+    def test_a_connection_that_is_lost(self) -> None:
+        """The next one doesn't answer for what it has shown: the server may have been started again."""
+        async def connected_again(index: aio.Client) -> None:
+            assert index._writer is not None
+            index._writer.transport.abort()
+            while index._writer is not None:
+                await asyncio.sleep(0.01)
+            with self.assertRaises(ConnectionLost):
+                await index.settle()
+            await index.connect()
+
+        async def run() -> None:
+            async with aio.Client(self.server.port, timeout=SECONDS) as index:
+                await index.put(b"a", b"v")
+                await connected_again(index)
+                with self.assertRaisesRegex(ConnectionLost, "^a connection was lost: "):
+                    await index.settle()
+                self.server.index.sync()
+                self.assertTrue(await index.settle(SECONDS))
+                await index.put(b"a", b"w")
+                self.server.index.sync()
+                self.assertTrue(await index.settle(SECONDS))
+                await connected_again(index)
+                self.assertTrue(await index.settle(SECONDS))
+                putting = asyncio.ensure_future(index.put(b"a", b"x", durable=True))
+                await self.has(3)
+                await connected_again(index)
+                (fault,) = await self.ended_by_syncs(putting)
+                self.assertIsInstance(fault, (NotDurable, ConnectionLost))
+
+        asyncio.run(run())
+
 
 class ListedLog(CommitLog):
     """The log of an index in this process whose calls of the library are listed instead of made."""

@@ -6,6 +6,7 @@ import threading
 import time
 import unittest
 from typing import Any
+from unittest import mock
 
 import map_cases
 from rowanspan import Busy, Closed, ConnectionLost, Get, Pool, Prefix, Put, Row
@@ -53,6 +54,42 @@ class PoolTest(unittest.TestCase):
         self.assertLessEqual(len(pool._idle), 4)
         self.assertEqual(pool._in_use, 0)
 
+    def test_calls_that_wait_have_turns(self) -> None:
+        """A call that comes later isn't before one that waits for a connection."""
+        pool, order = self.pool(size=1), []
+
+        def take(name: str) -> None:
+            client = pool._take()
+            order.append(name)
+            pool._give_back(client)
+
+        client, names, threads = pool._take(), ["first", "second", "third"], []
+        for count, name in enumerate(names, 1):
+            threads.append(threading.Thread(target=take, args=(name,)))
+            threads[-1].start()
+            while len(pool._waiting) < count:
+                time.sleep(0.01)
+        pool._give_back(client)
+        take("last")
+        for thread in threads:
+            thread.join()
+        self.assertEqual(order, [*names, "last"])
+        self.assertEqual((pool._in_use, len(pool._waiting)), (0, 0))
+
+    def test_calls_that_wait_when_it_is_closed(self) -> None:
+        pool = self.pool(size=1)
+        client = pool._take()
+        threads = [threading.Thread(target=lambda: self.assertRaises(Closed, pool.get, b"a")) for _ in range(3)]
+        for thread in threads:
+            thread.start()
+        while len(pool._waiting) < len(threads):
+            time.sleep(0.01)
+        pool.close()
+        for thread in threads:
+            thread.join(SECONDS)
+        self.assertEqual(len(pool._waiting), 0)
+        pool._give_back(client)
+
     def test_a_pipeline_and_a_view(self) -> None:
         pool = self.pool(size=2)
         with pool.pipeline() as pipeline:
@@ -65,16 +102,26 @@ class PoolTest(unittest.TestCase):
     def test_a_connection_that_ended_while_it_was_idle(self) -> None:
         pool = self.pool()
         self.assertEqual(pool.put(b"a", b"v"), 1)
-        client, _ = pool._idle.pop()
+        client = pool._idle.pop()
         ours, theirs = socket.socketpair()
         theirs.close()
         client._connection, old = ours, client._connection
-        pool._idle.append((client, time.monotonic() - 60))
+        pool._idle.append(client)
         # a change isn't sent by it, so it isn't lost
         self.assertEqual(pool.put(b"a", b"w"), 2)
         self.assertEqual(len(pool._idle), 1)
         assert old is not None
         old.close()
+
+    def test_a_connection_that_has_just_ended(self) -> None:
+        """It is seen to have ended, however short the time since its last use is: so no change is lost by it."""
+        pool = self.pool(size=1)
+        for number in range(1, 4):
+            self.assertEqual(pool.put(b"a", b"v"), number)
+            client = pool._idle[0]
+            assert client._connection is not None
+            client._connection.shutdown(socket.SHUT_RDWR)
+        self.assertEqual(pool.put(b"a", b"v"), 4)
 
     def test_reads_are_asked_again(self) -> None:
         pool = self.pool()
@@ -107,11 +154,13 @@ class PoolTest(unittest.TestCase):
         """Breaks the connection that the next call uses, without that it can be seen before."""
         if not pool._idle:
             pool.get(b"")
-        client, _ = pool._idle.pop()
+        client = pool._idle[-1]
         assert client._connection is not None
         client._connection.shutdown(socket.SHUT_WR)
         time.sleep(0.05)
-        pool._idle.append((client, time.monotonic()))
+        hidden = mock.patch.object(client, "is_usable", return_value=True)
+        hidden.start()
+        self.addCleanup(hidden.stop)
 
     def test_a_server_that_is_gone(self) -> None:
         server = StandIn(Options(workers=1, sessions=1))

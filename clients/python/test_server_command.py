@@ -140,7 +140,7 @@ class CommandTest(unittest.TestCase):
         server = self.stand_in(newest=2)
         port = str(server.port)
         self.assertEqual(run("ping", "-p", port), (3, "", "rowan: the server ended the connection\n"))
-        why = "the server ended the connection before it answered hello: is the token right?"
+        why = "the server ended the connection before it answered hello: is it full, or older than hello?"
         self.assertEqual(run("-p", port, "--token-file", self.token_file(OWNER), "get", "61", "all"),
                          (3, "", f"rowan: {why}\n"))
         self.assertEqual(run("-p", port, "get", "61", "all"), (0, "done 0 0 absent\n", ""))

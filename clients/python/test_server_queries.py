@@ -190,7 +190,7 @@ class ClientTest(unittest.TestCase):
         server = self.stand_in(newest=2)
         index = self.client(server)
         self.assertEqual((index.put(b"a", b"v"), index.put_if(b"a", b"w", 1), server.faults), (1, 2, []))
-        with self.assertRaisesRegex(HelloUnanswered, "^the server ended the connection before it answered hello: is "):
+        with self.assertRaisesRegex(HelloUnanswered, "^the server ended the connection before it answered hello: is it full"):
             index.hello
         for given in ({"token": OWNER}, {"name": "n"}):
             with self.assertRaises(HelloUnanswered) as met:

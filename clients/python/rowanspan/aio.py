@@ -13,6 +13,7 @@ The methods have the names and the arguments of `rowanspan.Client`, as coroutine
 from __future__ import annotations
 
 import asyncio
+import copy
 from collections import deque
 from types import TracebackType
 from typing import TYPE_CHECKING, Any, Deque, List, Optional, Sequence, Tuple, Type, TypeVar, Union
@@ -51,7 +52,8 @@ class Client(ChangeCalls):
     dropped when it comes, and the other calls aren't affected. One that wasn't sent yet is never sent.
 
     A client connects at the begin of its `async with` block, or by `connect`; by TLS if it is given a context for it.
-    If it has a token or a name, it says hello then, and raises `NotAllowed` if the server doesn't admit it.
+    If it has a token or a name, it says hello then, and raises `NotAllowed` if the server doesn't admit it. If its
+    connection is lost, all calls raise `ConnectionLost`, until a task calls `connect` again.
     """
 
     def __init__(self, port: Port, host: str = "127.0.0.1", timeout: Optional[float] = None,
@@ -66,8 +68,12 @@ class Client(ChangeCalls):
         self._waiting: Deque[Asked] = deque()
         self._sent: Deque[List[Asked]] = deque()
         self._is_flushing = False
-        # the greatest number of a commit of an answer
+        # the end of the task that connects, if one does, with why there is no connection
+        self._connecting: Optional[asyncio.Future[Optional[RowanspanError]]] = None
+        # the greatest number of a commit of an answer; and whether a connection was lost that had shown one which isn't
+        # known to be durable
         self._commits_shown = 0
+        self._has_lost = False
         # why nothing can be asked
         self._ended: Optional[RowanspanError] = Closed("the client hasn't connected")
 
@@ -82,20 +88,42 @@ class Client(ChangeCalls):
         await self.close()
 
     async def connect(self) -> Client:
-        """Connects, and returns the client. Raises `ConnectionLost` if there is no server, or the timeout is over, and
+        """Connects, and returns the client; also again, after its connection was lost. Tasks that call it at the same
+        time share one connection. Raises `ConnectionLost` if there is no server, or the timeout is over, and
         `NotAllowed` if the server doesn't admit the client."""
-        if self._writer is not None:
-            return self
+        while self._connecting is not None:
+            fault = await asyncio.shield(self._connecting)
+            if fault is not None:
+                raise again(fault)
+        if self._writer is None:
+            await self._connect_for_all()
+        return self
+
+    async def _connect_for_all(self) -> None:
+        """Connects, while other tasks that want to wait for its end. (If it is cancelled, one of them connects.)"""
+        why: Optional[RowanspanError] = None
+        self._connecting = ending = asyncio.get_running_loop().create_future()
+        try:
+            await self._connect()
+        except RowanspanError as fault:
+            why = fault
+            raise
+        finally:
+            self._connecting = None
+            ending.set_result(why)
+
+    async def _connect(self) -> None:
         try:
             reader, writer = await asyncio.wait_for(self._opened(), self._timeout)
         except (OSError, asyncio.TimeoutError, ValueError) as fault:
             raise ConnectionLost(f"no connection to {self._address.described()}: {fault}") from fault
+        if not isinstance(self._ended, Closed) and self._commits_shown > self._settled_so_far():
+            self._has_lost = True
         self._writer, self._ended, self._greeting, self._commits_shown = writer, None, None, 0
         self._begin_changes()
         self._reading = asyncio.ensure_future(self._read(reader))
         if self._own_hello is not None:
             await self._greet_or_close()
-        return self
 
     async def _greet_or_close(self) -> None:
         """Says hello. Without an answer that admits the client, the connection is closed."""
@@ -127,11 +155,14 @@ class Client(ChangeCalls):
         return self._greeting
 
     def _shown(self) -> int:
+        if self._has_lost:
+            self._has_lost = False
+            raise ConnectionLost("a connection was lost: it isn't known whether the commits that it showed are durable")
         return self._commits_shown
 
     def _another(self) -> Client:
         if self._ended is not None:
-            raise self._ended
+            raise again(self._ended)
         address = self._address
         return Client(address.port, address.host, self._timeout, address.tls, token=self._token, name=self._name)
 
@@ -158,7 +189,7 @@ class Client(ChangeCalls):
         """Asks queries, any number of them, which the server does one after another. Returns for each its reply, or the
         `Refused`, not raised."""
         if self._ended is not None:
-            raise self._ended
+            raise again(self._ended)
         loop = asyncio.get_running_loop()
         asked = [Asked(query, loop.create_future()) for query in queries]
         if not asked:
@@ -237,7 +268,7 @@ class Client(ChangeCalls):
         self._waiting.clear()
         for one in open_calls:
             if not one.answer.done():
-                one.answer.set_exception(now or later)
+                one.answer.set_exception(again(now or later))
 
     # -- nodes
 
@@ -261,6 +292,13 @@ class Client(ChangeCalls):
         if view.index is not self:
             raise WrongIndex(f"this is a view of another index: {view!r}")
         return view.number
+
+
+def again(fault: RowanspanError) -> RowanspanError:
+    """The same fault for another call. (One that is raised again and again notes each place.)"""
+    made = copy.copy(fault)
+    made.__cause__ = fault.__cause__
+    return made
 
 
 class View:

@@ -30,6 +30,10 @@ class ChangeCalls(ReadCalls, ServerCalls):
     def _begin_changes(self) -> None:
         """There is a new connection."""
         self._commits_settled, self._settling = NOT_ASKED, asyncio.Lock()
+        self._connections += 1
+
+    def _settled_so_far(self) -> int:
+        return max(self._commits_settled, 0)
 
     async def put(self, key: bytes, sets: Sets, *, durable: bool = False) -> int:
         """Sets columns of a key's row, by their numbers; plain bytes are column 0. Returns the number of the commit.
@@ -110,12 +114,16 @@ class ChangeCalls(ReadCalls, ServerCalls):
             # (what can't be sent, and a server that keeps no commits, are raised before anything is changed)
             request_frame([spelled_query(query)], frame_version([query]))
             self._note_settled(await self.durable())
+        connections = self._connections
         reply = await self.call(query)
         commit = commit_to_settle(reply.value, reply.to)
         if self._commits_settled < commit:
             # (it may be durable already: then nobody waits)
             self._note_settled((await self.call(WaitDurable(commit))).value.durable)
             await self._settled(commit)
+        if self._connections != connections:
+            # (of another run of the server the number may be another's)
+            raise NotDurable(commit)
         return reply.value
 
     def _note_settled(self, commit: int) -> None:

@@ -20,13 +20,21 @@ Value = TypeVar("Value")
 class ServerCalls(abc.ABC):
     """What a client asks a server that knows version 3 of the wire."""
 
+    # how many connections there were
+    _connections = 0
+
     @abc.abstractmethod
     async def call(self, query: Query[Value]) -> Reply[Value]:
         """Asks one query."""
 
     @abc.abstractmethod
     def _shown(self) -> int:
-        """The greatest number of a commit that an answer of the connection has shown."""
+        """The greatest number of a commit that an answer of the connection has shown. Raises `ConnectionLost`, once, if
+        one was lost that had shown a commit which isn't known to be durable."""
+
+    @abc.abstractmethod
+    def _note_settled(self, commit: int) -> None:
+        """So many commits are known to be durable."""
 
     @abc.abstractmethod
     async def hello(self) -> Greeting:
@@ -83,11 +91,16 @@ class ServerCalls(abc.ABC):
     async def settle(self, timeout: Optional[float] = None) -> bool:
         """Waits until all commits are durable that the answers so far have shown, also those of other clients. Returns
         whether they were in `timeout` seconds (None: waits without end, as `Client.settle`). It uses a connection of its
-        own, as `wait`. Raises `InMemory`."""
-        time_left, commit = checked_wait(timeout), self._shown()
+        own, as `wait`. Raises `InMemory`; and `ConnectionLost`, once, if a connection was lost that had shown commits
+        which aren't known to be durable."""
+        time_left, commit, connections = checked_wait(timeout), self._shown(), self._connections
         async with self._another() as waiting:
             await want_same_run(self, waiting)
-            return await until_durable(waiting, commit, time_left)
+            is_settled = await until_durable(waiting, commit, time_left)
+        # (of another connection's run the number may be another's)
+        if is_settled and self._connections == connections:
+            self._note_settled(commit)
+        return is_settled
 
     async def stop(self, at_once: bool = False) -> int:
         """Ends the server: frames that came are answered first, unless it is to end at once. Returns the number of

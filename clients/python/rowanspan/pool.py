@@ -3,8 +3,8 @@ from __future__ import annotations
 
 import socket
 import threading
-import time
-from typing import TYPE_CHECKING, Any, List, Optional, Sequence, Tuple
+from collections import deque
+from typing import TYPE_CHECKING, Any, Deque, List, Optional, Sequence
 
 from .address import Port, checked_address
 from .client import Asker, Client, Commit
@@ -19,9 +19,6 @@ if TYPE_CHECKING:
 
 __all__ = ["Busy", "Pool"]
 
-# after how many seconds without use it is looked whether a connection has ended
-QUIET_SECONDS = 0.5
-
 
 class Busy(RowanspanError, TimeoutError):
     """All connections of a pool were in use for as long as the timeout. Nothing was done."""
@@ -34,8 +31,8 @@ class Pool(Asker):
             index.put(b"apple", b"red")
 
     A call uses a connection that no other call uses. It opens one if there are fewer than `size`, and otherwise waits
-    for one: at most `timeout` seconds, and then raises `Busy`. `timeout`, `tls`, `token` and `name` are also those of
-    each connection. A call of `wait` uses one for as long as it waits.
+    for one, after the calls that came before it: at most `timeout` seconds, and then raises `Busy`. `timeout`, `tls`,
+    `token` and `name` are also those of each connection. A call of `wait` uses one for as long as it waits.
 
     A connection that broke is replaced. Gets, ranges, counts, pages and queries of the server but stop change nothing: if their
     connection breaks, they are asked once more by a new one. A change is never asked twice: if its connection breaks,
@@ -58,10 +55,12 @@ class Pool(Asker):
             raise ValueError("a pool has at least one connection")
         hello_of(token, name)
         self._size, self._timeout, self._token, self._name = size, timeout, token, name
-        # guards all below, and says when a connection was given back
-        self._changed = threading.Condition()
-        # those that no call uses, with the time of their last use; the one that was used last is the last
-        self._idle: List[Tuple[Client, float]] = []
+        # guards all below
+        self._changed = threading.RLock()
+        # the calls that wait for a connection, in the order in which they came; each is told when it may be its turn
+        self._waiting: Deque[threading.Condition] = deque()
+        # those that no call uses; the one that was used last is the last
+        self._idle: List[Client] = []
         self._in_use = 0
         self._is_closed = False
         # the greatest number of a commit that was shown, and that is known to be durable; and whether a connection has
@@ -83,8 +82,9 @@ class Pool(Asker):
         with self._changed:
             self._is_closed = True
             idle, self._idle = self._idle, []
-            self._changed.notify_all()
-        for client, _ in idle:
+            for turn in self._waiting:
+                turn.notify()
+        for client in idle:
             client.close()
 
     def exchange(self, queries: Sequence[Query[Any]], messages: Sequence[bytes]) -> List[Outcome]:
@@ -153,22 +153,42 @@ class Pool(Asker):
 
     def _reserve(self, is_new: bool) -> Optional[Client]:
         """Waits until a connection may be used. Returns one that is idle, or None if it has to be opened."""
-        until = None if self._timeout is None else time.monotonic() + self._timeout
         with self._changed:
-            while not self._is_closed:
-                if self._in_use < self._size:
-                    self._in_use += 1
-                    return self._unused(is_new)
-                if not self._changed.wait(None if until is None else until - time.monotonic()):
-                    raise Busy(f"all {self._size} connections were in use for {self._timeout} seconds")
-        raise Closed("the pool is closed")
+            if self._waiting or self._in_use == self._size:
+                self._wait_for_turn()
+            if self._is_closed:
+                raise Closed("the pool is closed")
+            self._in_use += 1
+            self._tell_next()
+            return self._unused(is_new)
+
+    def _wait_for_turn(self) -> None:
+        """Waits until the calls that came before have a connection, and one is free; or the pool is closed."""
+        turn, is_there = threading.Condition(self._changed), False
+        self._waiting.append(turn)
+        try:
+            is_there = turn.wait_for(lambda: self._is_closed or self._is_turn_of(turn), self._timeout)
+        finally:
+            self._waiting.remove(turn)
+            if not is_there:
+                self._tell_next()
+        if not is_there:
+            raise Busy(f"all {self._size} connections were in use for {self._timeout} seconds")
+
+    def _is_turn_of(self, turn: threading.Condition) -> bool:
+        return self._waiting[0] is turn and self._in_use < self._size
+
+    def _tell_next(self) -> None:
+        """Tells the call that waits first if a connection is free."""
+        if self._waiting and self._in_use < self._size:
+            self._waiting[0].notify()
 
     def _unused(self, is_new: bool) -> Optional[Client]:
         """An idle connection that hasn't ended, if there is one. Those that have ended are dropped; and also one that
         could be used, if a new one is to be opened in its place."""
         while self._idle:
-            client, used = self._idle.pop()
-            if not is_new and (time.monotonic() < used + QUIET_SECONDS or client.is_usable()):
+            client = self._idle.pop()
+            if not is_new and client.is_usable():
                 return client
             self._note(client, has_ended=True)
             client.close()
@@ -182,7 +202,7 @@ class Pool(Asker):
             keeps = not client.is_lost and not self._is_closed
             self._note(client, client.is_lost)
             if keeps:
-                self._idle.append((client, time.monotonic()))
+                self._idle.append(client)
         if not keeps:
             client.close()
         self._release()
@@ -197,7 +217,7 @@ class Pool(Asker):
     def _release(self) -> None:
         with self._changed:
             self._in_use -= 1
-            self._changed.notify()
+            self._tell_next()
 
 
 ASKED_AGAIN = (Get, GetRange, GetMany, GetRangeBack, CountRange, ViewRead, Hello, Ping, GetInfo, ListViews, Wait)

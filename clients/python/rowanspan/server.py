@@ -57,10 +57,10 @@ class TooMuchAtOnce(Refused):
 
 
 class HelloUnanswered(NotAllowed, ConnectionLost):
-    """The server ended the connection before it answered hello: the token is wrong, the server has ended, or it knows
-    no version 3 of the wire."""
+    """The server ended the connection before it answered hello: it has too many connections, it ends, it knows no
+    version 3 of the wire, or the token has more bytes than it reads."""
 
-    cause = "the server ended the connection before it answered hello: is the token right?"
+    cause = "the server ended the connection before it answered hello: is it full, or older than hello?"
 
 
 # those of a server, not of an index

@@ -179,20 +179,35 @@ class Poller(threading.Thread):
 
     def _opened(self) -> Client:
         """A connection, after hello if the server knows it. Raises `ConnectionLost` and `NotAllowed`."""
-        index = self._connect()
+        # (a server ends a connection by which it is asked what it doesn't know; and any, if it has too many)
+        index = self._greeted(self._connect()) or self._greeted(self._answering())
+        if index is None:
+            self._greeting, self._lists = None, False
+            return self._answering()
+        if self._lists:
+            self._watcher = self._new_watcher()
+        return index
+
+    def _greeted(self, index: Client) -> Optional[Client]:
+        """A connection after hello; None if the server has ended it instead. Raises `ConnectionLost` and `NotAllowed`."""
         try:
             self._greeting = index.hello
             self._lists = "views" in index.info()
-        except HelloUnanswered:
-            # (the server ends a connection by which it is asked what it doesn't know)
+        except BaseException as fault:
             index.close()
-            self._greeting, self._lists = None, False
-            return self._connect()
+            if isinstance(fault, HelloUnanswered):
+                return None
+            raise
+        return index
+
+    def _answering(self) -> Client:
+        """A connection by which a query was answered that each server knows. Raises `ConnectionLost` and `NotAllowed`."""
+        index = self._connect()
+        try:
+            index.call(Get(b"", (0,)))
         except BaseException:
             index.close()
             raise
-        if self._lists:
-            self._watcher = self._new_watcher()
         return index
 
     def _new_watcher(self) -> Optional[Watcher]:
