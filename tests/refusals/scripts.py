@@ -101,8 +101,8 @@ def at_once(name: str, count: int, nodes: int) -> Script:
 
 
 def layers_at_once() -> Script:
-    """Two keys that differ in their last byte alone, behind three slices: a call alone puts the second, and makes as many
-    layers. Two more puts alone are over their rows."""
+    """Two keys that differ in their last byte alone, behind three slices: a call alone puts the second, and makes as
+    many layers. Two more puts alone are over their rows."""
     first, second = ("61" * 24 + last for last in ("61", "62"))
     lines = [f"alone put {first} 0=-", f"alone put {second} 0=-", f"alone put {first} 0=01", f"alone put {second} 0=02"]
     lines += [f"alone get {first} all", f"alone get {second} all"]
@@ -126,7 +126,8 @@ MADE: Dict[str, Callable[[], Script]] = {
     **{f"full_border_{nodes}": partial(full_border, f"full_border_{nodes}", nodes) for nodes in (0, 5, 6)},
     **{f"full_interior_{nodes}": partial(full_interior, f"full_interior_{nodes}", nodes) for nodes in (12, 13, 14)},
     **{f"border_at_once_{nodes}": partial(at_once, f"border_at_once_{nodes}", 15, nodes) for nodes in (0, 5, 6)},
-    **{f"interior_at_once_{nodes}": partial(at_once, f"interior_at_once_{nodes}", 135, nodes) for nodes in (12, 13, 14)},
+    **{f"interior_at_once_{nodes}": partial(at_once, f"interior_at_once_{nodes}", 135, nodes)
+       for nodes in (12, 13, 14)},
     "layers_at_once": layers_at_once, "twenty_layers": twenty_layers}
 
 
