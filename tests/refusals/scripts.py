@@ -90,6 +90,25 @@ def full_interior(name: str, nodes: int) -> Script:
     return Script(name, (), tuple(lines), begin)
 
 
+def at_once(name: str, count: int, nodes: int) -> Script:
+    """The last key of `full_border` or `full_interior`, put by a call alone, whose run makes the most of its split at
+    once."""
+    lines = layers(nodes) + put_all(count)
+    lines = lines[:-1] if nodes > 0 else lines
+    begin, last = len(lines), f"{count + 1:04x}"
+    lines += [f"alone put {last} 0=10", f"alone get {last} all", "alone get 0001 all"]
+    return Script(name, (), tuple(lines), begin)
+
+
+def layers_at_once() -> Script:
+    """Two keys that differ in their last byte alone, behind three slices: a call alone puts the second, and makes as
+    many layers. Two more puts alone are over their rows."""
+    first, second = ("61" * 24 + last for last in ("61", "62"))
+    lines = [f"alone put {first} 0=-", f"alone put {second} 0=-", f"alone put {first} 0=01", f"alone put {second} 0=02"]
+    lines += [f"alone get {first} all", f"alone get {second} all"]
+    return Script("layers_at_once", (), tuple(lines), 1)
+
+
 def twenty_layers() -> Script:
     """Two keys that differ in their last byte alone, behind twenty slices: the second put, by single steps, makes as
     many layers, and when both are removed they are taken out."""
@@ -106,7 +125,10 @@ def twenty_layers() -> Script:
 MADE: Dict[str, Callable[[], Script]] = {
     **{f"full_border_{nodes}": partial(full_border, f"full_border_{nodes}", nodes) for nodes in (0, 5, 6)},
     **{f"full_interior_{nodes}": partial(full_interior, f"full_interior_{nodes}", nodes) for nodes in (12, 13, 14)},
-    "twenty_layers": twenty_layers}
+    **{f"border_at_once_{nodes}": partial(at_once, f"border_at_once_{nodes}", 15, nodes) for nodes in (0, 5, 6)},
+    **{f"interior_at_once_{nodes}": partial(at_once, f"interior_at_once_{nodes}", 135, nodes)
+       for nodes in (12, 13, 14)},
+    "layers_at_once": layers_at_once, "twenty_layers": twenty_layers}
 
 
 def script_of(name: str) -> Script:
