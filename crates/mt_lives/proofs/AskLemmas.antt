@@ -1,5 +1,5 @@
 -- What a map that is asked answers, and the changes that it makes: those of a plain map of its rows.
-use Rattle.std.proofs.Common.{◌≡◌, ℕ, List, length, Option, Result, Ok, Err, inl, inr, refl, sym, subst}
+use Rattle.std.proofs.Common.{ℕ, List, length, Option, Result, Ok, Err, inl, inr, refl, sym, subst}
 use Rattle.mt_types.specs.declared.event.Answer.{Answer}
 use Rattle.mt_types.specs.declared.event.Request.{Request}
 use Rattle.mt_types.specs.declared.event.Request.TheVariants.{Get, Put, PutIf, Remove, Range, Tidy, Build}
@@ -11,7 +11,7 @@ use Rattle.mt_index.specs.Stands.{MachineView, Stands}
 use Rattle.mt_map.specs.Calls.{CameTo, removed_by}
 use Rattle.mt_map.specs.Tidies.{ChangeComesTo, MapComesTo, MapView, Removes}
 use Rattle.mt_store.specs.Extending.{Adds}
-use Rattle.mt_store.proofs.ExtendLemmas.{comes, made_by, made_from, made_is, removes}
+use Rattle.mt_store.proofs.ExtendLemmas.{comes, made_from, made_is, removes}
 use Rattle.mt_lives.specs.Turns.{AnswersAs}
 
 -- a machine answers as a plain map of its rows, whatever history it is at

@@ -3,22 +3,26 @@ use Rattle.std.proofs.Common.{◌≡◌, ◌⊎◌, ◌∙◌, ◌≤◌, ℕ, B
 use Rattle.std.specs.Prelude.{IfOk}
 use Rattle.std.proofs.lemmas.List.{length-append, length-take, length-take-le, take_all}
 use Rattle.mt_types.specs.declared.row.Change.{Change}
+use Rattle.mt_frame.specs.declared.entry.LogHeader.{LogHeader}
 use Rattle.mt_commit.specs.Log.{newest}
 use Rattle.mt_index.specs.Stands.{MachineView}
 use Rattle.mt_promise.specs.History.{moment}
 use Rattle.mt_journal.specs.declared.position.Position.{Position}
 use Rattle.mt_journal.specs.Keeping.{StaysDurable}
 use Rattle.mt_journal.proofs.Kept.{durable_after}
+use Rattle.mt_folder.specs.declared.reading.RowsRead.{RowsRead}
+use Rattle.mt_load.specs.Loaded.{IsLoaded}
 use Rattle.mt_folder_laws.specs.Left.{HasNoNewer, HaveFirst}
 use Rattle.mt_folder_log.specs.declared.checkpoint.Other.{Other}
 use Rattle.mt_folder_log.specs.declared.checkpoint.Other.TheVariants.{Free, Needed, Gone}
-use Rattle.mt_folder_log.specs.Folder.{AllFound, AllRecover, MayBeBeside}
+use Rattle.mt_folder_log.specs.Folder.{AllFound, AllHaveHeader, AllRecover, MayBeBeside}
+use Rattle.mt_folder_log.proofs.ChangeLemmas.{still_headed}
 use Rattle.mt_map_folder.specs.Changes.{KeepsChanges}
 use Rattle.mt_map_folder.specs.Read.{AreClean}
 use Rattle.mt_map_folder.specs.declared.log.MapLog.{MapLog}
 use Rattle.mt_map_folder.specs.declared.opening.OpenedMap.{OpenedMap}
 use Rattle.mt_map_folder.proofs.ChangeLemmas.{unwritten}
-use Rattle.mt_lives.specs.Lives.{AllAreLeft, AreFront, HasLived}
+use Rattle.mt_lives.specs.Lives.{AllAreLeft, AreFront, HasLived, IsOfGeneration}
 use Rattle.mt_lives.specs.Sentence.{opened_at, HasFirst}
 use Rattle.mt_lives.specs.Turns.{Reached}
 
@@ -68,6 +72,11 @@ none_written seen may_leave s log kept =
     let few = length-take (length commits) nothing in
     omega (arith, one, two, few, kept.made.as_many, kept.within)
 
+-- an opened map has this many columns
+pub opened_columns : {D E : Type 0} (P : OpenedMap D → RowsRead → Type 0) (C : ℕ) (result : Result (OpenedMap D) E) → IfOk result (λ opened. (read : RowsRead) × IsLoaded C read.commits read.rows opened.map.machine × P opened read) → IfOk result (λ opened. opened.map.machine.columns ≡ C)
+opened_columns P C (Ok opened) (read, loaded, more) = loaded.columns
+opened_columns P C (Err error) loaded = tt
+
 -- an opened map begins a life
 pub begins : {D E : Type 0} (seen : D → List ℕ) (may_leave : D → List ℕ → Type 0) (is_clean : D → Bool) (C : ℕ) (changes : List Change) (n : ℕ) (even odd : List ℕ) (result : Result (OpenedMap D) E) → HasFirst C changes n even odd
     → IfOk result (λ opened. opened.map.machine.columns ≡ C)
@@ -111,13 +120,9 @@ found_less C may_leave changes least durable generation disk other le found = λ
       again = are.again;
     }
 
--- whatever a crash leaves after a call by which the folder recovers
-pub left_by : {D : Type 0} (may_leave : D → List ℕ → Type 0) (C : ℕ) (a : Reached) (durable generation : ℕ) (log : MapLog D) → log.log.columns ≡ C → a.durable ≤ durable → AllRecover may_leave a.changes durable generation log.log → AllAreLeft may_leave C a log
-left_by may_leave C a durable generation log columns le recovers = (
-  generation,
-  found_less C may_leave a.changes a.durable durable generation log.log.journal.disk log.log.other le
-      (subst (λ (k : ℕ). AllFound k may_leave a.changes durable generation log.log.journal.disk log.log.other) columns recovers),
-)
+-- a log with this header is one of its generation
+of_header : (C generation : ℕ) (header : LogHeader) (may_leave : List ℕ → Type 0) → header.columns ≡ C → header.generation ≡ generation → AllHaveHeader header may_leave → (left : List ℕ) → may_leave left → IsOfGeneration C generation left
+of_header C generation header may_leave columns is heads left leaves = let has = heads left leaves in (header, has.0, has.1, columns, is)
 
 module _ {D : Type 0} (seen : D → List ℕ) (may_leave : D → List ℕ → Type 0) (C : ℕ) (a : Reached) (s : MachineView) (log : MapLog D) (lived : HasLived seen may_leave C a s log) where
   abbrev pub own : KeepsChanges seen may_leave a.changes s log
@@ -126,9 +131,23 @@ module _ {D : Type 0} (seen : D → List ℕ) (may_leave : D → List ℕ → Ty
   pub log_columns : log.log.columns ≡ C
   log_columns = sym own.columns ∙ lived.columns
 
+  -- after a call by which the folder recovers, and the log has its header
+  pub left_by : (new : MapLog D) → new.log.columns ≡ log.log.columns → AllHaveHeader own.kept.header (may_leave new.log.journal.disk)
+      → AllRecover may_leave a.changes log.log.journal.at.durable log.log.journal.at.generation new.log → AllAreLeft may_leave C a new
+  left_by new columns heads recovers =
+      let at = log.log.journal.at in
+      record {
+        generation = at.generation;
+        heads = of_header C at.generation own.kept.header (may_leave new.log.journal.disk) (own.kept.columns ∙ log_columns) (sym own.kept.keeps.generation) heads;
+        found = found_less C may_leave a.changes a.durable at.durable at.generation new.log.journal.disk new.log.other lived.durable
+            (subst (λ (k : ℕ). AllFound k may_leave a.changes at.durable at.generation new.log.journal.disk new.log.other) (columns ∙ log_columns) recovers);
+      }
+
   -- at any turn
   pub lived_left : AllAreLeft may_leave C a log
-  lived_left = left_by may_leave C a log.log.journal.at.durable log.log.journal.at.generation log log_columns lived.durable (unwritten seen may_leave a.changes s log own)
+  lived_left =
+      let journal = log.log.journal in
+      left_by log refl (still_headed journal.at (seen journal.disk) (may_leave journal.disk) own.kept.header own.kept.entries own.kept.keeps) (unwritten seen may_leave a.changes s log own)
 
   -- what was said to be durable stays so
   pub stays : (at : Position) → StaysDurable log.log.journal.at at → a.durable ≤ at.durable
@@ -136,3 +155,8 @@ module _ {D : Type 0} (seen : D → List ℕ) (may_leave : D → List ℕ → Ty
       let keeps = own.kept.keeps in
       let least = durable_after log.log.journal.at (seen log.log.journal.disk) (may_leave log.log.journal.disk) at own.kept.header own.kept.entries keeps more in
       omega (arith, least, lived.durable)
+
+  -- and so do the changes, if the log keeps them
+  pub logged : (new : MapLog D) (written durable : ℕ) → ((later : List Change) → AreFront a.changes later → KeepsChanges seen may_leave later s new)
+      → new.log.journal.at.newest ≡ written → durable ≤ new.log.journal.at.durable → HasLived seen may_leave C (record { changes = a.changes; written = written; durable = durable }) s new
+  logged new written durable keeps is le = record { kept = keeps; all = lived.all; columns = lived.columns; written = is; durable = le }

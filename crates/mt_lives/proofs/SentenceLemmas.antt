@@ -1,15 +1,14 @@
 -- What survives of lives one after the other.
-use Rattle.std.proofs.Common.{◌≡◌, ◌∙◌, ◌≤◌, ℕ, Bool, true, List, [], ◌∷◌, length, take, inl, inr, refl, sym, ap, subst, arith}
+use Rattle.std.proofs.Common.{◌≡◌, ◌∙◌, ◌≤◌, ℕ, List, [], ◌∷◌, length, take, inl, refl, sym, subst, arith}
 use Rattle.std.proofs.lemmas.List.{length-take-le, take-take}
-use Rattle.mt_types.specs.Rows.{Rows, after}
 use Rattle.mt_types.specs.declared.row.Change.{Change}
-use Rattle.mt_folder_laws.specs.Left.{AreLeft, FirstAreRead, HasNoNewer, HaveFirst}
+use Rattle.mt_folder_laws.specs.Left.{AreLeft, FirstAreRead, HasNoNewer}
 use Rattle.mt_folder_log.specs.declared.checkpoint.Other.{Other}
 use Rattle.mt_folder_log.specs.declared.checkpoint.Other.TheVariants.{Free, Needed, Gone}
 use Rattle.mt_folder_log.specs.Folder.{MayBeBeside}
 use Rattle.mt_map_folder.specs.declared.log.MapLog.{MapLog}
 use Rattle.mt_lives.specs.Lives.{AllAreLeft}
-use Rattle.mt_lives.specs.Sentence.{is_alone, opened_at, AreLeftOf, AreLives, AreRowsAfter, HasFirst, IsLife, Life, LivesSurvive, MayLeaveOther, Survive}
+use Rattle.mt_lives.specs.Sentence.{opened_at, AreLeftOf, AreRowsAfter, HasFirst, IsLife, LivesSurvive, MayLeaveOther, Survive}
 use Rattle.mt_lives.specs.Turns.{LeadsAll, Reached}
 use Rattle.mt_lives.specs.declared.turn.Told.{Told}
 use Rattle.mt_lives.specs.declared.turn.Turn.{Turn}
@@ -43,8 +42,6 @@ survive reads C even odd changes n (life ∷ lives) first (one, more) =
     let is = one changes n first in (
       is.reached,
       is.leads,
-      is.generation,
-      is.alone,
       λ fair.
           let are = is.left fair in
           let front = take are.count is.reached.changes in
@@ -61,18 +58,19 @@ survive reads C even odd changes n (life ∷ lives) first (one, more) =
 -- ---- one life
 -- the file that the log in use doesn't have, if a crash leaves this of it
 beside : {D : Type 0} (C : ℕ) (may_leave : D → List ℕ → Type 0) (durable generation : ℕ) (other : Other D) (others : List ℕ) → MayLeaveOther may_leave other others
-    → (is_alone other ≡ true → HasNoNewer C generation durable others) → MayBeBeside C may_leave durable generation other others
-beside C may_leave durable generation (Free disk most) others leaves fair = fair refl
-beside C may_leave durable generation (Needed disk last copied has_all) others leaves fair = leaves
-beside C may_leave durable generation Gone others leaves fair = fair refl
+    → HasNoNewer C generation durable others → MayBeBeside C may_leave durable generation other others
+beside C may_leave durable generation (Free disk most) others leaves none = none
+beside C may_leave durable generation (Needed disk last copied has_all) others leaves none = leaves
+beside C may_leave durable generation Gone others leaves none = none
 
 -- turns that were taken since a life began, and what a crash leaves then
 pub life_of : {D : Type 0} (may_leave : D → List ℕ → Type 0) (C : ℕ) (changes : List Change) (n : ℕ) (turns : List Turn) (told : List Told) (log : MapLog D) (left others : List ℕ) (b : Reached)
     → LeadsAll C turns told (opened_at changes n) b → AllAreLeft may_leave C b log → AreLeftOf may_leave log left others → IsLife C (record { turns = turns; told = told; left = left; others = others }) changes n
-life_of may_leave C changes n turns told log left others b leads (generation, found) (of_log, of_other) = record {
+life_of may_leave C changes n turns told log left others b leads all (of_log, of_other) = record {
   reached = b;
   leads = leads;
-  generation = generation;
-  alone = is_alone log.log.other;
-  left = λ fair. found left others of_log (beside C may_leave b.durable generation log.log.other others of_other fair);
+  left = λ fair.
+      let (header, entries, is, columns, generation) = all.heads left of_log in
+      let none = subst (λ (k : ℕ). HasNoNewer C k b.durable others) generation (fair header entries is columns) in
+      all.found left others of_log (beside C may_leave b.durable all.generation log.log.other others of_other none);
 }

@@ -1,20 +1,17 @@
 -- Where each turn leads a map and its log.
-use Rattle.std.proofs.Common.{◌≡◌, ◌∙◌, ◌+◌, ◌-◌, ◌++◌, ◌∷◌, ◌≤◌, ℕ, min, List, [], length, map, take, drop, Result, Ok, Err, refl, sym, ap, subst, arith}
-use Rattle.std.specs.Prelude.{IfOk, OnOk}
-use Rattle.std.proofs.lemmas.List.{append_assoc, length-append, length-drop, length-map, length-take, take-append-le, take-take, take_all}
+use Rattle.std.proofs.Common.{◌≡◌, ◌∙◌, ◌+◌, ◌-◌, ◌++◌, ◌∷◌, ◌<◌, ℕ, min, List, [], length, take, drop, get_or, Result, refl, sym, ap, subst, arith}
+use Rattle.std.proofs.lemmas.List.{append_assoc, length-append, length-drop, length-map, length-take, length-take-le, take-append-le, take-take, take_all, take_more}
 use Rattle.mt_types.specs.Rows.{Rows, after}
 use Rattle.mt_types.specs.declared.event.Answer.{Answer}
 use Rattle.mt_types.specs.declared.event.Request.{Request}
 use Rattle.mt_types.specs.declared.limits.TheConstants.{MAX_RANGE}
 use Rattle.mt_types.specs.declared.refusal.Refusal.{Refusal}
 use Rattle.mt_types.specs.declared.row.Change.{Change}
-use Rattle.mt_commit.specs.Log.{newest}
 use Rattle.mt_commit.specs.Logged.{deltas_of}
 use Rattle.mt_commit.proofs.DeltaLemmas.{deltas_of-length}
 use Rattle.mt_index.specs.Stands.{MachineView, Stands}
 use Rattle.mt_promise.specs.History.{History, moment, rows}
 use Rattle.mt_replay.specs.Replay.{record_of}
-use Rattle.mt_folder_log.specs.Folder.{HasChanges}
 use Rattle.mt_map_folder.specs.Changes.{AreFirstOf, KeepsChanges}
 use Rattle.mt_map_folder.specs.Written.{left_after}
 use Rattle.mt_map_folder.specs.declared.log.MapLog.{MapLog}
@@ -37,20 +34,23 @@ front_less changes made later front =
     ∙ take-append-le (length changes) changes made (omega arith)
     ∙ take_all (length changes) changes (omega arith)
 
--- the commits of the map are the first of the changes, with those that were made then
-first_more : (C : ℕ) (later commits then changes made : List Change) → AreFirstOf C later commits → then ≡ commits ++ made → length commits ≡ length changes → AreFront changes later → AreFront (changes ++ made) later → AreFirstOf C later then
-first_more C later commits then changes made first is many front more =
+-- the commits of the map are the first of the changes, with those that were made then; as many were there when it was opened
+first_more : (C K : ℕ) (later commits then changes made : List Change) (first : AreFirstOf C later commits) → K ≡ C → then ≡ commits ++ made → length commits ≡ length changes → AreFront changes later → AreFront (changes ++ made) later
+    → (more : AreFirstOf K later then) × (length more.before ≡ length first.before)
+first_more C K later commits then changes made first same is many front more =
     let long : length then ≡ length (changes ++ made) = ap length is ∙ length-append commits made ∙ ap (λ (n : ℕ). n + length made) many ∙ sym (length-append changes made) in
-    let before : changes ≡ first.before ++ first.more = sym front ∙ ap (λ (n : ℕ). take n later) (sym many) ∙ first.changes_are in
-    record {
-      loaded = first.loaded;
-      before = first.before;
-      more = first.more ++ made;
-      commits_are = is ∙ ap (λ (cs : List Change). cs ++ made) first.commits_are ∙ append_assoc first.loaded first.more made;
-      changes_are = ap (λ (n : ℕ). take n later) long ∙ more ∙ ap (λ (cs : List Change). cs ++ made) before ∙ append_assoc first.before first.more made;
-      as_many = first.as_many;
-      same_rows = first.same_rows;
-    }
+    let before : changes ≡ first.before ++ first.more = sym front ∙ ap (λ (n : ℕ). take n later) (sym many) ∙ first.changes_are in (
+      record {
+        loaded = first.loaded;
+        before = first.before;
+        more = first.more ++ made;
+        commits_are = is ∙ ap (λ (cs : List Change). cs ++ made) first.commits_are ∙ append_assoc first.loaded first.more made;
+        changes_are = ap (λ (n : ℕ). take n later) long ∙ more ∙ ap (λ (cs : List Change). cs ++ made) before ∙ append_assoc first.before first.more made;
+        as_many = first.as_many;
+        same_rows = subst (λ (k : ℕ). after k first.loaded ≡ after k first.before) (sym same) first.same_rows;
+      },
+      refl,
+    )
 
 module _ {D : Type 0} (seen : D → List ℕ) (may_leave : D → List ℕ → Type 0) (C : ℕ) (a : Reached) (s : MachineView) (log : MapLog D) (lived : HasLived seen may_leave C a s log) where
   -- the map has made as many commits as there are changes
@@ -84,13 +84,13 @@ module _ {D : Type 0} (seen : D → List ℕ) (may_leave : D → List ℕ → Ty
         let kept = lived.kept later front in
         let (g, stands, commits) = is.0.1 kept.h kept.stands in
         let long : length (moment g).commits ≡ length (moment kept.h).commits + length made = ap length commits ∙ length-append (moment kept.h).commits made in
+        let (then, opened) = first_more s.columns t.columns later (moment kept.h).commits (moment g).commits a.changes made kept.made is.0.0 commits (many kept.h kept.stands) front more in
         record {
           h = g;
           stands = stands;
-          made = subst (λ (k : ℕ). AreFirstOf k later (moment g).commits) (sym is.0.0)
-              (first_more s.columns later (moment kept.h).commits (moment g).commits a.changes made kept.made commits (many kept.h kept.stands) front more);
+          made = then;
           columns = is.0.0 ∙ kept.columns;
-          opened = kept.opened;
+          opened = omega (arith, opened, kept.opened);
           within = omega (arith, kept.within, long);
           kept = kept.kept;
         }
@@ -133,3 +133,8 @@ leads_on C [] [] turn one a m b many is next = (b, subst (λ (x : Reached). Lead
 leads_on C [] (first ∷ told) turn one a m b many leads next = absurd leads
 leads_on C (first ∷ turns) [] turn one a m b many leads next = absurd (omega (arith, many))
 leads_on C (first ∷ turns) (say ∷ told) turn one a m b many (r, leads, rest) next = (r, leads, leads_on C turns told turn one r m b (omega (arith, many)) rest next)
+
+pub leads_at : (C : ℕ) (turns : List Turn) (i : ℕ) (d : Turn) (told : List Told) (one : Told) (a m b : Reached) → i < length turns → length told ≡ i → LeadsAll C (take i turns) told a m → Leads C (get_or turns i d) one m b → LeadsAll C (take (i + 1) turns) (told ++ one ∷ []) a b
+leads_at C turns i d told one a m b less many leads next =
+    let long : length (take i turns) ≡ i = length-take-le i turns (omega (arith, less)) in
+    subst (λ (ts : List Turn). LeadsAll C ts (told ++ one ∷ []) a b) (sym (take_more turns i d less)) (leads_on C (take i turns) told (get_or turns i d) one a m b (many ∙ sym long) leads next)

@@ -132,3 +132,9 @@ records_left C h records read deltas told at are same tells is =
 pub next_left : (C D : ℕ) (changes : List Change) (h : History) (n : ℕ) (records : List Record) → records ≡ left_after C n h → C ≡ D → (made : AreFirstOf C changes (moment h).commits) → length made.before ≤ n → AreNext D changes n records
 next_left C D changes h n records is same made opened =
     subst (λ (columns : ℕ). AreNext columns changes n records) same (subst (AreNext C changes n) (sym is) (next_records C changes h n made opened))
+
+-- if the map returned no delta, no commit comes next
+pub none_left : (C : ℕ) (h : History) (deltas : List Delta) (told at : Position) → deltas ≡ take MAX_RANGE (drop told.newest (deltas_of C (moment h).commits)) → told ≡ at → length deltas ≡ 0 → length (left_after C at.newest h) ≡ 0
+none_left C h deltas told at tells is none =
+    length-map (take MAX_RANGE (drop at.newest (deltas_of C (moment h).commits))) record_of
+    ∙ ap (λ (p : Position). length (take MAX_RANGE (drop p.newest (deltas_of C (moment h).commits)))) (sym is) ∙ ap length (sym tells) ∙ none

@@ -1,6 +1,6 @@
 pub mod WrittenLemmas
 mod CleanLemmas
 mod RoundLemmas
-mod MadeLemmas
-mod ChangeLemmas
+pub mod MadeLemmas
+pub mod ChangeLemmas
 mod OpenLemmas

@@ -1,6 +1,6 @@
 //! The commits of a map, written to the log of its folder.
 
-ghost use Rattle.std.specs.Prelude.{◌≡◌, ◌<◌, ◌≤◌, ◌-◌, nat_lt, false, List, length, Ok, OnOk, OnErr, IfOk, IsTrue, IsFalse};
+ghost use Rattle.std.specs.Prelude.{◌≡◌, ◌<◌, ◌≤◌, ◌+◌, ◌-◌, nat_lt, false, List, length, Ok, OnOk, OnErr, IfOk, IsTrue, IsFalse};
 ghost use Rattle.mt_commit.specs.Log.{newest};
 ghost use Rattle.mt_frame.specs.declared.entry.Entry.{Entry};
 ghost use Rattle.mt_frame.specs.declared.entry.LogHeader.{LogHeader};

@@ -23,3 +23,6 @@ returns-clause-changes g c = λ changes kept mixes.
 
 pub returns-in_err-make-clause-recover : goal.returns-in_err-make-clause-recover
 returns-in_err-make-clause-recover g c = λ changes has mixes. if_err c.from_residual.result (c.in_err-make.ensures.recover changes has c.next_round-round.ensures mixes)
+
+pub returns-in_err-make-clause-heads : goal.returns-in_err-make-clause-heads
+returns-in_err-make-clause-heads g c = λ header entries keeps mixes. if_err c.from_residual.result (c.in_err-make.ensures.heads header entries keeps mixes)

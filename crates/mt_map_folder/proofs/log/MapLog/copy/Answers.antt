@@ -4,7 +4,7 @@ use Rattle.mt_promise.specs.Alone.{IsRangeOfMap}
 use Rattle.mt_promise.specs.History.{moment, rows}
 use Rattle.mt_types.specs.Rows.{after}
 use Rattle.mt_folder_log.specs.Moving.{start_of}
-use Rattle.mt_folder_log.proofs.ChangeLemmas.{recovers}
+use Rattle.mt_folder_log.proofs.ChangeLemmas.{recovers, still_headed}
 use Rattle.mt_folder_log.proofs.MovingLemmas.{any_needed, if_err}
 use Rattle.mt_map_folder.proofs.ChangeLemmas.{after_call, map_needed, next_rows}
 use Rattle.mt_map_folder.proofs.log.MapLog.copy.Goals as goal
@@ -47,3 +47,17 @@ returns-clause-changes g c = λ changes kept few mixing.
     map_needed log.other
     (λ copied has. after_call g.D.Disk.seen g.D.Disk.may_leave changes s c.args.self.now _ kept c.in_ok-copy.ensures.columns (omega (arith, c.in_ok-copy.ensures.newest)) (omega (arith, c.in_ok-copy.ensures.newest, kept.within)) has)
     (c.in_ok-copy.ensures.changes changes kept.kept range mixing)
+
+-- the log has its header
+pub returns-in_err-start-clause-heads : goal.returns-in_err-start-clause-heads
+returns-in_err-start-clause-heads g c = λ header entries keeps mixing.
+    let journal = c.args.self.now.log.journal in
+    if_err c.from_residual.result (still_headed journal.at (g.D.Disk.seen journal.disk) (g.D.Disk.may_leave journal.disk) header entries keeps)
+
+pub returns-in_err-rows-clause-heads : goal.returns-in_err-rows-clause-heads
+returns-in_err-rows-clause-heads g c = λ header entries keeps mixing.
+    let journal = c.args.self.now.log.journal in
+    if_err c.from_residual-in_err-rows.result (still_headed journal.at (g.D.Disk.seen journal.disk) (g.D.Disk.may_leave journal.disk) header entries keeps)
+
+pub returns-in_err-copy-clause-heads : goal.returns-in_err-copy-clause-heads
+returns-in_err-copy-clause-heads g c = λ header entries keeps mixing. if_err c.from_residual-in_err-copy.result (c.in_err-copy.ensures.heads header entries keeps mixing)

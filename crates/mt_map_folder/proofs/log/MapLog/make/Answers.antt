@@ -44,3 +44,13 @@ returns-in_err-seal-in-Seals-clause-recover g c = λ changes has is mixes.
     let log = c.args.self.now.log in
     if_err c.from_residual-in_err-seal-in-Seals.result
     (c.in_err-seal-in-Seals.ensures.recover changes has (of_seals log.least log.journal.at log.other (sym c.in-Seals.is ∙ is)) mixes)
+
+-- the log has its header
+pub returns-in_err-begin-in-Rests-clause-heads : goal.returns-in_err-begin-in-Rests-clause-heads
+returns-in_err-begin-in-Rests-clause-heads g c = λ header entries keeps mixes. if_err c.from_residual.result (c.in_err-begin-in-Rests.ensures.heads header entries keeps)
+
+pub returns-in-Copies-clause-heads : goal.returns-in-Copies-clause-heads
+returns-in-Copies-clause-heads g c = λ header entries keeps mixes. c.copy.ensures.heads header entries keeps (mixes c.copy.new.self.log.journal.disk)
+
+pub returns-in_err-seal-in-Seals-clause-heads : goal.returns-in_err-seal-in-Seals-clause-heads
+returns-in_err-seal-in-Seals-clause-heads g c = λ header entries keeps mixes. if_err c.from_residual-in_err-seal-in-Seals.result (c.in_err-seal-in-Seals.ensures.heads header entries keeps mixes)

@@ -1,13 +1,16 @@
-use Rattle.std.proofs.Common.{◌∙◌, ◌==◌, ℕ, List, length, ap, sym, subst, arith}
+use Rattle.std.proofs.Common.{◌≡◌, ◌∙◌, ◌==◌, ◌+◌, ℕ, List, length, ap, sym, subst, arith}
+use Rattle.mt_frame.specs.declared.entry.Record.{Record}
+use Rattle.std.specs.Vec.{vec_len}
 use Rattle.mt_journal.specs.declared.position.Position.{Position}
 use Rattle.mt_journal.specs.Keeping.{AllSurvive}
 use Rattle.mt_map_folder.proofs.WrittenLemmas.{survive_with}
+use Rattle.std.proofs.lemmas.Bool.{eqb-true}
 use Rattle.std.proofs.lemmas.List.{length-map}
 use Rattle.mt_frame.specs.declared.entry.Entry.{Entry}
 use Rattle.mt_replay.specs.Replay.{record_of}
 use Rattle.mt_journal.proofs.Kept.{unless_err}
 use Rattle.mt_map_folder.specs.Written.{left_after}
-use Rattle.mt_map_folder.proofs.ChangeLemmas.{after_call, few_records, next_left, records_left, unwritten, written}
+use Rattle.mt_map_folder.proofs.ChangeLemmas.{after_call, few_records, next_left, none_left, records_left, unwritten, written}
 use Rattle.mt_map_folder.proofs.log.MapLog.write.Goals as goal
 
 -- nothing was written
@@ -70,3 +73,20 @@ returns-clause-changes g c = λ changes kept mixing.
     let newest = unless_err c.append.result c.append.ensures.newest c.in_default-append.not-Err in
     let few = few_records s.columns changes kept.h log.journal.at.newest kept.made kept.within in
     after_call g.D.Disk.seen g.D.Disk.may_leave changes s c.args.self.now _ kept c.append.ensures.columns (omega (arith, newest)) (omega (arith, newest, few, ap length is)) has
+
+-- how many commits were written
+pub returns-then-is_empty-clause-newest : goal.returns-then-is_empty-clause-newest
+returns-then-is_empty-clause-newest g c = λ h stands.
+    let at = c.args.self.now.log.journal.at in
+    let C = c.args.map.now.machine.columns in
+    let long : length c.in-Ok.deltas.items ≡ vec_len c.in-Ok.deltas = sym c.in-Ok.deltas.ok.0 in
+    let none = none_left C h c.in-Ok.deltas.items c.position.result at (c.in-Ok.ensures.tells h stands) c.position.ensures.value (long ∙ eqb-true (vec_len c.in-Ok.deltas) 0 (sym c.is_empty.ensures ∙ c.if-is_empty.true)) in
+    omega (arith, none)
+
+pub returns-clause-newest : goal.returns-clause-newest
+returns-clause-newest g c = λ h stands.
+    let log = c.args.self.now.log in
+    let C = c.args.map.now.machine.columns in
+    let is = records_left C h c.in-Ok-records_of.records c.deref.result.now c.in-Ok.deltas.items c.position.result log.journal.at c.in-Ok-records_of.ensures c.deref.ensures.value (c.in-Ok.ensures.tells h stands) c.position.ensures.value in
+    let newest = unless_err c.append.result c.append.ensures.newest c.in_default-append.not-Err in
+    newest ∙ ap (λ (l : List Record). log.journal.at.newest + length l) is
