@@ -1,141 +1,208 @@
-//! The rows of a shared index, copied into its log while other threads change them.
+//! How the log of a shared index is shortened while other threads change rows: it continues in the other file, and the rows are copied
+//! there.
 
-ghost use Rattle.std.specs.Prelude.{◌≡◌, List, OnOk, OnErr, IfOk, IfSome, IfErr, IsTrue};
+ghost use Rattle.std.specs.Prelude.{◌≡◌, ◌⊎◌, ◌+◌, ◌<◌, nat_lt, List, [], length, map, is_some, Ok, OnOk, OnErr, IfOk, IfSome, IsTrue, None};
+ghost use Rattle.mt_types.specs.declared.row.Change.{Change};
 ghost use Rattle.mt_frame.specs.declared.entry.Entry.{Entry};
 ghost use Rattle.mt_frame.specs.declared.entry.LogHeader.{LogHeader};
-ghost use Rattle.mt_journal.specs.Appending.{with_end, with_seal};
+ghost use Rattle.mt_folder_log.specs.Folder.{AllRecover, HasAll, HasChanges};
+ghost use Rattle.mt_folder_log.specs.Moving.{continued, end_of, IfFree, IfNeeded, IsAfter, IsFree, Needs};
+ghost use Rattle.mt_folder_log.specs.declared.checkpoint.TheConstants.{PART};
+ghost use Rattle.mt_journal.specs.Appending.{with_part, with_seal};
 ghost use Rattle.mt_journal.specs.Causes.{may_ask};
-ghost use Rattle.mt_journal.specs.Keeping.{Keeps};
-ghost use Rattle.mt_logger.specs.Copying.{AreOfIndex, CopiesRows, IsCopied};
+ghost use Rattle.mt_journal.specs.Keeping.{AllAreLogs, Keeps};
+ghost use Rattle.mt_journal.specs.Recovery.{Mixes};
+ghost use Rattle.mt_logger.specs.Following.{Follows, KeepsChanges};
+ghost use Rattle.mt_logger.specs.Rounds.{next_of, Advances, Reads};
+ghost use Rattle.mt_logger.specs.declared.checkpoint.Advanced.TheVariants.{Goes, Waits};
 
 use crate::error::LoggerError;
 use crate::logger::Logger;
-use mt_frame::entry::Part;
-use mt_journal::error::JournalError;
+use crate::reading::{Lacking, read_lacking};
+use mt_folder_log::checkpoint::Round;
 use mt_shared::door::Door;
-use mt_types::copying::TryCopy;
-use mt_types::items::Items;
-use mt_types::key::Key;
-use mt_types::refusal::{NoMemory, Refusal};
 use sqlite_disk::Disk;
-use std::alloc::Global;
 use std::sync::Wait;
 
-/// How many rows a part of a checkpoint has at most.
-pub const PART: u16 = 256;
-
-/// What was copied of the rows of an index.
-#[derive(Debug, Drop)]
-pub enum Copied {
-    /// This number of rows that weren't copied before. The next ones begin at this key, which is that of the last of these.
-    Some { rows: u64, next: Key },
-    /// The last rows, of which this number weren't copied before.
-    Last { rows: u64 },
-    /// None, since a change is open. They can be copied later.
-    Later,
+/// What a checkpoint needs next.
+#[derive(Clone, Copy, Debug, PartialEq, Eq)]
+pub enum Step {
+    /// Nothing: none is due.
+    Rests,
+    /// The log moves to the other file.
+    Moves,
+    /// The next rows are to be read, with the commits that the log lacks.
+    Reads,
+    /// The rows that were read are to be copied.
+    Copies,
+    /// All were copied.
+    Seals,
 }
 
-// The rows of an index from a key on, as it has them now. `None` if a change is open.
-fn part_of<W: Wait>(alloc: Global, door: &Door<'_, W>, start: &Key) -> Result<Option<Part>, Refusal>
-    ensures { IfOk result (λ found. IfSome found (AreOfIndex start.now)) }
-{
-    let start = start.copy(alloc)?;
-    let moment = door.moment();
-    let at = moment.commits();
-    let Some(machine) = moment.machine() else {
-        return Ok(None);
-    };
-    let rows = machine.range(alloc, start, PART, Items::new(alloc))?;
-    Ok(Some(Part { at, rows }))
-}
-
-// How many rows of a part weren't copied before it: all, or all but that of the key at which it begins.
-fn new_rows(part: &Part, start: &Key, is_first: bool) -> u64 {
-    let rows = part.rows.len() as u64;
-    match part.rows.as_slice().first() {
-        Some((key, _)) if !is_first && key == start => rows.saturating_sub(1),
-        _ => rows,
-    }
-}
-
-// What a part is of the rows of its index.
-fn copied_by(alloc: Global, part: &Part, rows: u64) -> Result<Copied, NoMemory>
-    ensures { IfOk result IsCopied }
-{
-    match part.rows.as_slice().last() {
-        Some((key, _)) if part.rows.len() >= usize::from(PART) => Ok(Copied::Some {
-            rows,
-            next: key.copy(alloc)?,
-        }),
-        _ => Ok(Copied::Last { rows }),
-    }
+/// What a step of a checkpoint has done.
+#[derive(Clone, Copy, Debug, PartialEq, Eq)]
+pub enum Advanced {
+    /// Nothing: none is due, or the next rows can't be read yet.
+    Waits,
+    /// There is more to do.
+    Goes,
+    /// The checkpoint of this many rows is complete.
+    Ends { rows: u64 },
 }
 
 impl<D: Disk + Drop> Logger<D> {
-    /// Copies the next rows of the index into the log, at most [`PART`], from the key `start` on, as they are at one moment.
-    /// Unless they are the first ones, the row of that key is copied again. Takes the lock of the index once, together with other reads. O(n) in these rows, and one call of the disk.
-    ///
-    /// # Errors
-    ///
-    /// `Fed` if the index refuses them: out of memory. `Journal`: those of [`mt_journal::journal::Journal::append`]. Unless
-    /// the disk failed, the log is as before.
-    pub fn copy_rows<W: Wait>(
-        &mut self,
-        door: &Door<'_, W>,
-        start: &Key,
-        is_first: bool,
-    ) -> Result<Copied, LoggerError>
-        ensures copies { IsTrue (D.Disk.is_mixing self.new.journal.disk) → IfOk result (CopiesRows start.now
-            (Keeps self.old.journal.at (D.Disk.seen self.old.journal.disk) (D.Disk.may_leave self.old.journal.disk))
-            (Keeps self.new.journal.at (D.Disk.seen self.new.journal.disk) (D.Disk.may_leave self.new.journal.disk))) }
-        ensures newest { OnOk result (self.new.journal.at.newest ≡ self.old.journal.at.newest) }
-        ensures stays { (header : LogHeader) (entries : List Entry)
-            → Keeps self.old.journal.at (D.Disk.seen self.old.journal.disk) (D.Disk.may_leave self.old.journal.disk) header entries
-            → IsTrue (may_ask self.new.journal.is_given_up (D.Disk.is_usable self.new.journal.disk))
-            → OnErr result (Keeps self.new.journal.at (D.Disk.seen self.new.journal.disk) (D.Disk.may_leave self.new.journal.disk) header entries) }
+    /// Returns what the checkpoint needs next: [`Step::Rests`] if none is due, or if the log has the last generation.
+    pub fn next_step(&self) -> Step
+        ensures { result ≡ next_of self.now }
     {
-        let part = match part_of(self.alloc, door, start) {
-            Ok(Some(part)) => part,
-            Ok(None) => return Ok(Copied::Later),
-            Err(refusal) => return Err(LoggerError::Fed(refusal)),
-        };
-        let rows = new_rows(&part, start, is_first);
-        let Ok(copied) = copied_by(self.alloc, &part, rows) else {
-            return Err(LoggerError::Journal(JournalError::NoMemory));
-        };
-        match self.journal.append_rows(self.alloc, part) {
-            Ok(()) => Ok(copied),
+        match self.log.next_round() {
+            Round::Rests => Step::Rests,
+            Round::Moves => if self.log.position().generation == u64::MAX {
+                Step::Rests
+            } else {
+                Step::Moves
+            },
+            Round::Copies => if self.ready.is_some() {
+                Step::Copies
+            } else {
+                Step::Reads
+            },
+            Round::Seals => Step::Seals,
+        }
+    }
+
+    // Moves the log to the other file.
+    fn begin(&mut self) -> Result<Advanced, LoggerError>
+        ensures done { IfOk result (λ done. done ≡ Goes) }
+        ensures before { (header : LogHeader) (entries : List Entry)
+            → Keeps self.old.log.journal.at (D.Disk.seen self.old.log.journal.disk) (D.Disk.may_leave self.old.log.journal.disk) header entries
+            → 0 < self.old.log.journal.at.newest
+            → IfFree self.old.log.other (OnOk result (Needs self.new.log.other (λ disk. AllAreLogs header entries (D.Disk.may_leave disk)))) }
+        ensures begins { 0 < self.old.log.journal.at.newest → IfFree self.old.log.other (OnOk result (Keeps self.new.log.journal.at
+            (D.Disk.seen self.new.log.journal.disk) (D.Disk.may_leave self.new.log.journal.disk)
+            (continued self.old.log.columns self.old.log.journal.at) [])) }
+        ensures stays { (header : LogHeader) (entries : List Entry)
+            → Keeps self.old.log.journal.at (D.Disk.seen self.old.log.journal.disk) (D.Disk.may_leave self.old.log.journal.disk) header entries
+            → IsTrue (may_ask self.new.log.journal.is_given_up (D.Disk.is_usable self.new.log.journal.disk))
+            → OnErr result (Keeps self.new.log.journal.at (D.Disk.seen self.new.log.journal.disk) (D.Disk.may_leave self.new.log.journal.disk) header entries) }
+        ensures newest { OnOk result (self.new.log.journal.at.newest ≡ self.old.log.journal.at.newest) }
+        ensures changes { (changes : List Change) → HasChanges D.Disk.seen D.Disk.may_leave changes self.old.log
+            → OnOk result (KeepsChanges D.Disk.seen D.Disk.may_leave changes self.new) }
+        ensures recover { (changes : List Change) → HasChanges D.Disk.seen D.Disk.may_leave changes self.old.log
+            → OnErr result (AllRecover D.Disk.may_leave changes self.old.log.journal.at.durable self.old.log.journal.at.generation self.new.log) }
+    {
+        self.ready = None;
+        match self.log.begin() {
+            Ok(()) => Ok(Advanced::Goes),
             Err(error) => Err(LoggerError::Journal(error)),
         }
     }
 
-    /// Writes that the rows that were copied are all, this many. One call of the disk.
-    ///
-    /// # Errors
-    ///
-    /// Those of [`mt_journal::journal::Journal::append_seal`].
-    pub fn seal(&mut self, rows: u64) -> Result<(), JournalError>
-        ensures kept { (header : LogHeader) (entries : List Entry)
-            → Keeps self.old.journal.at (D.Disk.seen self.old.journal.disk) (D.Disk.may_leave self.old.journal.disk) header entries
-            → IsTrue (D.Disk.is_mixing self.new.journal.disk)
-            → OnOk result (Keeps self.new.journal.at (D.Disk.seen self.new.journal.disk) (D.Disk.may_leave self.new.journal.disk) header (with_seal rows entries)) }
-        ensures newest { OnOk result (self.new.journal.at.newest ≡ self.old.journal.at.newest) }
+    // Reads the next rows, with the commits that the log lacks, and writes these.
+    fn read<W: Wait>(&mut self, door: &Door<'_, W>) -> Result<Advanced, LoggerError>
+        ensures reads { IsTrue (D.Disk.is_mixing self.new.log.journal.disk)
+            → Reads D.Disk.seen D.Disk.may_leave D.Disk.is_usable self.old self.new result }
     {
-        self.journal.append_seal(self.alloc, rows)
+        let start = match self.log.start() {
+            Ok(start) => start,
+            Err(refusal) => return Err(LoggerError::Fed(refusal)),
+        };
+        let from = self.position().newest;
+        let Lacking { deltas, part } = match read_lacking(self.alloc, door, from, start) {
+            Ok(Some(read)) => read,
+            Ok(None) => return Ok(Advanced::Waits),
+            Err(refusal) => return Err(LoggerError::Fed(refusal)),
+        };
+        match self.append(&deltas) {
+            Ok(()) => {
+                self.ready = Some(part);
+                Ok(Advanced::Goes)
+            }
+            Err(error) => Err(error),
+        }
     }
 
-    /// Writes that the rows that were copied before are of no checkpoint. One call of the disk.
+    // Copies the rows that were read.
+    fn copy(&mut self) -> Result<Advanced, LoggerError>
+        ensures done { IfOk result (λ done. IfSome self.old.ready (λ part. done ≡ Goes)) }
+        ensures kept { (header : LogHeader) (entries : List Entry)
+            → Keeps self.old.log.journal.at (D.Disk.seen self.old.log.journal.disk) (D.Disk.may_leave self.old.log.journal.disk) header entries
+            → IsTrue (D.Disk.is_mixing self.new.log.journal.disk)
+            → IfSome self.old.ready (λ part. OnOk result (IsAfter (end_of part) (nat_lt (length part.rows) PART) self.old.log.other self.new.log.other
+            × Keeps self.new.log.journal.at (D.Disk.seen self.new.log.journal.disk) (D.Disk.may_leave self.new.log.journal.disk) header
+            (with_part part entries))) }
+        ensures stays { (header : LogHeader) (entries : List Entry)
+            → Keeps self.old.log.journal.at (D.Disk.seen self.old.log.journal.disk) (D.Disk.may_leave self.old.log.journal.disk) header entries
+            → IsTrue (may_ask self.new.log.journal.is_given_up (D.Disk.is_usable self.new.log.journal.disk))
+            → OnErr result (Keeps self.new.log.journal.at (D.Disk.seen self.new.log.journal.disk) (D.Disk.may_leave self.new.log.journal.disk) header entries) }
+        ensures newest { OnOk result (self.new.log.journal.at.newest ≡ self.old.log.journal.at.newest) }
+        ensures changes { (changes : List Change) → KeepsChanges D.Disk.seen D.Disk.may_leave changes self.old
+            → IsTrue (D.Disk.is_mixing self.new.log.journal.disk)
+            → IfNeeded self.old.log.other (λ copied. OnOk result (KeepsChanges D.Disk.seen D.Disk.may_leave changes self.new)) }
+        ensures recover { (changes : List Change) → KeepsChanges D.Disk.seen D.Disk.may_leave changes self.old
+            → IsTrue (D.Disk.is_mixing self.new.log.journal.disk)
+            → IfNeeded self.old.log.other (λ copied. OnErr result (AllRecover D.Disk.may_leave changes self.old.log.journal.at.durable
+            self.old.log.journal.at.generation self.new.log)) }
+    {
+        let Some(part) = self.ready.take() else {
+            return Ok(Advanced::Waits);
+        };
+        match self.log.copy(part) {
+            Ok(()) => Ok(Advanced::Goes),
+            Err(error) => Err(LoggerError::Journal(error)),
+        }
+    }
+
+    // Writes that all rows were copied.
+    fn seal(&mut self) -> Result<Advanced, LoggerError>
+        ensures done { IfNeeded self.old.log.other (λ copied. IfOk result (λ done. done ≡ Advanced.Ends copied)) }
+        ensures sealed { (header : LogHeader) (entries : List Entry)
+            → Keeps self.old.log.journal.at (D.Disk.seen self.old.log.journal.disk) (D.Disk.may_leave self.old.log.journal.disk) header entries
+            → Mixes D.Disk.is_mixing
+            → IfNeeded self.old.log.other (λ copied. OnOk result (IsFree self.new.log.other
+            × AllAreLogs header (with_seal copied entries) (D.Disk.may_leave self.new.log.journal.disk)
+            × Keeps self.new.log.journal.at (D.Disk.seen self.new.log.journal.disk) (D.Disk.may_leave self.new.log.journal.disk) header
+            (with_seal copied entries))) }
+        ensures stays { (header : LogHeader) (entries : List Entry)
+            → Keeps self.old.log.journal.at (D.Disk.seen self.old.log.journal.disk) (D.Disk.may_leave self.old.log.journal.disk) header entries
+            → IsTrue (may_ask self.new.log.journal.is_given_up (D.Disk.is_usable self.new.log.journal.disk))
+            → OnErr result (Keeps self.new.log.journal.at (D.Disk.seen self.new.log.journal.disk) (D.Disk.may_leave self.new.log.journal.disk) header entries) }
+        ensures newest { OnOk result (self.new.log.journal.at.newest ≡ self.old.log.journal.at.newest) }
+        ensures changes { (changes : List Change) → HasChanges D.Disk.seen D.Disk.may_leave changes self.old.log
+            → HasAll self.old.log.other → Mixes D.Disk.is_mixing
+            → OnOk result (KeepsChanges D.Disk.seen D.Disk.may_leave changes self.new) }
+        ensures recover { (changes : List Change) → HasChanges D.Disk.seen D.Disk.may_leave changes self.old.log
+            → HasAll self.old.log.other → Mixes D.Disk.is_mixing
+            → OnErr result (AllRecover D.Disk.may_leave changes self.old.log.journal.at.durable self.old.log.journal.at.generation self.new.log) }
+    {
+        self.ready = None;
+        let rows = self.log.copied();
+        match self.log.seal() {
+            Ok(()) => Ok(Advanced::Ends { rows }),
+            Err(error) => Err(LoggerError::Journal(error)),
+        }
+    }
+
+    /// Makes a step of a checkpoint, by which the log stays short, or begins one if it is due: the log moves to the other file of the
+    /// folder, the next rows are copied there, or it is sealed when all were. Nothing is done if none is due; nor while a change is
+    /// open, or the log lacks more than a thousand commits, if rows are to be read: then it is called again after a [`Logger::write`].
+    /// The rows are read under the lock of the index, together with the commits that the log lacks, which are written before them.
+    /// O(n) in the rows, at most [`mt_folder_log::checkpoint::PART`].
     ///
     /// # Errors
     ///
-    /// Those of [`mt_journal::journal::Journal::append_end`].
-    pub fn give_up_rows(&mut self) -> Result<(), JournalError>
-        ensures kept { (header : LogHeader) (entries : List Entry)
-            → Keeps self.old.journal.at (D.Disk.seen self.old.journal.disk) (D.Disk.may_leave self.old.journal.disk) header entries
-            → IsTrue (D.Disk.is_mixing self.new.journal.disk)
-            → OnOk result (Keeps self.new.journal.at (D.Disk.seen self.new.journal.disk) (D.Disk.may_leave self.new.journal.disk) header (with_end self.old.journal.at entries)) }
-        ensures newest { OnOk result (self.new.journal.at.newest ≡ self.old.journal.at.newest) }
+    /// Those of [`Logger::write`], and those of [`mt_folder_log::log::FolderLog::begin`], `copy` and `seal`. The log stays where it is
+    /// if it couldn't move to the other file.
+    pub fn advance<W: Wait>(&mut self, door: &Door<'_, W>) -> Result<Advanced, LoggerError>
+        ensures { Mixes D.Disk.is_mixing
+            → Advances (next_of self.old) D.Disk.seen D.Disk.may_leave D.Disk.is_usable self.old self.new result }
     {
-        self.journal.append_end(self.alloc)
+        match self.next_step() {
+            Step::Rests => Ok(Advanced::Waits),
+            Step::Moves => self.begin(),
+            Step::Reads => self.read(door),
+            Step::Copies => self.copy(),
+            Step::Seals => self.seal(),
+        }
     }
 }
