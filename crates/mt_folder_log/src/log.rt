@@ -8,7 +8,7 @@ ghost use Rattle.mt_journal.specs.Causes.{may_ask, next_commits, AppendHasCause,
 ghost use Rattle.mt_types.specs.declared.row.Change.{Change};
 ghost use Rattle.mt_folder.specs.Spares.{is_needed};
 ghost use Rattle.mt_folder_log.specs.Folder.{AllRecover, AreNext, HasChanges};
-ghost use Rattle.mt_folder_log.specs.Moving.{disk_of, round_of, IsOfSpare};
+ghost use Rattle.mt_folder_log.specs.Moving.{disk_of, round_of, IfNeeded, IsOfSpare};
 ghost use Rattle.mt_journal.specs.Keeping.{AllAreLogs, AllSurvive, Keeps, StaysDurable};
 
 use crate::checkpoint::{Other, Round};
@@ -92,6 +92,7 @@ impl<D: Disk + Drop> FolderLog<D> {
             (D.Disk.may_leave self.new.journal.disk) }
         ensures columns { self.new.columns ≡ self.old.columns }
         ensures least { self.new.least ≡ self.old.least }
+        ensures other { self.new.other ≡ self.old.other }
         ensures changes { (changes : List Change) → HasChanges D.Disk.seen D.Disk.may_leave changes self.old
             → AreNext self.old.columns changes self.old.journal.at.newest records → IsTrue (D.Disk.is_mixing self.new.journal.disk)
             → OnOk result (HasChanges D.Disk.seen D.Disk.may_leave changes self.new) }
@@ -134,6 +135,7 @@ impl<D: Disk + Drop> FolderLog<D> {
         ensures fewer { (left : List ℕ) → D.Disk.may_leave self.new.journal.disk left → D.Disk.may_leave self.old.journal.disk left }
         ensures columns { self.new.columns ≡ self.old.columns }
         ensures least { self.new.least ≡ self.old.least }
+        ensures other { self.new.other ≡ self.old.other }
         ensures changes { (changes : List Change) → HasChanges D.Disk.seen D.Disk.may_leave changes self.old
             → OnOk result (HasChanges D.Disk.seen D.Disk.may_leave changes self.new) }
         ensures recover { (changes : List Change) → HasChanges D.Disk.seen D.Disk.may_leave changes self.old
@@ -169,6 +171,16 @@ impl<D: Disk + Drop> FolderLog<D> {
                 }
             }
             Other::Gone => Round::Rests,
+        }
+    }
+
+    /// Returns how many rows were copied, of a checkpoint that is in progress.
+    pub fn copied(&self) -> u64
+        ensures { IfNeeded self.now.other (λ copied. result ≡ copied) }
+    {
+        match &self.other {
+            Other::Needed { copied, .. } => *copied,
+            _ => 0,
         }
     }
 

@@ -12,10 +12,11 @@ use Rattle.mt_commit.proofs.DeltaLemmas.{deltas_of-length}
 use Rattle.mt_index.specs.Stands.{MachineView, Stands}
 use Rattle.mt_promise.specs.History.{History, moment, rows}
 use Rattle.mt_replay.specs.Replay.{record_of}
-use Rattle.mt_map_folder.specs.Changes.{AreFirstOf, KeepsChanges}
+use Rattle.mt_folder_log.specs.Made.{AreFirstOf}
+use Rattle.mt_map_folder.specs.Changes.{KeepsChanges}
 use Rattle.mt_map_folder.specs.Written.{left_after}
 use Rattle.mt_map_folder.specs.declared.log.MapLog.{MapLog}
-use Rattle.mt_map_folder.proofs.MadeLemmas.{rows_made}
+use Rattle.mt_folder_log.proofs.MadeLemmas.{rows_made}
 use Rattle.mt_store.proofs.ExtendLemmas.{made_from}
 use Rattle.mt_lives.specs.Lives.{AreFront, HasLived}
 use Rattle.mt_lives.specs.Turns.{AnswersAs, Leads, LeadsAll, Reached}

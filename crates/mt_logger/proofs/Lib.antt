@@ -1,2 +1,3 @@
-pub mod CopyLemmas
 pub mod WriteLemmas
+mod FollowLemmas
+mod StepLemmas

@@ -1,3 +1,5 @@
--- The commits of a shared index in a log: what is written of them, and of its rows.
+-- The commits of a shared index in a log: what is written of them, what a checkpoint does, and which changes the folder keeps.
 pub mod Writing
-pub mod Copying
+pub mod Following
+pub mod Reading
+pub mod Rounds

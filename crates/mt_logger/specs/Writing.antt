@@ -52,3 +52,9 @@ WriteFails at asks old new (Journal NoMemory) = new ≡ old
 WriteFails at asks old new (Journal error) =
     (deltas : List Delta) × AreFed at.newest deltas
     × AppendHasCause {T = List Delta} (Err error) asks (AreTooLong at (map record_of deltas)) old new
+
+-- why these records weren't written
+abbrev pub AppendFails : Position → List Record → Bool → ℕ → ℕ → LoggerError → Type 0
+AppendFails at records asks old new (Fed refusal) = ⊥
+AppendFails at records asks old new (Journal NoMemory) = new ≡ old
+AppendFails at records asks old new (Journal error) = AppendHasCause {T = List Record} (Err error) asks (AreTooLong at records) old new

@@ -1,6 +1,7 @@
-//! The commits of an index that many threads share, in a log on a disk. README.md describes it.
+//! The commits of an index that many threads share, in the log of a folder. README.md describes it.
 #![tactic(auto)]
 
-pub mod copying;
+pub mod checkpoint;
 pub mod error;
 pub mod logger;
+mod reading;

@@ -1,12 +1,13 @@
 //! The thread of the log: it writes the commits of all workers, and syncs them in groups.
 
-use crate::checkpointing::{Checkpoints, Round, may_pass};
+use crate::checkpointing::may_pass;
 use crate::gauge::Gauge;
 use crate::watching::Watch;
+use mt_folder_log::log::FolderLog;
 use mt_host::durability::{DiskState, Durability, Syncing};
 use mt_host::report::{LogCause, Report};
 use mt_journal::error::JournalError;
-use mt_journal::journal::Journal;
+use mt_logger::checkpoint::Advanced;
 use mt_logger::error::LoggerError;
 use mt_logger::logger::Logger;
 use mt_shared::door::Door;
@@ -35,21 +36,14 @@ const LAST_TRIES: u32 = 500;
 pub struct Log<D: Disk + Drop> {
     pub logger: Logger<D>,
     pub syncing: Syncing,
-    pub(crate) checkpoints: Checkpoints<D>,
 }
 
 impl<D: Disk + Drop> Log<D> {
-    /// Returns what continues this log, and syncs and shortens it so.
-    pub fn new(
-        alloc: Global,
-        journal: Journal<D>,
-        syncing: Syncing,
-        checkpoints: Checkpoints<D>,
-    ) -> Log<D> {
+    /// Returns what continues this log, and syncs it so.
+    pub fn new(alloc: Global, log: FolderLog<D>, syncing: Syncing) -> Log<D> {
         Log {
-            logger: Logger::new(alloc, journal),
+            logger: Logger::new(alloc, log),
             syncing,
-            checkpoints,
         }
     }
 }
@@ -216,10 +210,10 @@ fn shorten<R: Wait + Clock + Eprint, D: Disk + Drop>(
     door: &Door<'_, R>,
     log: &mut Log<D>,
 ) -> Option<bool> {
-    match log.move_on(door, gauge.index.columns()) {
-        Ok(Round::Waits) => Some(false),
-        Ok(Round::Goes) => Some(true),
-        Ok(Round::Ends { rows }) => {
+    match log.move_on(door) {
+        Ok(Advanced::Waits) => Some(false),
+        Ok(Advanced::Goes) => Some(true),
+        Ok(Advanced::Ends { rows }) => {
             let commits = log.logger.position().newest;
             gauge
                 .reporter
@@ -277,9 +271,8 @@ fn keep<R: Wait + Clock + Files + Eprint, D: Disk + Drop>(
             return false;
         };
         last = synced;
-        let at = log.logger.position();
         if is_ending {
-            if at.durable >= gauge.commits() {
+            if log.logger.position().durable >= gauge.commits() {
                 return true;
             }
             continue;
@@ -288,6 +281,7 @@ fn keep<R: Wait + Clock + Files + Eprint, D: Disk + Drop>(
             return false;
         };
         if !goes_on {
+            let at = log.logger.position();
             pause(gauge, durability, at.durable < at.newest);
         }
     }

@@ -22,8 +22,9 @@ use Rattle.mt_folder_log.specs.declared.checkpoint.TheConstants.{PART}
 use Rattle.mt_folder_log.specs.Folder.{AllRecover, AreNext, HasAll, HasChanges}
 use Rattle.mt_folder_log.proofs.ChangeLemmas.{recovers}
 use Rattle.mt_index.specs.Stands.{MachineView}
-use Rattle.mt_map_folder.specs.Changes.{AreFirstOf, KeepsChanges}
-use Rattle.mt_map_folder.proofs.MadeLemmas.{records_made, rows_made}
+use Rattle.mt_map_folder.specs.Changes.{KeepsChanges}
+use Rattle.mt_folder_log.specs.Made.{AreFirstOf}
+use Rattle.mt_folder_log.proofs.MadeLemmas as lemmas
 use Rattle.mt_map_folder.specs.declared.log.MapLog.{MapLog}
 use Rattle.mt_folder_log.specs.Moving.{round_of, IfNeeded}
 use Rattle.mt_map_folder.specs.Written.{entries_with, left_after}
@@ -31,33 +32,10 @@ use Rattle.mt_frame.specs.declared.entry.Entry.{Entry}
 use Rattle.mt_journal.specs.declared.position.Position.{Position}
 use Rattle.mt_journal.specs.Appending.{with_commits}
 
--- some of the items after the first n, of the first k
-front_of : {A : Type 0} (most n k : ℕ) (xs : List A) → take most (drop n (take k xs)) ≡ take (length (take most (drop n (take k xs)))) (drop n xs)
-front_of {A} most n k xs = elim (leb_tells n (length (take k xs))) [
-  | inl within ↦
-      let a = take k xs in
-      let b = drop k xs in
-      let some = take most (drop n a) in
-      let dropped : drop n xs ≡ drop n a ++ b = ap (drop n) (sym (take-append-drop k xs)) ∙ drop-append-le n a b within.1 in
-      let parts : drop n xs ≡ some ++ (drop most (drop n a) ++ b) =
-      dropped ∙ ap (λ (l : List A). l ++ b) (sym (take-append-drop most (drop n a))) ∙ append_assoc some (drop most (drop n a)) b in
-      sym (take_at some (drop most (drop n a) ++ b) (length some) refl) ∙ ap (take (length some)) (sym parts)
-  | inr beyond ↦
-      let none : take most (drop n (take k xs)) ≡ [] = ap (take most) (drop_all n (take k xs) (omega (arith, beyond.1))) ∙ take_all most [] (omega arith) in
-      none ∙ ap (λ (l : List A). take (length l) (drop n xs)) (sym none)
-]
-
 module _ (C : ℕ) (changes : List Change) (h : History) (n : ℕ) (made : AreFirstOf C changes (moment h).commits) where
   -- what the next commits of the map left is that of the next changes
   pub next_records : length made.before ≤ n → AreNext C changes n (left_after C n h)
-  next_records opened =
-      let commits = (moment h).commits in
-      let all = records_of C changes in
-      let own : drop n (records_of C commits) ≡ drop n (take (length commits) all) =
-      records_made C changes commits made n opened ∙ ap (drop n) (sym (records_taken C (length commits) changes)) in
-      let is : left_after C n h ≡ take MAX_RANGE (drop n (take (length commits) all)) =
-      sym (ap (take MAX_RANGE) (drop-map record_of n (deltas_of C commits)) ∙ take-map record_of MAX_RANGE (drop n (deltas_of C commits))) ∙ ap (take MAX_RANGE) own in
-      is ∙ front_of MAX_RANGE n (length commits) all ∙ ap (λ (l : List Record). take (length l) (drop n all)) (sym is)
+  next_records opened = lemmas.next_records C changes (moment h).commits n made MAX_RANGE opened
 
   pub few_records : n ≤ length (moment h).commits → n + length (left_after C n h) ≤ length (moment h).commits
   few_records le =
@@ -66,8 +44,7 @@ module _ (C : ℕ) (changes : List Change) (h : History) (n : ℕ) (made : AreFi
 
   -- its rows are those after all of them
   pub next_rows : (start : List ℕ) (pairs : List (List ℕ × Row)) → n ≡ length (moment h).commits → IsRangeOfMap (rows C (moment h)) [] start PART pairs → IsRangeOfMap (after C (take n changes)) [] start PART pairs
-  next_rows start pairs all range =
-      subst (λ (map : Rows). IsRangeOfMap map [] start PART pairs) (rows_made C changes (moment h).commits made ∙ ap (λ (k : ℕ). after C (take k changes)) (sym all)) range
+  next_rows start pairs all range = lemmas.next_rows C changes (moment h).commits n made start PART pairs all range
 
 -- ---- by the round that is made
 neither : (b : Bool) → Copies ≡ (if b then Moves else Rests) → ⊥

@@ -1,21 +1,11 @@
 -- THE CHANGES OF A MAP whose rows are in a folder.
-use Rattle.std.specs.Prelude.{◌≡◌, ◌≤◌, ℕ, List, ◌++◌, length, take}
-use Rattle.mt_types.specs.Rows.{after}
+use Rattle.std.specs.Prelude.{◌≡◌, ◌≤◌, ℕ, List, length}
 use Rattle.mt_types.specs.declared.row.Change.{Change}
 use Rattle.mt_promise.specs.History.{History, moment}
 use Rattle.mt_index.specs.Stands.{MachineView, Stands}
 use Rattle.mt_folder_log.specs.Folder.{HasChanges}
+use Rattle.mt_folder_log.specs.Made.{AreFirstOf}
 use Rattle.mt_map_folder.specs.declared.log.MapLog.{MapLog}
-
--- THESE COMMITS ARE THE FIRST OF THE CHANGES. Those by which the map was loaded may be others, as many, which made the same rows
-pub record AreFirstOf (C : ℕ) (changes commits : List Change) : Type 0 where
-  pub loaded : List Change
-  pub before : List Change
-  pub more : List Change
-  pub commits_are : commits ≡ loaded ++ more
-  pub changes_are : take (length commits) changes ≡ before ++ more
-  pub as_many : length loaded ≡ length before
-  pub same_rows : after C loaded ≡ after C before
 
 -- THE MAP HAS MADE THE FIRST OF THESE CHANGES, and the folder keeps those that its log has, the first of the map's at most
 pub record KeepsChanges {D : Type 0} (seen : D → List ℕ) (may_leave : D → List ℕ → Type 0) (changes : List Change) (s : MachineView) (log : MapLog D) : Type 0 where

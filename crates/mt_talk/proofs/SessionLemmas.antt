@@ -10,14 +10,14 @@ use Rattle.mt_wire.specs.declared.server.ServerQuery.{ServerQuery}
 use Rattle.mt_wire.specs.declared.server.ServerQuery.TheVariants.{Hello, Ping, Info, Views, Wait, Stop}
 use Rattle.mt_wire.specs.declared.frame.Frame.{Frame}
 use Rattle.mt_wire.specs.Frames.{RequestsFit, request_frame, IsBegun, FaultStands}
-use Rattle.mt_wire.proofs.ReadingLaws.{request_frames_read_one_way, frame_stands_alone}
+use Rattle.mt_wire.proofs.ReadingLaws.{request_frames_read_one_way, frame_stands_alone, fault_stays}
 use Rattle.mt_talk.specs.declared.tokens.Token.{Token}
 use Rattle.mt_talk.specs.declared.server.Keeper.{Keeper}
 use Rattle.mt_talk.specs.declared.serving.Server.{Server}
 use Rattle.mt_talk.specs.Serving.{alone, may_all, TurnsAway, Greets, Allows, KeepsAlone}
 use Rattle.mt_talk.specs.Frames.{ServesFrame}
-use Rattle.mt_talk.specs.Laws.{Talk, Step, Came, Took, Went, Lead, asked, requests_of}
-use Rattle.mt_talk.specs.Sessions.{FrameLaw, IsRoleFor, ServesOne, ServesAmong, AloneIsAmong, HasNoFront, UnfinishedHasNoFront, SameBytesSameFrames}
+use Rattle.mt_talk.specs.Laws.{Talk, Step, Came, Took, Went, Lead, asked, went, requests_of}
+use Rattle.mt_talk.specs.Sessions.{FrameLaw, IsRoleFor, ServesOne, ServesAmong, AloneIsAmong, HasNoFront, UnfinishedHasNoFront, SameBytesSameFrames, FaultsEndTalks}
 use Rattle.mt_talk.proofs.TalkLemmas.{talks_are_streams}
 
 -- ---- only the role and the stop of a server may change
@@ -122,6 +122,19 @@ same_bytes_same_frames v w steps others one two same none other =
     let a = talks_are_streams v steps one in
     let b = talks_are_streams w others two in
     one_way (asked steps) (asked others) v.bytes w.bytes a.2 b.2 (sym a.0 ∙ same ∙ b.0) none other
+
+-- ---- after a fault
+pub faults_end_talks : FaultsEndTalks
+faults_end_talks v w [] fault stands same =
+    (refl, sym (ap (λ (x : Talk). x.output) same), subst (λ (x : Talk). FaultStands fault x.bytes) (sym same) stands)
+faults_end_talks v w (Came piece ∷ steps) fault stands (m, goes, more) =
+    let then = faults_end_talks m w steps fault (subst (FaultStands fault) (sym goes.0) (fault_stays fault v.bytes piece stands)) more in
+    (then.0, sym goes.1 ∙ then.1, then.2)
+faults_end_talks v w (Took frame reply ∷ steps) fault stands (m, goes, more) =
+    absurd ((frame_stands_alone frame m.bytes goes.0).1 fault (subst (FaultStands fault) goes.1 stands))
+faults_end_talks v w (Went bytes ∷ steps) fault stands (m, goes, more) =
+    let then = faults_end_talks m w steps fault (subst (FaultStands fault) (sym goes.1) stands) more in
+    (then.0, goes.0 ∙ ap (λ (rest : List ℕ). bytes ++ rest) then.1 ∙ sym (append_assoc bytes (went steps) w.output), then.2)
 
 -- ---- what is said of each frame that is left to what is inside
 pub frame_as : {A S P : Type 0} (f g : FrameLaw A S P) → ((a : A) (s : S) (p : P) (frame : Frame Query) (reply : Frame Response) (b : A) (t : S) (q : P) → f a s p frame reply b t q → g a s p frame reply b t q)

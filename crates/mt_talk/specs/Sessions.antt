@@ -1,5 +1,5 @@
 -- A WHOLE SESSION OF A SERVER: any list of its calls, alone or among other sessions.
-use Rattle.std.specs.Prelude.{◌≡◌, ◌⊎◌, ℕ, List, [], ◌∷◌, Option, Some}
+use Rattle.std.specs.Prelude.{◌≡◌, ◌⊎◌, ℕ, List, [], ◌∷◌, ◌++◌, Option, Some}
 use Rattle.mt_types.specs.declared.limits.TheConstants.{MAX_REQUEST_BODY}
 use Rattle.mt_wire.specs.declared.query.Query.{Query}
 use Rattle.mt_wire.specs.declared.response.Response.{Response}
@@ -15,7 +15,7 @@ use Rattle.mt_talk.specs.Turns.{HasFront}
 use Rattle.mt_talk.specs.Tokens.{first_role}
 use Rattle.mt_talk.specs.Serving.{alone}
 use Rattle.mt_talk.specs.Frames.{ServesFrame}
-use Rattle.mt_talk.specs.Laws.{Talk, Step, Came, Took, Went, Goes, Lead, came, asked}
+use Rattle.mt_talk.specs.Laws.{Talk, Step, Came, Took, Went, Goes, Lead, came, went, asked}
 
 -- what a frame does to what answers it, to what is shared and to the pass, with this reply
 abbrev pub FrameLaw : Type 0 → Type 0 → Type 0 → Type 1
@@ -101,3 +101,9 @@ SameBytesSameFrames =
     (v w : Talk) (steps others : List Step) → Lead fresh steps v → Lead fresh others w
     → came steps ≡ came others → HasNoFront v.bytes → HasNoFront w.bytes
     → (asked steps ≡ asked others) × (v.bytes ≡ w.bytes)
+
+-- AT A FAULT nothing more is answered, whatever bytes come: what was to go goes, and the fault stays.
+abbrev pub FaultsEndTalks : Type 0
+FaultsEndTalks =
+    (v w : Talk) (steps : List Step) (fault : WireFault) → FaultStands fault v.bytes → Lead v steps w
+    → (asked steps ≡ []) × (v.output ≡ went steps ++ w.output) × FaultStands fault w.bytes

@@ -2,7 +2,7 @@
 
 ghost use Rattle.mt_talk.specs.Laws.{TalksAreStreams};
 ghost use Rattle.mt_talk.specs.Frames.{ClosedIsBlind, FullGrowNothing, HinderedKeepRows, ReadersRead};
-ghost use Rattle.mt_talk.specs.Sessions.{AloneIsAmong, SameBytesSameFrames, UnfinishedHasNoFront};
+ghost use Rattle.mt_talk.specs.Sessions.{AloneIsAmong, FaultsEndTalks, SameBytesSameFrames, UnfinishedHasNoFront};
 ghost use Rattle.mt_talk.specs.Clients.{ClosedClientsAreBlind, ClosedClientsAreOne, ClosedSessionsAreBlind, ReadingClientsRead, ReadingSessionsRead};
 
 use crate::talk::Answers;
@@ -46,6 +46,12 @@ pub fn sessions_alone_are_among_others<S, P, A: Answers<S, P>>()
 pub fn same_bytes_are_the_same_frames()
     ensures unfinished { UnfinishedHasNoFront }
     ensures same { SameBytesSameFrames }
+{}
+
+/// A bad frame is followed by nothing: if a fault is at the front, no later call answers a frame, whatever bytes come. What
+/// is to go goes, and the fault stays.
+pub fn faults_end_talks()
+    ensures { FaultsEndTalks }
 {}
 
 /// Until a hello with a right secret comes, a session alone leaves what is inside the server, what is shared and the pass as

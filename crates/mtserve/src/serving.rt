@@ -6,15 +6,15 @@ use crate::command_line::{Settings, WITHOUT_END};
 use crate::tokens::{TokenError, read_tokens};
 use mt_folder::error::FolderError;
 use mt_folder::files::{FileDisk, open_folder};
-use mt_folder::opening::{OpenedLog, Spare};
+use mt_folder::opening::OpenedLog;
 use mt_folder::reading::RowsRead;
+use mt_folder_log::log::FolderLog;
 use mt_host::address::Address;
 use mt_host::durability::Syncing;
 use mt_host::limits::Limits;
 use mt_host::reporting::Reporter;
 use mt_index::options::Options;
 use mt_load::error::LoadError;
-use mt_loop::checkpointing::Checkpoints;
 use mt_loop::logging::Log;
 use mt_loop::serving::{Access, Ended, Plan, serve};
 use mt_shared::map::SharedMap;
@@ -22,7 +22,7 @@ use mt_shared::pass::Pass;
 use mt_shared::settling::Totals;
 use mt_types::limits::{MAX_LOG_RETENTION, open_fault};
 use mt_types::refusal::Refusal;
-use std::alloc::{AllocError, Global};
+use std::alloc::Global;
 use std::net::{Ipv4Addr, Net, SocketAddr};
 use std::random::RandomSource;
 use std::rt::Files;
@@ -153,21 +153,6 @@ pub struct Manner<'a> {
 
 type FileLog = Log<FileDisk>;
 
-// What shortens the log: it continues in the spare file when it has `least` bytes more, and as many more as its rows take.
-fn checkpoints_of(
-    alloc: Global,
-    spare: Spare<FileDisk>,
-    least: usize,
-) -> Result<Checkpoints<FileDisk>, FolderError> {
-    match spare {
-        Spare::Free { disk, size } => Ok(Checkpoints::new(alloc, disk, least, size)),
-        Spare::Needed { disk } => match Checkpoints::resumed(alloc, disk, least) {
-            Ok(checkpoints) => Ok(checkpoints),
-            Err(_) => Err(FolderError::from(AllocError)),
-        },
-    }
-}
-
 // Opens the index: with the rows of the folder, and the log to which its commits go, or an empty one.
 fn open_index<R: Threads + Wait>(
     host: &HostRuntime,
@@ -190,15 +175,19 @@ fn open_index<R: Threads + Wait>(
     ) {
         return Err(ServeError::Index(refusal));
     }
-    let least = settings.checkpoint as usize;
+    let columns = options.columns as u8;
     let OpenedLog {
         journal,
         read,
         spare,
         ..
-    } = open_folder(host, folder, options.columns as u8)?;
-    let checkpoints = checkpoints_of(alloc, spare, least)?;
-    let log = Log::new(alloc, journal, syncing, checkpoints);
+    } = open_folder(host, folder, columns)?;
+    let least = settings.checkpoint as usize;
+    let log = Log::new(
+        alloc,
+        FolderLog::new(alloc, columns, journal, spare, least),
+        syncing,
+    );
     let RowsRead { rows, commits } = read;
     match SharedMap::load(alloc, options, rows, commits, passes) {
         Ok((index, passes)) => Ok((index, passes, Some(log))),

@@ -8,7 +8,7 @@ use Rattle.mt_journal.specs.Keeping.{Keeps}
 use Rattle.mt_promise.specs.History.{moment}
 use Rattle.mt_types.specs.Rows.{after}
 use Rattle.mt_map_folder.proofs.CleanLemmas.{rows_left, spare_clean}
-use Rattle.mt_map_folder.proofs.MadeLemmas.{made_none, made_of, BeginsAt}
+use Rattle.mt_folder_log.proofs.MadeLemmas.{made_none, made_of, BeginsAt}
 use Rattle.mt_map_folder.proofs.OpenLemmas.{begun_of, continued_either, nothing_read, unneeded}
 use Rattle.mt_map_folder.proofs.opening.open.Goals as goal
 
