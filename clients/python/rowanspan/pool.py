@@ -57,7 +57,7 @@ class Pool(Asker):
         self._size, self._timeout, self._token, self._name = size, timeout, token, name
         # guards all below
         self._changed = threading.RLock()
-        # the calls that wait for a connection, in the order in which they came; each is told when it may be its turn
+        # the calls that wait for a connection, in the order in which they came; each is woken when it may be its turn
         self._waiting: Deque[threading.Condition] = deque()
         # those that no call uses; the one that was used last is the last
         self._idle: List[Client] = []
