@@ -1,6 +1,6 @@
 //! How a life of a map whose rows are in a folder begins.
 
-ghost use Rattle.std.specs.Prelude.{ℕ, List, IfOk};
+ghost use Rattle.std.specs.Prelude.{◌≡◌, ℕ, List, IfOk};
 ghost use Rattle.mt_types.specs.declared.row.Change.{Change};
 ghost use Rattle.mt_journal.specs.Recovery.{Mixes};
 ghost use Rattle.mt_map_folder.specs.Read.{AreClean};
@@ -28,9 +28,11 @@ pub fn begin_life<D: Disk + Drop>(
     options: Options,
     least: usize,
 ) -> Result<OpenedMap<D>, OpenError>
-    ensures { (changes : List Change) (n : ℕ) → HasFirst options.columns changes n (D.Disk.seen even) (D.Disk.seen odd)
+    ensures begins { (changes : List Change) (n : ℕ) → HasFirst options.columns changes n (D.Disk.seen even) (D.Disk.seen odd)
         → Mixes D.Disk.is_mixing → IfOk result (λ opened. AreClean D.Disk.is_clean opened.log
         → HasLived D.Disk.seen D.Disk.may_leave options.columns (opened_at changes n) opened.map.machine opened.log) }
+    ensures least { IfOk result (λ opened. opened.log.log.least ≡ least) }
+    ensures tidies { IfOk result (λ opened. opened.map.tidies ≡ options.tidies) }
 {
     open(alloc, even, odd, options, least)
 }

@@ -67,6 +67,7 @@ pub fn open<D: Disk + Drop>(
         → IfOk result (λ opened. AreClean D.Disk.is_clean opened.log → (opened.log.log.journal.at.newest ≡ n)
         × KeepsChanges D.Disk.seen D.Disk.may_leave changes opened.map.machine opened.log) }
     ensures durable { IfOk result (λ opened. opened.log.log.journal.at.durable ≡ opened.log.log.journal.at.newest) }
+    ensures least { IfOk result (λ opened. opened.log.log.least ≡ least) }
     ensures tidies { IfOk result (λ opened. opened.map.tidies ≡ options.tidies) }
     ensures fault { MatchOption (open_fault options.columns options.log_capacity options.log_retention) (Unit {0})
         (λ refusal. result ≡ Err (Refused refusal)) }
