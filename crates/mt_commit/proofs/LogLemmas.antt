@@ -1,5 +1,5 @@
 -- What the calls of a log leave as it has to be.
-use Rattle.std.proofs.Common.{◌≡◌, ℕ, zero, suc, ◌+◌, ◌-◌, ◌^◌, ◌<◌, ◌≤◌, true, false, List, [], ◌∷◌, ◌++◌, length, drop, min, max, Some, ap, sym, ◌∙◌, subst, arith, length-append, length-drop}
+use Rattle.std.proofs.Common.{◌≡◌, ℕ, zero, suc, ◌+◌, ◌-◌, ◌^◌, ◌<◌, ◌≤◌, true, false, List, [], ◌∷◌, ◌++◌, length, drop, min, Some, ap, sym, ◌∙◌, subst, arith, length-append, length-drop}
 use Rattle.std.specs.Prelude.{All, slice_get, cond, nat_le, ◌==◌}
 use Rattle.std.specs.List.{AllByRecursion}
 use Rattle.std.proofs.lemmas.List.Elements.{All-from_recursion, recursion_from_All, All-weaker}
@@ -165,3 +165,22 @@ begun_log log number is unheld fits = record {
   kept = omega arith;
   fits = omega (arith, fits);
 }
+
+Numbered-before : (n : ℕ) (deltas : List Delta) (delta : Delta) → Numbered n (deltas ++ delta ∷ []) → Numbered n deltas
+Numbered-before n [] delta numbered = tt
+Numbered-before n (d ∷ deltas) delta numbered = (numbered.0, Numbered-before (n + 1) deltas delta numbered.1)
+
+-- a log that keeps all, once its newest delta is taken back
+pub taken_log : (log : LogView) (deltas : List Delta) (delta : Delta) (rows : ℕ) → IsLog log → log.base ≡ log.held_after → All (λ holder. holder < newest log) log.holders → log.deltas ≡ deltas ++ delta ∷ []
+    → IsLog (record log { deltas = deltas; rows = rows })
+taken_log log deltas delta rows is keeps unheld e =
+    let long : length log.deltas ≡ length deltas + 1 = ap length e ∙ length-append deltas (delta ∷ []) in
+    let fits = is.fits in
+    record {
+      numbered = Numbered-before log.held_after deltas delta (subst (Numbered log.held_after) e is.numbered);
+      holders_from = is.holders_from;
+      holders_to = All-weaker (λ n. n < newest log) (λ n. n ≤ log.held_after + length deltas) (λ n h. omega (arith, long, h)) log.holders unheld;
+      begun = is.begun;
+      kept = omega (arith, keeps);
+      fits = omega (arith, long, fits);
+    }

@@ -8,6 +8,7 @@ use Rattle.mt_types.specs.declared.row.Row.{Row}
 use Rattle.mt_types.specs.declared.refusal.Refusal.{Refusal}
 use Rattle.mt_types.specs.declared.refusal.Refusal.TheVariants.{FeedFull, Spent}
 use Rattle.mt_commit.specs.declared.effect.Effect.{Effect}
+use Rattle.mt_commit.specs.declared.log.Keeping.{Keeping}
 use Rattle.mt_commit.specs.declared.effect.Effect.TheVariants.{Adds, Keeps, Removes}
 
 pub record LogView : Type 0 where
@@ -72,6 +73,18 @@ trimmed log =
 -- the log that begins again after this number of commits, and has none of their deltas
 abbrev pub begun_after : ℕ → LogView → LogView
 begun_after number log = record log { base = number; held_after = number; deltas = [] }
+
+-- what a log keeps for no reader
+abbrev pub keeping : LogView → Keeping
+keeping log = record { base = log.base; retention = log.retention }
+
+-- the log that keeps so much for no reader, before it is trimmed
+abbrev pub kept_as : Keeping → LogView → LogView
+kept_as keeping log = record log { base = keeping.base; retention = keeping.retention }
+
+-- the log that keeps for no reader what it has, and whatever comes
+abbrev pub keeping_all : LogView → LogView
+keeping_all log = record log { base = log.held_after; retention = greatest_number }
 
 -- no delta stays in it: nobody holds it, and it keeps none
 abbrev pub IsUnread : LogView → Type 0

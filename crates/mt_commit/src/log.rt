@@ -1,6 +1,6 @@
 //! The log of commits: a queue of deltas, the numbers from which it is held, and the room that was reserved.
 
-ghost use Rattle.std.specs.Prelude.{◌≡◌, ◌↔◌, ◌+◌, ◌-◌, ◌^◌, ◌<◌, ◌≤◌, [], length, drop, IsTrue, IfErr, IsErrOf, None, OnOk, OnErr, MatchOption, Contains, slice_get};
+ghost use Rattle.std.specs.Prelude.{◌≡◌, ◌↔◌, ◌+◌, ◌-◌, ◌^◌, ◌<◌, ◌≤◌, ◌++◌, ◌∷◌, [], All, length, drop, IsTrue, IfErr, IsErrOf, None, OnOk, OnErr, MatchOption, Contains, slice_get};
 ghost use Rattle.std.specs.VecDeque.{deque_capacity};
 ghost use Rattle.mt_types.specs.declared.row.Delta.{Delta as DeltaView};
 
@@ -14,6 +14,13 @@ use std::marker::Model;
 
 /// The most holders of a log, each number counted as often as it is held. `Log::pin` requires that there are fewer.
 pub const MAX_HOLDERS: u64 = u64::MAX;
+
+/// What a log keeps for no reader: the last `retention` deltas, but none up to the number `base`, after which it began.
+#[derive(Clone, Copy, Debug, PartialEq, Eq)]
+pub struct Keeping {
+    base: u64,
+    retention: u64,
+}
 
 /// The deltas of the last commits. Commits are numbered from 1 in the order in which they are appended, and what came
 /// before the deltas that are here was trimmed.
@@ -54,7 +61,7 @@ fn drop_front(deltas: &mut VecDeque<Delta>, count: u64)
 }
 
 impl Log {
-    ghost use Rattle.mt_commit.specs.Log.{LogView, IsLog, newest, slowest, delta_of, reserve_fault, with_delta, trimmed, begun_after, kept_after, effect_of, IsUnread};
+    ghost use Rattle.mt_commit.specs.Log.{LogView, IsLog, newest, slowest, delta_of, reserve_fault, with_delta, trimmed, begun_after, kept_after, effect_of, IsUnread, keeping, keeping_all, kept_as};
     ghost use Rattle.mt_commit.specs.Holders.{with_holder, without_holder};
 
     /// Returns the log before any commit. It is to hold at most `capacity` deltas for its slowest reader, and to keep the
@@ -101,9 +108,10 @@ impl Log {
         self.held_after
     }
 
-    /// Returns how many rows there are after the newest commit.
+    /// Returns how many rows there are after the newest commit. Each has a commit of its own.
     pub fn rows(&self) -> u64
-        ensures { result ≡ self.now.rows }
+        ensures value { result ≡ self.now.rows }
+        ensures few { result ≤ newest self.now }
     {
         self.rows
     }
@@ -251,6 +259,52 @@ impl Log {
         self.deltas.clear();
         self.base = number;
         self.held_after = number;
+    }
+
+    /// Keeps each delta from here on, also for no reader, until [`Log::keep_as`] says otherwise. So what follows can be taken
+    /// back. Returns what the log kept for no reader.
+    pub fn keep_all(&mut self) -> Keeping
+        ensures before { result ≡ keeping self.old }
+        ensures after { self.new ≡ keeping_all self.old }
+        ensures sound { IsLog self.new }
+    {
+        let before = Keeping {
+            base: self.base,
+            retention: self.retention,
+        };
+        self.base = self.held_after;
+        self.retention = u64::MAX;
+        before
+    }
+
+    /// Keeps so many deltas for no reader again as before [`Log::keep_all`], and drops the others that no reader holds.
+    /// O(n + log m) in the deltas that are dropped and the numbers that are held.
+    pub fn keep_as(&mut self, keeping: Keeping)
+        requires begun { keeping.base ≤ self.old.held_after }
+        requires kept { self.old.held_after ≤ kept_after (kept_as keeping self.old) (newest self.old) }
+        ensures after { self.new ≡ trimmed (kept_as keeping self.old) }
+        ensures sound { IsLog self.new }
+    {
+        self.base = keeping.base;
+        self.retention = keeping.retention;
+        self.trim();
+    }
+
+    /// Takes the newest delta out of a log that keeps all, and returns it. There are `rows` rows then.
+    pub fn take_back(&mut self, rows: u64) -> Delta
+        requires here { self.old.held_after < newest self.old }
+        requires keeps { self.old.base ≡ self.old.held_after }
+        requires unheld { All (λ holder. holder < newest self.old) self.old.holders }
+        requires few { rows < newest self.old }
+        ensures delta { self.old.deltas ≡ self.new.deltas ++ result ∷ [] }
+        ensures after { self.new ≡ record self.old { deltas = self.new.deltas; rows = rows } }
+        ensures sound { IsLog self.new }
+    {
+        let Some(delta) = self.deltas.pop_back() else {
+            unreachable!()
+        };
+        self.rows = rows;
+        delta
     }
 
     /// Drops the deltas that no reader holds, except the last ones, which the log keeps in any case. The queue keeps
