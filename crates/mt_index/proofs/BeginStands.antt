@@ -1,5 +1,5 @@
 -- Each begin leads from a machine at a history to a machine at the next one.
-use Rattle.std.proofs.Common.{true, false, ℕ, ◌≡◌, ◌+◌, inl, inr, List, [], ◌∷◌, ◌++◌, length, Option, Some, None, refl, sym, ap, subst, ◌∙◌, arith, ◌-◌, Bool, cond, ◌<◌}
+use Rattle.std.proofs.Common.{true, false, ℕ, ◌≡◌, ◌+◌, inl, inr, List, [], ◌∷◌, ◌++◌, length, Option, Some, None, refl, sym, ap, subst, ◌∙◌, arith, Bool, cond, ◌<◌}
 use Rattle.mt_tree.specs.Seen.{arena_seen}
 use Rattle.std.specs.Prelude.{min, nat_le, count_by}
 use Rattle.mt_types.specs.declared.refusal.Refusal.{Refusal}

@@ -1,5 +1,5 @@
 -- An event that commits nothing, begins and ends no call and changes no view leaves what is true of the machine.
-use Rattle.std.proofs.Common.{ℕ, ◌≡◌, ◌≤◌, ◌-◌, inl, List, ◌∷◌, ◌++◌, length, Some, sym, ap, subst, ◌∙◌, arith, drop, map}
+use Rattle.std.proofs.Common.{ℕ, ◌≡◌, ◌≤◌, inl, List, ◌∷◌, ◌++◌, length, Some, sym, ap, subst, ◌∙◌, arith, drop, map}
 use Rattle.std.specs.FinMap.{get, len}
 use Rattle.std.specs.Prelude.{min, count_by}
 use Rattle.mt_types.specs.Rows.{Rows, after}

@@ -23,6 +23,7 @@ pub mod CauseLemmas
 pub mod OneStepLemmas
 pub mod OneFieldLemmas
 pub mod EventLemmas
+pub mod BaseLemmas
 pub mod AloneStands
 pub mod QuietStands
 pub mod LawLemmas
@@ -31,3 +32,6 @@ pub mod MakesLemmas
 pub mod RunLemmas
 pub mod AloneRuns
 pub mod RebaseStands
+pub mod MarkStands
+pub mod GoingStands
+pub mod RemovingStands

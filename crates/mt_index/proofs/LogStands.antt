@@ -211,3 +211,8 @@ with_holds number holders =
 -- and what was held is held still
 pub still_holds : (number other : ℕ) (holders : List ℕ) → 0 < times_held other holders → Contains (with_holder number holders) other
 still_holds number other holders held = let more = pinning_counts number other holders in counted_is_held other (with_holder number holders) (omega (arith, more, held))
+
+-- what holds a log from a number on holds it from a greater one if there are more commits
+pub least_grows : (best more : ℕ) (numbers : List ℕ) → best ≤ more → least best numbers ≤ least more numbers
+least_grows best more [] h = h
+least_grows best more (n ∷ numbers) h = least_grows (min best n) (min more n) numbers (omega (arith, h))

@@ -5,6 +5,7 @@ pub mod Stands
 pub mod Alone
 pub mod Causes
 pub mod OneStep
+pub mod Marks
 pub mod OneField
 pub mod Events
 pub mod Laws

@@ -130,6 +130,7 @@ impl Machine {
         ensures idle { IsIdle self.new }
         ensures options { self.new.columns ≡ self.old.columns }
         ensures bounds { HasBounds self.old.log.capacity self.old.log.retention self.new.log }
+        ensures base { self.new.log.base ≡ self.old.log.base }
     {
         let _stands = self.is_idle();
         if let Some(refusal) = self.fault_of(&request) {

@@ -9,6 +9,7 @@ mod epochs;
 mod feed;
 pub mod laws;
 pub mod machine;
+pub mod marks;
 pub mod options;
 mod rebasing;
 pub mod running;

@@ -28,7 +28,7 @@ use Rattle.mt_promise.specs.History.{History, moment, rows}
 use Rattle.mt_promise.specs.Legal.{Legal}
 use Rattle.mt_promise.proofs.HistoryLemmas.{after-append}
 use Rattle.mt_reach.specs.Reach.{Entry, row_in, Falls, Fits, EndsAt, IsClosedAt, IsReached, RowsAreReached}
-use Rattle.mt_reach.proofs.Steps.{done, legal_done, commits_done, closed_done}
+use Rattle.mt_reach.proofs.Steps.{done, legal_done, commits_done, closed_on, one_call_done}
 
 key_order : IsTotalOrder key_cmp
 key_order = nat_list_cmp_total
@@ -73,7 +73,7 @@ unfolding numbered
 short i [] all = refl
 short i (c ∷ cs) all = rw (lt-leb (MAX_COLUMN_BYTES + 1) (length c) (omega (arith, all.0)), short (i + 1) cs all.1) refl
 
-key_fits : (key : List ℕ) → length key ≤ MAX_KEY_BYTES → key_fault key ≡ None
+pub key_fits : (key : List ℕ) → length key ≤ MAX_KEY_BYTES → key_fault key ≡ None
 key_fits key fits = rw (lt-leb (MAX_KEY_BYTES + 1) (length key) (omega (arith, fits))) refl
 
 put_fits : (C : ℕ) (e : Entry) → Fits C e → request_fault C (Put e.0 (numbered 0 e.1.columns)) ≡ None
@@ -100,13 +100,14 @@ put_on : (C n : ℕ) (h : History) → Legal C h → IsClosedAt n h → n < grea
 unfolding row_put
 put_on C n h legal closed unspent key sets fits =
     let answer = Stored (length (moment h).commits + 1) in
+    let left : (moment h).begun < greatest_number = subst (λ (k : ℕ). k < greatest_number) (sym closed.begun) unspent in
     record {
-      next = done C h n legal closed unspent (Put key sets) fits refl answer;
-      legal = legal_done C h n legal closed unspent (Put key sets) fits refl answer (refl, refl) refl;
-      closed = closed_done C h n legal closed unspent (Put key sets) fits refl answer refl refl;
+      next = done C h legal closed.calls left (Put key sets) fits refl answer;
+      legal = legal_done C h legal closed.calls left (Put key sets) fits refl answer (refl, refl) refl;
+      closed = closed_on h _ n (Put key sets) closed refl (one_call_done C h legal closed.calls left (Put key sets) fits refl answer refl);
       long = omega arith;
       shows = λ q.
-          ap (λ (cs : List Change). get (after C cs) q) (commits_done C h n legal closed unspent (Put key sets) fits refl answer)
+          ap (λ (cs : List Change). get (after C cs) q) (commits_done C h legal closed.calls left (Put key sets) fits refl answer)
           ∙ ap (λ (m : Rows). get m q) (after-append C (moment h).commits (PutChange key sets))
           ∙ fin.get-insert key_order (rows C (moment h)) key (record { version = length (moment h).commits + 1; columns = new_columns sets 0 (columns_before C (get (rows C (moment h)) key)) }) q
           ∙ ap (λ (k : ℕ). cond (eq_by_cmp key_cmp q key) (Some (record { version = k + 1; columns = new_columns sets 0 (columns_before C (get (rows C (moment h)) key)) })) (get (rows C (moment h)) q)) closed.commits;
@@ -117,13 +118,14 @@ drop_on : (C n : ℕ) (h : History) → Legal C h → IsClosedAt n h → n < gre
 drop_on C n h legal closed unspent key short_key stands =
     let answer = Removed (length (moment h).commits + 1) in
     let fits = key_fits key short_key in
+    let left : (moment h).begun < greatest_number = subst (λ (k : ℕ). k < greatest_number) (sym closed.begun) unspent in
     record {
-      next = done C h n legal closed unspent (Remove key) fits refl answer;
-      legal = legal_done C h n legal closed unspent (Remove key) fits refl answer (refl, refl, stands) refl;
-      closed = closed_done C h n legal closed unspent (Remove key) fits refl answer refl refl;
+      next = done C h legal closed.calls left (Remove key) fits refl answer;
+      legal = legal_done C h legal closed.calls left (Remove key) fits refl answer (refl, refl, stands) refl;
+      closed = closed_on h _ n (Remove key) closed refl (one_call_done C h legal closed.calls left (Remove key) fits refl answer refl);
       long = omega arith;
       shows = λ q.
-          ap (λ (cs : List Change). get (after C cs) q) (commits_done C h n legal closed unspent (Remove key) fits refl answer)
+          ap (λ (cs : List Change). get (after C cs) q) (commits_done C h legal closed.calls left (Remove key) fits refl answer)
           ∙ ap (λ (m : Rows). get m q) (after-append C (moment h).commits (Drop key))
           ∙ fin.get-remove key_order (rows C (moment h)) key q;
     }

@@ -46,8 +46,19 @@ unrefused : (C begun opened places : ℕ) (request : Request) → request_fault 
 unrefused C begun opened places request fits plain unspent none =
     rw (fits, lt-leb greatest_number begun unspent, none, plain) refl
 
+-- a call alone of this request has made its change, and nothing else
+pub record IsOneCallOn (h : History) (request : Request) (later : History) : Type 0 where
+  pub own : History
+  pub block : later ≡ own ++ h
+  pub commits : (moment later).commits ≡ (moment h).commits ++ change_of request
+  pub begun : (moment later).begun ≡ (moment h).begun + 1
+  pub calls : (moment later).calls ≡ []
+  pub built : (moment later).built ≡ (moment h).built
+  pub views : (moment later).views ≡ (moment h).views
+  pub epoch : (moment later).epoch ≡ (moment h).epoch
+
 -- a request alone, made to its end
-module _ (C : ℕ) (h : History) (n : ℕ) (legal : Legal C h) (closed : IsClosedAt n h) (unspent : n < greatest_number) (request : Request)
+module _ (C : ℕ) (h : History) (legal : Legal C h) (none_open : (moment h).calls ≡ []) (unspent : (moment h).begun < greatest_number) (request : Request)
     (fits : request_fault C request ≡ None) (plain : is_build request ≡ false) where
   abbrev pub begun : History
   begun = happening (Begin pass request) (Call (next h)) 0 ∷ h
@@ -58,11 +69,11 @@ module _ (C : ℕ) (h : History) (n : ℕ) (legal : Legal C h) (closed : IsClose
   may_begin : MayHappen C h (Begin pass request) (Call (next h)) 0
   may_begin =
       subst (λ (f : Option Refusal). MayBegin (moment h) f (Call (next h)))
-      (sym (unrefused C (moment h).begun (length (moment h).calls) (view_places (moment h)) request fits plain (subst (λ (k : ℕ). k < greatest_number) (sym closed.begun) unspent) (ap length closed.calls)))
+      (sym (unrefused C (moment h).begun (length (moment h).calls) (view_places (moment h)) request fits plain unspent (ap length none_open)))
       (inl refl)
 
   calls_begun : (moment begun).calls ≡ call ∷ []
-  calls_begun = ap (λ (l : List OpenCall). l ++ call ∷ []) closed.calls
+  calls_begun = ap (λ (l : List OpenCall). l ++ call ∷ []) none_open
 
   found_begun : call_of (next h).0 (moment begun).calls ≡ Some call
   found_begun = found_alone (moment begun).calls call (next h).0 calls_begun refl
@@ -111,22 +122,35 @@ module _ (C : ℕ) (h : History) (n : ℕ) (legal : Legal C h) (closed : IsClose
   pub commits_done : (answer : Answer) → (moment (done answer)).commits ≡ (moment h).commits ++ change_of request
   commits_done answer = ap (λ (m : Moment). m.commits) (ends_as answer) ∙ commits_committed
 
-  pub closed_done : (answer : Answer) → view_built request answer 0 ≡ [] → length (change_of request) ≡ 1 → IsClosedAt (n + 1) (done answer)
-  closed_done answer unbuilt one =
-      let long = length-append (moment h).commits (change_of request) in
-      record {
-        commits = ap length (commits_done answer) ∙ long ∙ ap (λ (k : ℕ). length (moment h).commits + k) one ∙ ap (λ (k : ℕ). k + 1) closed.commits;
-        begun = ap (λ (m : Moment). m.begun) (ends_as answer) ∙ ap (λ (m : Moment). m.begun) commits_as ∙ ap (λ (k : ℕ). k + 1) closed.begun;
-        calls = ap (λ (m : Moment). m.calls) (ends_as answer) ∙ without_alone (moment committed).calls call_committed calls_committed;
-        built =
-            ap (λ (m : Moment). m.built) (ends_as answer)
-            ∙ ap (λ (l : List StandingView). (moment committed).built + length l) unbuilt
-            ∙ no_more (moment committed).built
-            ∙ ap (λ (m : Moment). m.built) commits_as ∙ closed.built;
-        views =
-            ap (λ (m : Moment). m.views) (ends_as answer)
-            ∙ ap (λ (l : List StandingView). (moment committed).views ++ l) unbuilt
-            ∙ append-nil (moment committed).views
-            ∙ ap (λ (m : Moment). m.views) commits_as ∙ closed.views;
-        epoch = ap (λ (m : Moment). m.epoch) (ends_as answer) ∙ ap (λ (m : Moment). m.epoch) commits_as ∙ closed.epoch;
-      }
+  pub one_call_done : (answer : Answer) → view_built request answer 0 ≡ [] → IsOneCallOn h request (done answer)
+  one_call_done answer unbuilt = record {
+    own = happening (Step (next h)) (Done (reply_of answer)) 0 ∷ happening (Step (next h)) (Commit number) 0 ∷ happening (Begin pass request) (Call (next h)) 0 ∷ [];
+    block = refl;
+    commits = commits_done answer;
+    begun = ap (λ (m : Moment). m.begun) (ends_as answer) ∙ ap (λ (m : Moment). m.begun) commits_as;
+    calls = ap (λ (m : Moment). m.calls) (ends_as answer) ∙ without_alone (moment committed).calls call_committed calls_committed;
+    built =
+        ap (λ (m : Moment). m.built) (ends_as answer)
+        ∙ ap (λ (l : List StandingView). (moment committed).built + length l) unbuilt
+        ∙ no_more (moment committed).built
+        ∙ ap (λ (m : Moment). m.built) commits_as;
+    views =
+        ap (λ (m : Moment). m.views) (ends_as answer)
+        ∙ ap (λ (l : List StandingView). (moment committed).views ++ l) unbuilt
+        ∙ append-nil (moment committed).views
+        ∙ ap (λ (m : Moment). m.views) commits_as;
+    epoch = ap (λ (m : Moment). m.epoch) (ends_as answer) ∙ ap (λ (m : Moment). m.epoch) commits_as;
+  }
+
+-- a call of one change after a closed history leaves a closed one
+pub closed_on : (h later : History) (n : ℕ) (request : Request) → IsClosedAt n h → length (change_of request) ≡ 1 → IsOneCallOn h request later → IsClosedAt (n + 1) later
+closed_on h later n request closed one on =
+    let long = length-append (moment h).commits (change_of request) in
+    record {
+      commits = ap length on.commits ∙ long ∙ ap (λ (k : ℕ). length (moment h).commits + k) one ∙ ap (λ (k : ℕ). k + 1) closed.commits;
+      begun = on.begun ∙ ap (λ (k : ℕ). k + 1) closed.begun;
+      calls = on.calls;
+      built = on.built ∙ closed.built;
+      views = on.views ∙ closed.views;
+      epoch = on.epoch ∙ closed.epoch;
+    }

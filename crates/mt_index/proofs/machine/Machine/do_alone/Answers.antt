@@ -1,4 +1,4 @@
-use Rattle.std.proofs.Common.{◌∙◌, inl, subst, sym, refl}
+use Rattle.std.proofs.Common.{◌∙◌, ap, inl, subst, sym, refl}
 use Rattle.mt_types.specs.declared.event.Outcome.{Outcome}
 use Rattle.mt_types.specs.declared.event.Outcome.TheVariants.{Done}
 use Rattle.mt_index.specs.Alone.{RefusesPlainly}
@@ -6,6 +6,7 @@ use Rattle.mt_index.specs.Stands.{MachineView, Steps}
 use Rattle.mt_works.proofs.LoneWork.{lone_laws}
 use Rattle.mt_index.proofs.EventLemmas.{turned_away}
 use Rattle.mt_index.specs.Events.{HappensAlone}
+use Rattle.mt_index.proofs.BaseLemmas.{alone_base}
 use Rattle.mt_index.proofs.AloneRuns.{alone_further, alone_started, ended_alone, falls}
 use Rattle.mt_index.proofs.AloneStands.{came, answers_plainly, refuses_plainly, begin_refuses_plainly, never_else}
 use Rattle.mt_index.proofs.machine.Machine.do_alone.Goals as goal
@@ -48,6 +49,21 @@ returns-in-Refused-last-clause-refused c =
 pub returns-in-Refused-last-clause-happens : goal.returns-in-Refused-last-clause-happens
 returns-in-Refused-last-clause-happens c =
     subst (λ (o : Outcome). HappensAlone c.args.self.now c.args.request o c.loop-last.self) c.in-Refused-last.is
+    (ended_alone c.args.self.now c.loop-last.self c.args.request c.in-Ran.call c.loop-last.last c.loop-last.invariant)
+
+pub returns-in-Refused-clause-base : goal.returns-in-Refused-clause-base
+returns-in-Refused-clause-base c = ap (λ (t : MachineView). t.log.base) c.in-Refused.ensures.begins.1
+
+pub returns-in-Done-clause-base : goal.returns-in-Done-clause-base
+returns-in-Done-clause-base c =
+    let (h, st) = c.is_idle-stands.ensures.stands in
+    alone_base c.args.self.now c.loop-last.self c.args.request c.loop-last.last h st
+    (ended_alone c.args.self.now c.loop-last.self c.args.request c.in-Ran.call c.loop-last.last c.loop-last.invariant)
+
+pub returns-in-Refused-last-clause-base : goal.returns-in-Refused-last-clause-base
+returns-in-Refused-last-clause-base c =
+    let (h, st) = c.is_idle-stands.ensures.stands in
+    alone_base c.args.self.now c.loop-last.self c.args.request c.loop-last.last h st
     (ended_alone c.args.self.now c.loop-last.self c.args.request c.in-Ran.call c.loop-last.last c.loop-last.invariant)
 
 pub returns-in-Done-clause-idle : goal.returns-in-Done-clause-idle

@@ -1,0 +1,4 @@
+-- Lemmas on what is taken back.
+pub mod TakingLemmas
+pub mod UndoLemmas
+pub mod RemoveLemmas

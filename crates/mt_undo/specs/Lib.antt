@@ -1,0 +1,4 @@
+-- How changes are taken back, and rows removed at once.
+pub mod Removing
+pub mod Taking
+pub mod Undoing
