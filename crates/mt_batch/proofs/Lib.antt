@@ -1,0 +1,4 @@
+-- Lemmas on batches.
+pub mod RunLemmas
+pub mod MakingLemmas
+pub mod ChangeLemmas

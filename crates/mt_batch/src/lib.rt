@@ -1,0 +1,8 @@
+//! Batches: several changes as one, under conditions. README.md describes them.
+#![tactic(auto)]
+
+pub mod batch;
+pub mod batching;
+mod making;
+mod planning;
+mod testing;
