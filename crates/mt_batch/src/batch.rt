@@ -13,6 +13,7 @@ use thiserror::Error;
 pub const MAX_BATCH: usize = 1000;
 
 /// A condition of a batch: the row of `key` has this version, or, for version 0, `key` has no row.
+#[repr(C)]
 #[derive(Clone, Copy)]
 pub struct Condition<'a> {
     pub key: &'a [u8],
