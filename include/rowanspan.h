@@ -15,17 +15,19 @@
  *
  * PROOFS
  *     The functions are thin: each passes its arguments to a function inside the library, of which it is proved what it
- *     does, by its contract in crates/rowanspan_c/src/exports.rt, view_exports.rt or log_exports.rt. (rowanspan_open
- *     also allocates what the pointer points to, rowanspan_get_column copies one column of the answer of rowanspan_get,
- *     rowanspan_totals reads its answer into a struct, and a cursor repeats rowanspan_range, rowanspan_range_back or
- *     rowanspan_view. A change of an index with a folder is two calls: it is made, and its commit is written.) The thin
- *     functions, which are in bindings/c, and the inline functions of this header are only tested.
+ *     does, by its contract in crates/rowanspan_c/src/exports.rt, batch_exports.rt, view_exports.rt or log_exports.rt.
+ *     (rowanspan_open also allocates what the pointer points to, rowanspan_get_column copies one column of the answer
+ *     of rowanspan_get, rowanspan_totals reads its answer into a struct, rowanspan_batch is refused if there is a
+ *     folder, and a cursor repeats rowanspan_range, rowanspan_range_back or rowanspan_view. A change of an index with a
+ *     folder is two calls: it is made, and its commit is written.) The thin functions, which are in bindings/c, and the
+ *     inline functions of this header are only tested.
  *
  * ORDER OF REFUSALS
  *     Limits are answered before memory. A call that breaks a limit of its keys, its columns, its test, its range or
  *     its number of rows or deltas is refused for the first that it breaks, and a page then for its view and a feed for
- *     its log (ROWANSPAN_NO_SUCH_VIEW, ROWANSPAN_BEHIND). Such a call never answers ROWANSPAN_NO_MEMORY, unless it is a
- *     change while the log of a folder lacks a commit.
+ *     its log (ROWANSPAN_NO_SUCH_VIEW, ROWANSPAN_BEHIND). A batch is refused for its number of conditions and changes
+ *     first, then for the keys of its conditions, and then for its changes. Such a call never answers
+ *     ROWANSPAN_NO_MEMORY, unless it is a batch, or a change while the log of a folder lacks a commit.
  *
  * HANDLES
  *     A caller holds an index by a pointer to a `rowanspan`, of which it sees nothing else. rowanspan_open or
@@ -56,29 +58,31 @@
  *
  * STATUSES
  *     A call that can fail returns a status. ROWANSPAN_OK, which is 0, means that the call was done. A status from 1 to
- *     16 means that the call was refused: it has changed no row, no commit and no view, and the index can still be
+ *     17 means that the call was refused: it has changed no row, no commit and no view, and the index can still be
  *     used. The statuses from 100 on are described with their constants. The comments below leave out the prefix
  *     ROWANSPAN_. A call that can't fail, such as rowanspan_commits, returns its value.
  *
  * NUMBERS
  *     The last parameter of most calls that return a status points to a number, such as `commit` or `length`. The call
  *     always writes this number, unless the pointer is null. The comment of the call says what the number is if the
- *     status is OK, and if it is FEED_FULL, BEHIND, OTHER_VERSION, NO_ROOM or NOT_WRITTEN. For all other statuses it is
- *     0. The pointers to an index, a cursor, a pair or totals that a call sets must not be null.
+ *     status is OK, and if it is FEED_FULL, BEHIND, OTHER_VERSION, NO_ROOM, NOT_WRITTEN or UNMET. For all other
+ *     statuses it is 0. rowanspan_batch writes two such numbers. The pointers to an index, a cursor, a pair or totals
+ *     that a call sets must not be null.
  *
  * BUFFERS
  *     A call whose answer is bytes writes them to the start of the buffer `into`, which the caller owns and which has
  *     `room` bytes, and sets *length to the length of the answer in bytes. If the answer doesn't fit, the call writes
  *     nothing to the buffer and returns NO_ROOM, and *length is the length that is needed: call again with as much
  *     room. A call never writes more than the answer. struct rowanspan_reader, at the end of this file, reads answers.
- *     A buffer must not overlap any other argument. A pointer to bytes, columns, sets or keys may be null if their
- *     number is 0, and `into` may be null: there is then no room.
+ *     A buffer must not overlap any other argument. A pointer to bytes, columns, sets, keys, conditions or changes may
+ *     be null if their number is 0, and `into` may be null: there is then no room.
  *
  * LIMITS
  *     A key has up to 1,024 bytes (ROWANSPAN_MAX_KEY_BYTES). Keys are ordered by their bytes, and a key comes before
  *     those that it is a prefix of. An index has 1 to 16 columns (ROWANSPAN_MAX_COLUMNS) of up to 64 bytes
- *     (ROWANSPAN_MAX_COLUMN_BYTES). A call returns up to 1000 rows or deltas, and takes up to 1000 keys. An index
- *     has up to 64 views, and up to 4,294,967,295 nodes of up to 15 keys.
+ *     (ROWANSPAN_MAX_COLUMN_BYTES). A call returns up to 1000 rows or deltas, and takes up to 1000 keys. A batch has up
+ *     to 1000 conditions, and up to 1000 changes (ROWANSPAN_MAX_BATCH). An index has up to 64 views, and up to
+ *     4,294,967,295 nodes of up to 15 keys.
  *
  * MEMORY
  *     The library copies the keys, columns and tests that it is passed: they stay the caller's. A call that stores or
@@ -105,6 +109,9 @@
 /* The most columns of a row, and the most bytes of a column. */
 #define ROWANSPAN_MAX_COLUMNS 16
 #define ROWANSPAN_MAX_COLUMN_BYTES 64
+
+/* The most conditions of a batch, and the most changes. */
+#define ROWANSPAN_MAX_BATCH 1000
 
 /* The usual `checkpoint` of rowanspan_open_folder: 64 MiB. */
 #define ROWANSPAN_CHECKPOINT 67108864
@@ -134,6 +141,7 @@ typedef enum rowanspan_status {
     ROWANSPAN_BAD_RANGE = 13,       /* the end of a range is not after its start */
     ROWANSPAN_SPENT = 14,           /* a counter is at its greatest value */
     ROWANSPAN_OTHER_VERSION = 16,   /* the row has version N, not the one asked for; 0 means no row */
+    ROWANSPAN_BAD_BATCH = 17,       /* a batch has more than 1000 conditions or changes, or changes a key twice */
     ROWANSPAN_ABSENT = 102,         /* the key has no row, or the cursor has no more rows */
     ROWANSPAN_NO_ROOM = 103,        /* the answer has N bytes, and the buffer is smaller */
     ROWANSPAN_CURRENT = 104,        /* there was nothing to apply: no view is behind */
@@ -146,7 +154,9 @@ typedef enum rowanspan_status {
     ROWANSPAN_DISK_FAILED = 110,    /* the disk has failed. If a write or a sync of commits has, nothing is written
                                        until the folder is opened again */
     ROWANSPAN_NO_FOLDER = 111,      /* the rows are in memory alone */
-    ROWANSPAN_NOT_WRITTEN = 112     /* the change is in memory, and its commit N was not written to the log */
+    ROWANSPAN_NOT_WRITTEN = 112,    /* the change is in memory, and its commit N was not written to the log */
+    ROWANSPAN_UNMET = 113,          /* a condition of the batch doesn't hold, the one at place N, and nothing changed */
+    ROWANSPAN_IN_FOLDER = 114       /* an index with a folder makes no batches, and nothing changed */
 } rowanspan_status;
 
 /* What rowanspan_tidy has done. */
@@ -182,6 +192,24 @@ struct rowanspan_set {
     uint8_t column;
     const uint8_t *at;
     size_t length;
+};
+
+/* A condition of a batch: the row of the key is of this version, or `version` is 0 and the key has no row. Make it with
+ * rowanspan_condition: `key` must not be null. */
+struct rowanspan_condition {
+    const uint8_t *key;
+    size_t key_length;
+    uint64_t version;
+};
+
+/* A change of a batch: a put of `count` sets, or a remove if `removes` is true. Make it with rowanspan_change_put or
+ * rowanspan_change_remove: `key` and `sets` must not be null. */
+struct rowanspan_change {
+    const uint8_t *key;
+    size_t key_length;
+    const struct rowanspan_set *sets;
+    size_t count;
+    bool removes;
 };
 
 /* A test of the rows of a view. Make it with rowanspan_any, rowanspan_equals or rowanspan_at_least: `at` must not be
@@ -376,6 +404,40 @@ rowanspan_status rowanspan_range_back(const rowanspan *index, const void *before
  * Returns OK, also if there are no rows or `most` is 0. Fails with KEY_TOO_LONG, for either key, or NO_MEMORY. */
 rowanspan_status rowanspan_count(const rowanspan *index, const void *start, size_t start_length, const void *end,
                                  size_t end_length, uint32_t most, uint32_t *count);
+
+/* ---- batches
+ *
+ * A batch is several changes that are made as one: all of them, or none. It may have conditions on versions of rows. So
+ * a caller that has read some rows makes its changes only if no other has changed these rows since. */
+
+/* rowanspan_batch: tests conditions, and makes changes if all of them hold, as consecutive commits: first the puts in
+ * their order, and then the removes in theirs. If a condition doesn't hold, or a change is refused, also for memory,
+ * nothing changes. A remove of a key without a row makes no commit.
+ *
+ * If the call returns OK, *number is the number of the batch's last commit, or of the newest commit if it made none,
+ * and numbers[i] is the number of the commit of changes[i], or 0 if that made none. `numbers` has `change_count`
+ * places, or is null; it stays as it was unless the call returns OK. If the call returns UNMET, *number is the place of
+ * the first condition that doesn't hold, from 0 on, and *found is the version that its key's row has, or 0 if there is
+ * no row. If it returns FEED_FULL, views hold the log from commit *number on. *found is 0 unless it returns UNMET.
+ *
+ * If there are views, the log holds all commits of a batch for them: a batch of more than `log_capacity` commits is
+ * FEED_FULL then. One of more than `log_capacity` removes always is. An answer of rowanspan_feed may begin or end in
+ * the middle of a batch. A page of a view may show a part of a batch until rowanspan_keep_views has advanced the view
+ * over it; a page whose `floor` is *number shows all of it.
+ *
+ * An index with a folder makes no batches yet, since a crash could leave a part of a batch in the folder: the call
+ * returns IN_FOLDER, whatever the batch has.
+ *
+ * Cost: a visit of each node on the way to the key for each condition, that of a put or a remove for each change, and
+ * O(n log n) in the changes, to see that no key is changed twice.
+ *
+ * Returns OK. Returns UNMET if a condition doesn't hold. Fails with BAD_BATCH if there are more than 1000 conditions or
+ * changes, or if a key is changed twice, which it finds before it tests the conditions. Fails with KEY_TOO_LONG,
+ * BAD_COLUMN, COLUMN_TOO_LONG, FEED_FULL, ARENA_FULL, SPENT, NO_MEMORY or IN_FOLDER. Unless it returns OK, all rows are
+ * as they were. */
+rowanspan_status rowanspan_batch(rowanspan *index, const struct rowanspan_condition *conditions, size_t condition_count,
+                                 const struct rowanspan_change *changes, size_t change_count, uint64_t *numbers,
+                                 uint64_t *number, uint64_t *found);
 
 /* ---- cursors
  *
@@ -579,6 +641,43 @@ static inline struct rowanspan_set rowanspan_set(uint8_t column, const void *at,
     set.at = rowanspan_bytes_at(at);
     set.length = length;
     return set;
+}
+
+/* rowanspan_sets_at: the same address, or another one that isn't null if it is null. */
+static inline const struct rowanspan_set *rowanspan_sets_at(const struct rowanspan_set *sets) {
+    static const struct rowanspan_set none[1] = {{0, NULL, 0}};
+    return sets ? sets : none;
+}
+
+/* rowanspan_condition: the condition that the key's row is of this version, or, if `version` is 0, that the key has no
+ * row. It doesn't copy the key: the caller keeps it unchanged until the batch has returned. */
+static inline struct rowanspan_condition rowanspan_condition(const void *key, size_t key_length, uint64_t version) {
+    struct rowanspan_condition condition;
+    condition.key = rowanspan_bytes_at(key);
+    condition.key_length = key_length;
+    condition.version = version;
+    return condition;
+}
+
+/* rowanspan_change_put: the change that sets `count` columns of the key's row, as rowanspan_put does. It copies neither
+ * the key nor the sets: the caller keeps them unchanged until the batch has returned. */
+static inline struct rowanspan_change rowanspan_change_put(const void *key, size_t key_length,
+                                                           const struct rowanspan_set *sets, size_t count) {
+    struct rowanspan_change change;
+    change.key = rowanspan_bytes_at(key);
+    change.key_length = key_length;
+    change.sets = rowanspan_sets_at(sets);
+    change.count = count;
+    change.removes = false;
+    return change;
+}
+
+/* rowanspan_change_remove: the change that removes the key's row, if there is one. It doesn't copy the key: the caller
+ * keeps it unchanged until the batch has returned. */
+static inline struct rowanspan_change rowanspan_change_remove(const void *key, size_t key_length) {
+    struct rowanspan_change change = rowanspan_change_put(key, key_length, NULL, 0);
+    change.removes = true;
+    return change;
 }
 
 /* rowanspan_any: the test that each row passes. */

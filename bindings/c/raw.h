@@ -1,8 +1,8 @@
 /* raw.h: the functions of the crate rowanspan_c, of which it is proved what they do. Only bindings/c and
  * bindings/python include it.
  *
- * exports.rt, view_exports.rt and log_exports.rt in crates/rowanspan_c/src have them, with their contracts.
- * scripts/build_library renames those that are there named as functions of rowanspan.h: rowanspan_open is
+ * exports.rt, batch_exports.rt, view_exports.rt and log_exports.rt in crates/rowanspan_c/src have them, with their
+ * contracts. scripts/build_library renames those that are there named as functions of rowanspan.h: rowanspan_open is
  * rowanspan_raw_open here. No pointer may be null, also if there are no bytes, and no buffer may overlap what else is
  * passed. */
 #ifndef ROWANSPAN_RAW_H
@@ -34,6 +34,11 @@ uint16_t rowanspan_raw_put(raw_handle handle, const uint8_t *key, size_t key_len
 uint16_t rowanspan_raw_put_if(raw_handle handle, const uint8_t *key, size_t key_length,
                               const struct rowanspan_set *sets, size_t count, uint64_t version, uint64_t *told);
 uint16_t rowanspan_raw_remove(raw_handle handle, const uint8_t *key, size_t key_length, uint64_t *told);
+/* told: the number of commits after the batch, or if a condition doesn't hold (113) its place; found: the version that
+ * the row of its key has. It writes to numbers only if the batch is made. */
+uint16_t rowanspan_raw_batch(raw_handle handle, const struct rowanspan_condition *conditions, size_t condition_count,
+                             const struct rowanspan_change *changes, size_t change_count, uint64_t *numbers,
+                             size_t number_room, uint64_t *told, uint64_t *found);
 uint16_t rowanspan_raw_tidy(raw_handle handle, const uint8_t *key, size_t key_length, uint64_t *told);
 uint16_t rowanspan_raw_get(raw_handle handle, const uint8_t *key, size_t key_length, const uint8_t *columns,
                            size_t column_count, uint8_t *into, size_t room, uint64_t *told);

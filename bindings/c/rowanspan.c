@@ -14,14 +14,19 @@ static raw_handle raw_of(const rowanspan *index) {
     return &((rowanspan *)index)->raw;
 }
 
-static const struct rowanspan_set *sets_at(const struct rowanspan_set *sets) {
-    static const struct rowanspan_set none = {0, NULL, 0};
-    return sets ? sets : &none;
-}
-
 static const struct rowanspan_bytes *keys_at(const struct rowanspan_bytes *keys) {
     static const struct rowanspan_bytes none = {NULL, 0};
     return keys ? keys : &none;
+}
+
+static const struct rowanspan_condition *conditions_at(const struct rowanspan_condition *conditions) {
+    static const struct rowanspan_condition none = {NULL, 0, 0};
+    return conditions ? conditions : &none;
+}
+
+static const struct rowanspan_change *changes_at(const struct rowanspan_change *changes) {
+    static const struct rowanspan_change none = {NULL, 0, NULL, 0, false};
+    return changes ? changes : &none;
 }
 
 /* ---- the index */
@@ -51,8 +56,8 @@ rowanspan_status rowanspan_put(rowanspan *index, const void *key, size_t key_len
     uint64_t *number = commit ? commit : &unread;
     rowanspan_status status = begin_change(index, number);
     if (status == ROWANSPAN_OK) {
-        status = (rowanspan_status)rowanspan_raw_put(raw_of(index), rowanspan_bytes_at(key), key_length, sets_at(sets),
-                                                     count, number);
+        status = (rowanspan_status)rowanspan_raw_put(raw_of(index), rowanspan_bytes_at(key), key_length,
+                                                     rowanspan_sets_at(sets), count, number);
         status = end_change(index, status);
     }
     return status;
@@ -65,7 +70,7 @@ rowanspan_status rowanspan_put_if(rowanspan *index, const void *key, size_t key_
     rowanspan_status status = begin_change(index, number);
     if (status == ROWANSPAN_OK) {
         status = (rowanspan_status)rowanspan_raw_put_if(raw_of(index), rowanspan_bytes_at(key), key_length,
-                                                        sets_at(sets), count, version, number);
+                                                        rowanspan_sets_at(sets), count, version, number);
         status = end_change(index, status);
     }
     return status;
@@ -80,6 +85,21 @@ rowanspan_status rowanspan_remove(rowanspan *index, const void *key, size_t key_
         status = end_change(index, status);
     }
     return status;
+}
+
+rowanspan_status rowanspan_batch(rowanspan *index, const struct rowanspan_condition *conditions, size_t condition_count,
+                                 const struct rowanspan_change *changes, size_t change_count, uint64_t *numbers,
+                                 uint64_t *number, uint64_t *found) {
+    uint64_t unread = 0, unread_version = 0, none[1] = {0};
+    uint64_t *told = number ? number : &unread, *version = found ? found : &unread_version;
+    if (index->log.is_open) {
+        *told = 0;
+        *version = 0;
+        return ROWANSPAN_IN_FOLDER;
+    }
+    return (rowanspan_status)rowanspan_raw_batch(raw_of(index), conditions_at(conditions), condition_count,
+                                                 changes_at(changes), change_count, numbers ? numbers : none,
+                                                 numbers ? change_count : 0, told, version);
 }
 
 rowanspan_status rowanspan_tidy(rowanspan *index, const void *key, size_t key_length, uint64_t *tidied) {
@@ -304,6 +324,7 @@ const char *rowanspan_status_text(rowanspan_status status) {
     case ROWANSPAN_BAD_RANGE: return "the end of a range is not after its start";
     case ROWANSPAN_SPENT: return "a counter is at its greatest value";
     case ROWANSPAN_OTHER_VERSION: return "the row has version N, not the one asked for; 0 means no row";
+    case ROWANSPAN_BAD_BATCH: return "a batch has more than 1,000 conditions or changes, or changes a key twice";
     case ROWANSPAN_ABSENT: return "the key has no row, or the cursor has no more rows";
     case ROWANSPAN_NO_ROOM: return "the buffer is smaller than the answer";
     case ROWANSPAN_CURRENT: return "there was nothing to apply: no view is behind";
@@ -316,6 +337,8 @@ const char *rowanspan_status_text(rowanspan_status status) {
     case ROWANSPAN_DISK_FAILED: return "the disk has failed";
     case ROWANSPAN_NO_FOLDER: return "the rows are in memory alone";
     case ROWANSPAN_NOT_WRITTEN: return "the change is in memory, and its commit N was not written to the log";
+    case ROWANSPAN_UNMET: return "a condition of the batch doesn't hold, and nothing changed";
+    case ROWANSPAN_IN_FOLDER: return "an index with a folder makes no batches, and nothing changed";
     }
     return "no status has this number";
 }

@@ -1,7 +1,7 @@
 #!/usr/bin/env python3
 """Tests of the embedded index, over the built library: also those of map_cases, test_embedded_views,
-test_embedded_back, test_embedded_count, test_embedded_many, test_embedded_threads, test_embedded_native and
-test_embedded_folder. Prints 'N passed, M failed' last."""
+test_embedded_back, test_embedded_batches, test_embedded_transactions, test_embedded_count, test_embedded_many,
+test_embedded_threads, test_embedded_native and test_embedded_folder. Prints 'N passed, M failed' last."""
 from __future__ import annotations
 
 import ctypes
@@ -21,11 +21,13 @@ import rowanspan.core
 import rowanspan.embedded
 import rowanspan.mapping
 import test_embedded_back
+import test_embedded_batches
 import test_embedded_count
 import test_embedded_folder
 import test_embedded_many
 import test_embedded_native
 import test_embedded_threads
+import test_embedded_transactions
 import test_embedded_views
 from counting import run_counted
 from map_cases import MapCases
@@ -369,6 +371,8 @@ def main() -> int:
     cases = unittest.TestSuite(unittest.FunctionTestCase(case) for case in CASES)
     return run_counted(unittest.TestSuite([cases, load.loadTestsFromTestCase(EmbeddedMapTest),
                                            load.loadTestsFromModule(test_embedded_back),
+                                           load.loadTestsFromModule(test_embedded_batches),
+                                           load.loadTestsFromModule(test_embedded_transactions),
                                            load.loadTestsFromModule(test_embedded_count),
                                            load.loadTestsFromModule(test_embedded_many),
                                            load.loadTestsFromModule(test_embedded_threads),

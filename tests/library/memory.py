@@ -145,6 +145,43 @@ def gets_of_many() -> None:
         assert 2 < refusals < 1999, refusals
 
 
+def batches() -> None:
+    """Batches where memory ends in the batch, in the view after it, or in both: each is made as a whole, or changes
+    nothing."""
+    with Index() as index:
+        library, plain, made, lags, refusals = wanting(index), {}, 0, 0, 0
+        view = index.build(Prefix(b""))
+        for number in range(2000):
+            commits, first = index.commits(), 10 * number
+            keys = [b"%06d" % (at * 7919 % 1000003) for at in range(first, first + 10)]
+            library.allowed = {"batch": number % 400 - 1, "apply": number % 2 - 1}
+            batch = index.batch()
+            try:
+                with batch:
+                    for key in keys[:9]:
+                        batch.put(key, b"v")
+                    batch.remove(keys[9])
+                    for key in list(plain)[:3]:
+                        batch.remove(key)
+            except NoMemory:
+                refusals += 1
+                assert index.commits() == commits and not any(index.get_many(keys))
+            else:
+                made += 1
+                assert batch.numbers[:10] == [*range(commits + 1, commits + 10), None]
+                assert batch.commit == index.commits() == commits + len(batch.numbers) - 1
+                for key in list(plain)[:3]:
+                    del plain[key]
+                for at, key in enumerate(keys[:9], commits + 1):
+                    plain[key] = Row(at, (b"v",))
+                lags += view.at < batch.commit
+            assert len(index) == len(plain)
+        library.allowed = {}
+        index.keep_views()
+        assert made > 10 and lags > 10 and refusals > 10, (made, lags, refusals)
+        assert dict(index.range()) == plain and view.page(index.commits()).count == len(plain)
+
+
 def folders() -> None:
     """Puts of an index with a folder, where memory ends in the put, in the write of its commit, or in both. What wasn't
     written is written before the next put, or that is refused."""
@@ -223,7 +260,7 @@ def calls_of_the_module() -> None:
         assert dict(index.range()) == plain and view.page(index.commits()).count == len(plain)
 
 
-CASES = (puts, builds, reads_back, counts, gets_of_many, folders, calls_of_the_module)
+CASES = (puts, builds, reads_back, counts, gets_of_many, batches, folders, calls_of_the_module)
 
 
 def main() -> int:

@@ -7,6 +7,7 @@ pub(crate) const DONE: u32 = 0;
 pub(crate) const ABSENT: u32 = 102;
 pub(crate) const NO_ROOM: u32 = 103;
 pub(crate) const CURRENT: u32 = 104;
+pub(crate) const UNMET: u32 = 113;
 
 /// The most bytes of a column.
 pub(crate) const MAX_COLUMN_BYTES: usize = 64;

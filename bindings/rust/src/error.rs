@@ -33,6 +33,8 @@ pub enum Error {
     Spent,
     /// The row has this version, not the one asked for; 0 means that the key has no row.
     OtherVersion(u64),
+    /// A batch has more than 1000 conditions, or more than 1000 changes, or it changes a key twice.
+    BadBatch,
     /// The folder or its files can't be made, opened or read, for this reason.
     FolderFailed(String),
     /// Another index or process has the folder.
@@ -49,6 +51,8 @@ pub enum Error {
     /// The change was made in memory, and its commit, which has this number, was not written to the log. The next change
     /// writes it first, and so does a [`sync`](crate::Index::sync).
     NotWritten(u64),
+    /// An index with a folder makes no batches.
+    InFolder,
     /// The library returned a status that no call returns: it is another library.
     Unknown(u32),
 }
@@ -70,11 +74,13 @@ impl Error {
             13 => Error::BadRange,
             14 => Error::Spent,
             16 => Error::OtherVersion(number),
+            17 => Error::BadBatch,
             107 => Error::FolderBusy,
             109 => Error::DiskFull,
             110 => Error::DiskFailed,
             111 => Error::NoFolder,
             112 => Error::NotWritten(number),
+            114 => Error::InFolder,
             other => Error::Unknown(other),
         }
     }
@@ -119,6 +125,10 @@ impl fmt::Display for Error {
                 f,
                 "the row has version {found}, not the one asked for; 0 means no row"
             ),
+            Error::BadBatch => write!(
+                f,
+                "a batch has more than 1,000 conditions or changes, or changes a key twice"
+            ),
             Error::FolderFailed(why) | Error::FolderDamaged(why) => f.write_str(why),
             Error::FolderBusy => write!(f, "another index or process has the folder"),
             Error::DiskFull => write!(f, "the disk is full"),
@@ -127,6 +137,10 @@ impl fmt::Display for Error {
             Error::NotWritten(commit) => write!(
                 f,
                 "the change is in memory, and its commit {commit} was not written to the log"
+            ),
+            Error::InFolder => write!(
+                f,
+                "an index with a folder makes no batches, and nothing changed"
             ),
             Error::Unknown(status) => write!(f, "the library returned the status {status}"),
         }

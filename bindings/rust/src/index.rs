@@ -4,8 +4,9 @@ use crate::answers::Row;
 use crate::calls::{answer, done, length, some_answer, ABSENT, MAX_COLUMN_BYTES, NO_ROOM};
 use crate::error::Error;
 use crate::options::Options;
+use crate::passed::ColumnSet;
 use crate::range::{KeyRange, Pairs, Source};
-use crate::raw::{ColumnSet, Library};
+use crate::raw::Library;
 use std::fmt;
 
 /// The most rows of a range or page, and the most deltas of a feed.
@@ -19,7 +20,7 @@ pub const MAX_KEY_BYTES: usize = 1024;
 ///
 /// A key is anything that is bytes: `"apple"`, `b"apple"`, a `Vec<u8>`. A call that fails has changed no row, no commit
 /// and no view, but for [`NotWritten`](Error::NotWritten). Limits are tested before memory is taken: a call that breaks
-/// one never fails with [`NoMemory`](Error::NoMemory), unless the log of a folder lacks a commit.
+/// one never fails with [`NoMemory`](Error::NoMemory), unless it is a batch, or the log of a folder lacks a commit.
 ///
 /// ```
 /// use rowanspan::{Error, Index, Options};

@@ -29,6 +29,7 @@
 #![warn(missing_docs)]
 
 mod answers;
+mod batches;
 mod calls;
 mod counts;
 mod error;
@@ -36,6 +37,7 @@ mod folder;
 mod index;
 mod many;
 mod options;
+mod passed;
 mod range;
 #[allow(unsafe_code)]
 mod raw;
@@ -44,6 +46,7 @@ mod upkeep;
 mod views;
 
 pub use answers::{Delta, Page, Row, Totals};
+pub use batches::{Batch, Batched, Made, MAX_BATCH};
 pub use error::Error;
 pub use index::{Index, MAX_KEY_BYTES, MAX_LIMIT};
 pub use options::Options;

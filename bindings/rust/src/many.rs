@@ -4,7 +4,7 @@ use crate::answers::Row;
 use crate::calls::{answer_in, ABSENT};
 use crate::error::Error;
 use crate::index::{Index, MAX_LIMIT};
-use crate::raw::KeyBytes;
+use crate::passed::KeyBytes;
 use crate::shared::SharedIndex;
 
 // For how many bytes of the answer to a key there is room at first: more than a row with one column of 64 bytes has.

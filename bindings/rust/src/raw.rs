@@ -1,7 +1,9 @@
 //! The library's functions, and the one place that calls them.
 
+use crate::passed::{
+    BatchChange, BatchCondition, BatchNumbers, ColumnSet, KeyBytes, ViewTest, ViewTotals,
+};
 use std::ffi::{c_char, c_uint, CStr};
-use std::marker::PhantomData;
 use std::ptr::NonNull;
 
 // How many bytes of a message are read.
@@ -11,96 +13,6 @@ const MESSAGE: usize = 1024;
 #[repr(C)]
 struct Opened {
     nothing: [u8; 0],
-}
-
-/// New bytes for a column, as the library takes them.
-#[repr(C)]
-pub(crate) struct ColumnSet<'a> {
-    column: u8,
-    at: *const u8,
-    length: usize,
-    bytes: PhantomData<&'a [u8]>,
-}
-
-impl<'a> ColumnSet<'a> {
-    pub(crate) fn new(column: u8, bytes: &'a [u8]) -> ColumnSet<'a> {
-        ColumnSet {
-            column,
-            at: bytes.as_ptr(),
-            length: bytes.len(),
-            bytes: PhantomData,
-        }
-    }
-}
-
-/// A key, as the library takes many of them.
-#[repr(C)]
-pub(crate) struct KeyBytes<'a> {
-    at: *const u8,
-    length: usize,
-    bytes: PhantomData<&'a [u8]>,
-}
-
-impl<'a> KeyBytes<'a> {
-    pub(crate) fn new(bytes: &'a [u8]) -> KeyBytes<'a> {
-        KeyBytes {
-            at: bytes.as_ptr(),
-            length: bytes.len(),
-            bytes: PhantomData,
-        }
-    }
-}
-
-/// A test of rows, as the library takes it.
-#[repr(C)]
-pub(crate) struct ViewTest<'a> {
-    kind: u8,
-    column: u8,
-    least: u64,
-    at: *const u8,
-    length: usize,
-    bytes: PhantomData<&'a [u8]>,
-}
-
-impl<'a> ViewTest<'a> {
-    pub(crate) fn new(kind: u8, column: u8, least: u64, bytes: &'a [u8]) -> ViewTest<'a> {
-        ViewTest {
-            kind,
-            column,
-            least,
-            at: bytes.as_ptr(),
-            length: bytes.len(),
-            bytes: PhantomData,
-        }
-    }
-}
-
-/// A sum of up to 128 bits, as its halves.
-#[repr(C)]
-#[derive(Clone, Copy, Default)]
-struct Sum {
-    upper: u64,
-    lower: u64,
-}
-
-/// The totals of a view, as the library writes them.
-#[repr(C)]
-#[derive(Default)]
-pub(crate) struct ViewTotals {
-    pub(crate) commit: u64,
-    pub(crate) row_count: u64,
-    sum_count: usize,
-    sums: [Sum; 16],
-}
-
-impl ViewTotals {
-    pub(crate) fn sums(&self) -> Vec<u128> {
-        self.sums
-            .iter()
-            .take(self.sum_count)
-            .map(|sum| u128::from(sum.upper) << 64 | u128::from(sum.lower))
-            .collect()
-    }
 }
 
 type Handle = *mut Opened;
@@ -121,6 +33,9 @@ extern "C" {
     fn rowanspan_put_if(index: Handle, key: *const u8, key_length: usize, sets: *const ColumnSet<'_>, count: usize,
                         version: u64, commit: Number) -> c_uint;
     fn rowanspan_remove(index: Handle, key: *const u8, key_length: usize, commit: Number) -> c_uint;
+    fn rowanspan_batch(index: Handle, conditions: *const BatchCondition<'_>, condition_count: usize,
+                       changes: *const BatchChange<'_>, change_count: usize, numbers: Number, number: Number,
+                       found: Number) -> c_uint;
     fn rowanspan_tidy(index: Handle, key: *const u8, key_length: usize, tidied: Number) -> c_uint;
     fn rowanspan_get(index: Handle, key: *const u8, key_length: usize, columns: *const u8, column_count: usize,
                      into: *mut u8, room: usize, length: Number) -> c_uint;
@@ -249,6 +164,14 @@ impl Library {
 
     pub(crate) fn remove(&mut self, key: &[u8]) -> (u32, u64) {
         answered!(self, rowanspan_remove, key.as_ptr(), key.len())
+    }
+
+    pub(crate) fn batch(&mut self, conditions: &[BatchCondition<'_>],
+                        changes: &[BatchChange<'_>]) -> (u32, BatchNumbers) {
+        let mut written = BatchNumbers { number: 0, found: 0, numbers: vec![0; changes.len()] };
+        let status = call!(self, rowanspan_batch, conditions.as_ptr(), conditions.len(), changes.as_ptr(),
+                           changes.len(), written.numbers.as_mut_ptr(), &mut written.number, &mut written.found);
+        (status, written)
     }
 
     pub(crate) fn tidy(&mut self, key: &[u8]) -> (u32, u64) {

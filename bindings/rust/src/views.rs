@@ -4,7 +4,7 @@ use crate::answers::{Page, Totals};
 use crate::calls::{done, some_answer, CURRENT};
 use crate::error::Error;
 use crate::index::Index;
-use crate::raw::ViewTest;
+use crate::passed::ViewTest;
 
 /// A view of an index, as [`Index::build`] returns it.
 ///

@@ -22,8 +22,9 @@ from __future__ import annotations
 
 from typing import TYPE_CHECKING
 
-from . import client, core, fields, mapping, pipeline, pool, reads, server, server_queries, wire
+from . import batches, client, core, fields, mapping, pipeline, pool, reads, server, server_queries, wire
 # (the names that each of them lists in its `__all__` are names of the package)
+from .batches import *  # noqa: F401,F403
 from .client import *  # noqa: F401,F403
 from .core import *  # noqa: F401,F403
 from .fields import *  # noqa: F401,F403
@@ -36,6 +37,7 @@ from .server_queries import *  # noqa: F401,F403
 from .wire import *  # noqa: F401,F403
 
 __all__ = ["Index"]
+__all__ += batches.__all__
 __all__ += client.__all__
 __all__ += core.__all__
 __all__ += fields.__all__

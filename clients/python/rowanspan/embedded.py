@@ -10,8 +10,9 @@
             print(key, row.columns)
 
 The calls are those of the server's client, and so are the rows, the views and what is raised: to change from one to the
-other, a program opens an `Index` or a `Client`. There are no pipelines here, and no queries as values. `feed`,
-`commits`, `nodes`, `columns`, `apply`, `keep_views`, `advance`, `collect` and `checkpoint` are only here.
+other, a program opens an `Index` or a `Client`. There are no pipelines here, and no queries as values. Batches and
+transactions (batches.py), `feed`, `commits`, `nodes`, `columns`, `apply`, `keep_views`, `advance`, `collect` and
+`checkpoint` are only here.
 
 The rows of `Index(folder="rows")` are in a folder too, and survive the process (folder.py).
 
@@ -28,27 +29,32 @@ from pathlib import Path
 from types import TracebackType
 from typing import Any, Callable, Iterable, List, Optional, Sequence, Tuple, Type, TypeVar, Union
 
-from . import core, mapping
-# (the names that both list in their `__all__` are names of this module too)
+from . import batches, core, mapping
+# (the names that each of them lists in its `__all__` are names of this module too)
+from .batches import *  # noqa: F401,F403
+from .batches import BadBatch, Batch, Change, Condition, InFolder, Numbers, Transaction, Unmet, transacted
 from .core import *  # noqa: F401,F403
 from .core import (MAX_LIMIT, REFUSALS, Closed, Delta, NoLibrary, NotDurable, NotWritten, Page, Pairs, Prefix, Refused,
                    RowanspanError, Row, Sets, Tidied, Totals, ViewNo, ViewSpec, checked_bytes, checked_count,
                    checked_limit, checked_number, checked_spec, checked_view)
 from .folder import CommitLog, Folder
 from .former import client_of, is_of_client, options_of, signature_of
-from .library import (ABSENT, CLOSED, CURRENT, DONE, NO_ROOM, U64, Handle, Reader, column_numbers, column_sets, loaded,
-                      many_keys, spelled, view_test)
+from .library import (ABSENT, BAD_BATCH, CLOSED, CURRENT, DONE, NO_ROOM, U64, UNMET, Handle, Reader, batch_changes,
+                      batch_conditions, column_numbers, column_sets, loaded, many_keys, spelled, view_test)
 from .mapping import *  # noqa: F401,F403
 from .mapping import RowMap, View, number_of_view
 from .native import calls_of
 from .scans import bounds_of
 
 __all__ = ["Index"]
+__all__ += batches.__all__
 __all__ += core.__all__
 __all__ += mapping.__all__
 
 # what a change returns: the number of its commit, or None if it has made none
 Commit = TypeVar("Commit", bound=Optional[int])
+# what is returned by what is done in a transaction
+Value = TypeVar("Value")
 
 # how many bytes of an answer there is room for at first
 FIRST_ROOM = 4096
@@ -307,6 +313,48 @@ class Index(RowMap):
         # a get and a remove, between which no other thread's call comes
         with self._lock:
             return super()._taken(key, durable)
+
+    # -- batches
+
+    def batch(self) -> Batch:
+        """A batch: changes that are made as one at the end of its `with` block, if its conditions hold. Raises
+        nothing; the end of the block does."""
+        return Batch(self)
+
+    def transaction(self) -> Transaction:
+        """A transaction: changes that are made as one at the end of its `with` block, if the rows that it has read are
+        unchanged. Raises nothing; the end of the block does."""
+        return Transaction(self)
+
+    def transact(self, change: Callable[[Transaction], Value], tries: int = 100) -> Value:
+        """Calls `change` with a transaction, makes that, and returns what `change` returned. If a row that it has read
+        was changed meanwhile, nothing was changed, and it is called again, with a new transaction: so let it do nothing
+        else. It is called at most `tries` times; then this raises `Unmet`. Raises what the end of a `Transaction` does.
+        """
+        return transacted(self, change, tries)
+
+    def _batch(self, conditions: Sequence[Condition], changes: Sequence[Change]) -> Tuple[int, Numbers]:
+        """Makes a batch, and brings the views up to date after it; returns the number of commits then, and those of its
+        changes."""
+        of_conditions, of_changes = batch_conditions(conditions), batch_changes(changes)
+        numbers, told, found = (U64 * max(1, len(changes)))(), U64(), U64()
+        with self._lock:
+            if self._log.is_open:
+                raise InFolder("an index with a folder makes no batches, and nothing changed")
+            if self._views_lag:
+                self._try_to_keep_views()
+            status = self._library.batch(self._handle, *of_conditions, *of_changes, numbers, len(changes), told, found)
+            if status == UNMET:
+                raise Unmet(told.value, conditions[told.value][0], found.value)
+            if status == BAD_BATCH:
+                raise BadBatch()
+            self._raise_for(status, told.value)
+            if self._keeps_views:
+                self._views_lag = True
+                self._try_to_keep_views()
+        return told.value, [number or None for number in numbers[:len(changes)]]
+
+    # -- reads of several rows
 
     def first(self, start: bytes = b"", limit: int = MAX_LIMIT, columns: Optional[Sequence[int]] = None) -> Pairs:
         pairs: Pairs = self._native.range(start, limit, columns)

@@ -7,6 +7,7 @@ from pathlib import Path
 from types import SimpleNamespace
 from typing import Any, Callable, Dict, List, Optional, Sequence, Tuple, TypeVar, Union
 
+from .batches import Change, Condition
 from .core import (AtLeast, Delta, Equals, NoLibrary, Page, Pairs, Row, RowTest, Sets, Totals, checked_bytes,
                    checked_column, checked_columns, checked_number, checked_test, set_pairs)
 from .places import PACKAGE, checkout, none_at
@@ -101,13 +102,22 @@ class ColumnSet(ctypes.Structure):
     _fields_ = [("column", ctypes.c_uint8), ("at", ctypes.c_char_p), ("length", ctypes.c_size_t)]
 
 
+class BatchCondition(ctypes.Structure):
+    _fields_ = [("key", ctypes.c_char_p), ("key_length", ctypes.c_size_t), ("version", ctypes.c_uint64)]
+
+
+class BatchChange(ctypes.Structure):
+    _fields_ = [("key", ctypes.c_char_p), ("key_length", ctypes.c_size_t), ("sets", ctypes.POINTER(ColumnSet)),
+                ("count", ctypes.c_size_t), ("removes", ctypes.c_bool)]
+
+
 class ViewTest(ctypes.Structure):
     _fields_ = [("kind", ctypes.c_uint8), ("column", ctypes.c_uint8), ("least", ctypes.c_uint64),
                 ("at", ctypes.c_char_p), ("length", ctypes.c_size_t)]
 
 
-DONE, CLOSED, ABSENT, NO_ROOM, CURRENT, FOLDER_FAILED, FOLDER_BUSY, FOLDER_DAMAGED, DISK_FULL, DISK_FAILED = (
-    0, 100, 102, 103, 104, 106, 107, 108, 109, 110)
+(DONE, BAD_BATCH, CLOSED, ABSENT, NO_ROOM, CURRENT, FOLDER_FAILED, FOLDER_BUSY, FOLDER_DAMAGED, DISK_FULL, DISK_FAILED,
+ UNMET) = (0, 17, 100, 102, 103, 104, 106, 107, 108, 109, 110, 113)
 
 HANDLE, LOG = ctypes.POINTER(Handle), ctypes.POINTER(LogHandle)
 TOLD = ctypes.POINTER(ctypes.c_uint64)
@@ -141,6 +151,9 @@ PARAMETERS: Dict[str, List[Any]] = {
     "nodes": [],
     "columns": [],
 }
+# the types of the parameters of the function for batches: the last two are the numbers that the call reports
+OF_BATCHES: List[Any] = [HANDLE, ctypes.POINTER(BatchCondition), ctypes.c_size_t, ctypes.POINTER(BatchChange),
+                         ctypes.c_size_t, TOLD, ctypes.c_size_t, TOLD, TOLD]
 # of each function for a folder, the types of its parameters
 OF_FOLDERS: Dict[str, List[Any]] = {
     "open_folder": [HANDLE, LOG, *BYTES, U64, U64, U64, U64, *ROOM, TOLD],
@@ -179,7 +192,7 @@ def loaded(named: Optional[Union[str, Path]]) -> SimpleNamespace:
         # (absolute: a name without a slash would be looked up elsewhere)
         library = ctypes.CDLL(os.path.abspath(found))
         kinds: Dict[str, List[Any]] = {
-            "open": [HANDLE, U64, U64, U64], "close": [HANDLE], **OF_FOLDERS,
+            "open": [HANDLE, U64, U64, U64], "close": [HANDLE], "batch": OF_BATCHES, **OF_FOLDERS,
             **{name: [HANDLE, *parameters, TOLD] for name, parameters in PARAMETERS.items()}}
         return SimpleNamespace(**{name: function(library, name, kind) for name, kind in kinds.items()})
     except (OSError, AttributeError) as fault:
@@ -209,6 +222,19 @@ def column_sets(sets: Sets) -> Tuple[Any, int]:
     """Columns that are set, as the library takes them, and how many they are."""
     pairs = [ColumnSet(column, value, len(value)) for column, value in set_pairs(sets)]
     return (ColumnSet * max(1, len(pairs)))(*pairs), len(pairs)
+
+
+def batch_conditions(conditions: Sequence[Condition]) -> Tuple[Any, int]:
+    """The conditions of a batch, as the library takes them, and how many they are."""
+    listed = [BatchCondition(key, len(key), version) for key, version in conditions]
+    return (BatchCondition * max(1, len(listed)))(*listed), len(listed)
+
+
+def batch_changes(changes: Sequence[Change]) -> Tuple[Any, int]:
+    """The changes of a batch, as the library takes them, and how many they are."""
+    listed = [BatchChange(key, len(key), *column_sets(() if sets is None else sets), sets is None)
+              for key, sets in changes]
+    return (BatchChange * max(1, len(listed)))(*listed), len(listed)
 
 
 def view_test(test: RowTest) -> ViewTest:

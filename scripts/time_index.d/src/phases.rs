@@ -1,7 +1,7 @@
 //! What is measured of a store, in phases.
 
 use crate::keys::{present_and_absent, Chance, Kind};
-use crate::stores::Store;
+use crate::stores::{Put, Store};
 use crate::Outcome;
 use std::fs;
 use std::hint::black_box;
@@ -17,6 +17,7 @@ const RANGES: usize = 1_000;
 const ROWS_OF_RANGE: u16 = 100;
 const ROWS_OF_COUNT: usize = 100;
 const KEYS_AT_ONCE: usize = 64;
+const CHANGES_AT_ONCE: usize = 100;
 
 // How long calls of one kind took.
 struct Phase {
@@ -65,9 +66,6 @@ fn expect(holds: bool, what: &str) -> Outcome<()> {
         Err(format!("a wrong answer of {what}").into())
     }
 }
-
-// A key and what is put into its row.
-type Put = (Vec<u8>, [u8; 8]);
 
 // A range of keys, and how many rows it has.
 struct Span {
@@ -173,6 +171,25 @@ fn measure_reads<S: Store>(store: &S, plan: &Plan, reads: &mut [Phase; 7]) -> Ou
     })
 }
 
+// Puts over rows, some at a time: one after the other, as one change, and as one change if no row has changed before.
+fn measure_batches<S: Store>(store: &S, plan: &Plan, puts: &mut [Phase; 3]) -> Outcome<()> {
+    let [each, all, tested] = puts;
+    let most = RANGES * CHANGES_AT_ONCE;
+    let lists: Vec<&[Put]> = plan.over[..plan.over.len().min(most)]
+        .chunks(CHANGES_AT_ONCE)
+        .collect();
+    each.measure(&lists, |puts| store.put_each(puts))?;
+    all.measure(&lists, |puts| expect(store.put_all(&[], puts)?, "a batch"))?;
+    let mut conditions = Vec::new();
+    for puts in &lists {
+        let of_list = puts.iter().map(|(key, _)| store.condition(key));
+        conditions.push((of_list.collect::<Outcome<Vec<_>>>()?, *puts));
+    }
+    tested.measure(&conditions, |(conditions, puts)| {
+        expect(store.put_all(conditions, puts)?, "a batch")
+    })
+}
+
 fn without_views<S: Store>(plan: &Plan, rounds: usize) -> Outcome<Figures> {
     let [mut new, mut over, mut remove] = ["put new", "put over", "remove"].map(Phase::new);
     let mut reads = [
@@ -185,6 +202,7 @@ fn without_views<S: Store>(plan: &Plan, rounds: usize) -> Outcome<Figures> {
         "count of 100",
     ]
     .map(Phase::new);
+    let mut batches = ["100 puts", "batch of 100", "batch of 100 if"].map(Phase::new);
     let mut bytes = None;
     for _ in 0..rounds {
         let before = resident()?;
@@ -193,11 +211,13 @@ fn without_views<S: Store>(plan: &Plan, rounds: usize) -> Outcome<Figures> {
         bytes.get_or_insert((resident()? - before) / plan.new.len() as f64);
         over.measure(&plan.over, |(key, value)| store.put(key, value))?;
         measure_reads(&store, plan, &mut reads)?;
+        measure_batches(&store, plan, &mut batches)?;
         remove.measure(&plan.over, |(key, _)| {
             expect(store.remove(key)?, "a remove")
         })?;
     }
-    let phases = [new, over].into_iter().chain(reads).chain([remove]);
+    let writes = batches.into_iter().chain([remove]);
+    let phases = [new, over].into_iter().chain(reads).chain(writes);
     let mut figures: Figures = phases.map(|phase| phase.figure()).collect();
     figures.push(("bytes a key", bytes.unwrap_or(0.0)));
     Ok(figures)

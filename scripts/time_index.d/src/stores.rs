@@ -4,7 +4,7 @@
 //! the sum of those numbers, up to date after each put.
 
 use crate::Outcome;
-use rowanspan::{Index, Keys, Options, RowTest, View};
+use rowanspan::{Batch, Index, Keys, Options, RowTest, View};
 use std::collections::BTreeMap;
 use std::ops::Bound;
 use std::sync::{Mutex, MutexGuard, PoisonError};
@@ -12,16 +12,31 @@ use std::sync::{Mutex, MutexGuard, PoisonError};
 /// A row, as the map has it: its columns.
 pub type Columns = Vec<Vec<u8>>;
 
+/// A key and what is put into its row.
+pub type Put = (Vec<u8>, [u8; 8]);
+
 /// What is measured.
 pub trait Store: Sized {
     /// The row of a key, as a get returns it.
     type Row;
+
+    /// That a key's row is still the one that it was.
+    type Condition;
 
     /// An empty one, which keeps up this number of views, at most four.
     fn open(views: usize) -> Outcome<Self>;
 
     /// Puts a row of one column.
     fn put(&self, key: &[u8], value: &[u8]) -> Outcome<()>;
+
+    /// Puts rows one after the other, in one holding of the lock.
+    fn put_each(&self, puts: &[Put]) -> Outcome<()>;
+
+    /// The condition that the key's row stays as it is.
+    fn condition(&self, key: &[u8]) -> Outcome<Self::Condition>;
+
+    /// Puts rows as one change, if all conditions hold. Returns whether it was made.
+    fn put_all(&self, conditions: &[Self::Condition], puts: &[Put]) -> Outcome<bool>;
 
     /// A copy of the row of a key.
     fn get(&self, key: &[u8]) -> Outcome<Option<Self::Row>>;
@@ -68,6 +83,7 @@ pub struct Indexed {
 
 impl Store for Indexed {
     type Row = rowanspan::Row;
+    type Condition = (Vec<u8>, u64);
 
     fn open(views: usize) -> Outcome<Indexed> {
         let mut index = Index::open(Options::default())?;
@@ -87,6 +103,30 @@ impl Store for Indexed {
             index.keep_views()?;
         }
         Ok(())
+    }
+
+    fn put_each(&self, puts: &[Put]) -> Outcome<()> {
+        let mut index = locked(&self.index);
+        for (key, value) in puts {
+            index.put(key, &[(0, value)])?;
+        }
+        Ok(())
+    }
+
+    fn condition(&self, key: &[u8]) -> Outcome<(Vec<u8>, u64)> {
+        let row = locked(&self.index).get(key)?;
+        Ok((key.to_vec(), row.map_or(0, |row| row.version)))
+    }
+
+    fn put_all(&self, conditions: &[(Vec<u8>, u64)], puts: &[Put]) -> Outcome<bool> {
+        let mut batch = Batch::new();
+        for (key, version) in conditions {
+            batch = batch.require(key, *version);
+        }
+        for (key, value) in puts {
+            batch = batch.put(key, &[(0, value)]);
+        }
+        Ok(locked(&self.index).batch(&batch)?.is_made())
     }
 
     fn get(&self, key: &[u8]) -> Outcome<Option<rowanspan::Row>> {
@@ -172,6 +212,7 @@ pub struct Mapped {
 
 impl Store for Mapped {
     type Row = Columns;
+    type Condition = (Vec<u8>, Option<Columns>);
 
     fn open(views: usize) -> Outcome<Mapped> {
         let views = (0..views).map(|view| Kept {
@@ -195,6 +236,32 @@ impl Store for Mapped {
         }
         map.rows.insert(key.to_vec(), columns);
         Ok(())
+    }
+
+    fn put_each(&self, puts: &[Put]) -> Outcome<()> {
+        let mut map = locked(&self.map);
+        for (key, value) in puts {
+            map.rows.insert(key.clone(), vec![value.to_vec()]);
+        }
+        Ok(())
+    }
+
+    fn condition(&self, key: &[u8]) -> Outcome<(Vec<u8>, Option<Columns>)> {
+        Ok((key.to_vec(), self.get(key)?))
+    }
+
+    fn put_all(&self, conditions: &[Self::Condition], puts: &[Put]) -> Outcome<bool> {
+        let mut map = locked(&self.map);
+        if conditions
+            .iter()
+            .any(|(key, columns)| map.rows.get(key) != columns.as_ref())
+        {
+            return Ok(false);
+        }
+        for (key, value) in puts {
+            map.rows.insert(key.clone(), vec![value.to_vec()]);
+        }
+        Ok(true)
     }
 
     fn get(&self, key: &[u8]) -> Outcome<Option<Columns>> {
