@@ -53,7 +53,7 @@ pub record IsUnmet (rows : Rows) (conditions : List Condition) (place found : â„
   pub other : found â‰¢ condition.version
 
 -- ---- changes
--- all changes are made, as consecutive commits, and nothing else has happened; each has the number that is told
+-- all changes are made, as consecutive commits, and nothing else has happened; each has the number that the answer says
 pub record HasMade (s : MachineView) (h : History) (changes : List Change) (made : Made) (t : MachineView) : Type 0 where
   pub ahead : History
   pub stands : Stands t ahead

@@ -2,3 +2,4 @@
 pub mod MapLemmas
 pub mod TidyLemmas
 pub mod BoundLemmas
+pub mod BatchLemmas

@@ -2,6 +2,7 @@
 #![tactic(auto)]
 
 pub mod back;
+mod batching;
 mod calling;
 mod changing;
 pub mod map;

@@ -6,4 +6,5 @@ pub mod Questions
 pub mod Told
 pub mod Placed
 pub mod Calls
+pub mod Batches
 pub mod Logs

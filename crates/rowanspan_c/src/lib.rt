@@ -3,6 +3,8 @@
 //! `include/rowanspan.h` says what each call does, what it costs and what it returns.
 #![tactic(auto)]
 
+mod batch_exports;
+mod batching;
 mod changing;
 mod exports;
 mod file_log;

@@ -3,6 +3,9 @@
 /// The call was done.
 pub const DONE: u16 = 0;
 
+/// A batch is too long, or changes a key twice.
+pub const BAD_BATCH: u16 = 17;
+
 /// The handle holds no index.
 pub const CLOSED: u16 = 100;
 
@@ -35,3 +38,6 @@ pub const DISK_FULL: u16 = 109;
 
 /// The disk has failed, and the log is given up.
 pub const DISK_FAILED: u16 = 110;
+
+/// A condition of a batch doesn't hold.
+pub const UNMET: u16 = 113;
