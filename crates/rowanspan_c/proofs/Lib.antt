@@ -12,3 +12,4 @@ pub mod RangedBack
 pub mod CallLemmas
 pub mod TotalsRead
 pub mod LogCalls
+pub mod BatchLemmas

@@ -1,5 +1,5 @@
 -- What a batch does with what a handle holds, and what it reports.
-use Rattle.std.specs.Prelude.{ℕ, ⊥, ◌≡◌, ◌⊎◌, List, ◌++◌, length, take, drop, if◌then◌else◌, map, Result, Ok, Err, Option, Some, None, IfOk, OnOk, OnErr, MatchOption}
+use Rattle.std.specs.Prelude.{ℕ, ◌≡◌, ◌⊎◌, List, ◌++◌, length, min, take, drop, if◌then◌else◌, map, Result, Ok, Err, Option, Some, None, IfOk, OnOk, OnErr, MatchOption}
 use Rattle.mt_types.specs.declared.refusal.Refusal.TheVariants.{NoMemory}
 use Rattle.mt_batch.specs.declared.batch.Batched.{Batched}
 use Rattle.mt_batch.specs.declared.batch.Batched.TheVariants.{Made, Unmet}
@@ -35,7 +35,8 @@ pub record BatchEnds (s : MapView) (conditions : List Condition) (changes : List
 -- ---- what is reported
 -- the numbers, as far as there is room
 abbrev pub HandsOutNumbers : List ℕ → List ℕ → List ℕ → Type 0
-HandsOutNumbers numbers old new = new ≡ take (length old) numbers ++ drop (length numbers) old
+HandsOutNumbers numbers old new =
+    new ≡ take (min (length numbers) (length old)) numbers ++ drop (min (length numbers) (length old)) old
 
 abbrev pub TellsBatch : Result Batched BatchError → List ℕ → List ℕ → ℕ → ℕ → ℕ → Type 0
 TellsBatch (Ok (Made made)) old new status told found =

@@ -45,6 +45,7 @@ fn changes_of<'a>(alloc: Global, changes: &[BorrowedChange<'a>]) -> Result<Vec<C
 }
 
 /// Makes a batch of a map.
+#[tactic(auto, using(crate::proofs::BatchLemmas::ends_too_long, crate::proofs::BatchLemmas::ends_unmade, crate::proofs::BatchLemmas::ends_as_map))]
 pub(crate) fn make(
     alloc: Global,
     index: &mut Map,
