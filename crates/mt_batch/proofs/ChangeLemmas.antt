@@ -1,13 +1,16 @@
 -- The changes of a batch of which none breaks a limit, and no key is changed twice.
 use Rattle.std.proofs.Common.{◌≡◌, ◌≢◌, ◌<◌, ◌≤◌, ◌+◌, ◌⊎◌, ℕ, Bool, true, false, zero, suc, List, [], ◌∷◌, ◌++◌, length, map, drop, take, slice_index_or, Option, Some, None, refl, sym, ap, subst, ◌∙◌, inl, inr, arith, length-append}
 use Rattle.std.proofs.Common.{BTreeSet}
-use Rattle.std.specs.Prelude.{◌↔◌, Contains, not, slice_get, Result, Ok, Err, OnOk}
+use Rattle.std.specs.Borrow.{Bor}
+use Rattle.std.specs.BTreeMap.{is_at}
+use Rattle.std.specs.declared.cmp.Ordering.{Ordering}
+use Rattle.std.specs.Prelude.{◌↔◌, ◌||◌, if◌then◌else◌, nat_lt, Contains, not, slice_get, Result, Ok, Err, OnOk}
 use Rattle.std.specs.Result.{IsErr}
 use Rattle.std.specs.BTreeSet.{contains}
 use Rattle.std.specs.Ordering.{eq_by_cmp}
-use Rattle.std.specs.Option.{option_or}
+use Rattle.std.specs.Option.{option_map, option_or}
 use Rattle.std.specs.FinMap.{get}
-use Rattle.std.specs.List.{AllByRecursion}
+use Rattle.std.specs.List.{AllByRecursion, list_any}
 use Rattle.std.proofs.lemmas.Bool.{false≢true}
 use Rattle.std.proofs.lemmas.List.{append_assoc, map-append, take_all, take_more, take-append-drop}
 use Rattle.std.proofs.lemmas.List.Elements.{Contains-append_cases, Contains-append_left, Contains-append_right}
@@ -26,9 +29,12 @@ use Rattle.mt_undo.specs.Undoing.{IsPut}
 use Rattle.mt_undo.proofs.UndoLemmas.{same_last, same_or_not}
 use Rattle.mt_batch.specs.declared.batch.Change.{Change}
 use Rattle.mt_batch.specs.declared.batch.Change.TheVariants.{Put, Remove}
-use Rattle.mt_batch.specs.Batch.{changes_fault, conditions_fault}
+use Rattle.mt_batch.specs.Batch.{batch_fault, changes_fault, conditions_fault}
+use Rattle.mt_batch.specs.declared.batch.BatchError.{BatchError}
+use Rattle.mt_batch.specs.declared.batch.BatchError.TheVariants.{BadBatch, Refused}
+use Rattle.mt_batch.specs.declared.batch.TheConstants.{MAX_BATCH}
 use Rattle.mt_batch.specs.declared.batch.Condition.{Condition}
-use Rattle.mt_batch.specs.Changes.{IsTwice, key_of, puts_of, request_of_change, taken_at, taken_of}
+use Rattle.mt_batch.specs.Changes.{IsTwice, key_of, puts_of, removed_keys, request_of_change, taken_at, taken_of}
 
 -- ---- limits
 pub first_none : (a b : Option Refusal) → option_or a b ≡ None → a ≡ None
@@ -38,6 +44,17 @@ first_none (Some refusal) b is = absurd (let clash : ◌≡◌ {A = Option Refus
 pub then_none : (a b : Option Refusal) → option_or a b ≡ None → b ≡ None
 then_none None b is = is
 then_none (Some refusal) b is = absurd (let clash : ◌≡◌ {A = Option Refusal} (Some refusal) None = is in cc)
+
+-- neither conditions nor changes of a batch that breaks no limit break one
+unbroken : (b : Bool) (fault : Option Refusal) → (if b then Some BadBatch else option_map Refused fault) ≡ None → fault ≡ None
+unbroken true fault is = absurd (let clash : ◌≡◌ {A = Option BatchError} (Some BadBatch) None = is in cc)
+unbroken false None is = refl
+unbroken false (Some refusal) is = absurd (let clash : ◌≡◌ {A = Option BatchError} (Some (Refused refusal)) None = is in cc)
+
+pub both_fit : (C : ℕ) (conditions : List Condition) (changes : List Change) → batch_fault C conditions changes ≡ None → (conditions_fault conditions ≡ None) × (changes_fault C changes ≡ None)
+both_fit C conditions changes none =
+    let neither = unbroken (nat_lt MAX_BATCH (length conditions) || nat_lt MAX_BATCH (length changes)) (option_or (conditions_fault conditions) (changes_fault C changes)) none in
+    (first_none (conditions_fault conditions) (changes_fault C changes) neither, then_none (conditions_fault conditions) (changes_fault C changes) neither)
 
 -- the key of a change that breaks no limit is short enough
 pub key_fits_of : (C : ℕ) (change : Change) → request_fault C (request_of_change change) ≡ None → length (key_of change) ≤ MAX_KEY_BYTES
@@ -125,11 +142,6 @@ condition_fits (c ∷ conditions) zero condition none is =
 condition_fits (c ∷ conditions) (suc i) condition none is = condition_fits conditions i condition (then_none (key_fault c.key.now) (conditions_fault conditions) none) is
 
 -- ---- the first of a list
-pub index_there : {A : Type 0} (l : List A) (i : ℕ) (d : A) → i < length l → slice_get l i ≡ Some (slice_index_or l i d)
-index_there [] i d within = absurd (omega (arith, within))
-index_there (x ∷ l) zero d within = refl
-index_there (x ∷ l) (suc i) d within = index_there l i d (omega (arith, within))
-
 one_more : {A : Type 0} (P : A → Type 0) (l : List A) (i : ℕ) (d : A) → i < length l → AllByRecursion P (take i l) → P (slice_index_or l i d) → AllByRecursion P (take (suc i) l)
 one_more P [] i d within all new = tt
 one_more P (x ∷ l) zero d within all new = (new, tt)
@@ -202,22 +214,28 @@ pub once_whole : (l : List Change) (i : ℕ) → length l ≤ i → (IsTwice (ma
 once_whole l i past once twice = once (subst (λ (cs : List Change). IsTwice (map key_of cs)) (sym (take_all i l past)) twice)
 
 -- a set that has these keys, and one that has the next key too
-abbrev pub HasKeys : BTreeSet (List ℕ) → List (List ℕ) → Type 0
-HasKeys seen keys = (q : List ℕ) → (contains key_cmp seen q ≡ true) ↔ Contains keys q
+abbrev pub by_bytes : Bor (List ℕ) → Bor (List ℕ) → Ordering
+by_bytes one other = key_cmp one.now other.now
 
-module _ (seen new : BTreeSet (List ℕ)) (keys : List (List ℕ)) (key : List ℕ) (own : contains key_cmp new key ≡ true)
-    (others : (q : List ℕ) → eq_by_cmp key_cmp key q ≡ false → contains key_cmp new q ≡ contains key_cmp seen q) (has : HasKeys seen keys) where
-  keys_with : HasKeys new (keys ++ key ∷ [])
-  keys_with q = elim (same_or_not key q) [
+abbrev pub HasKeys : BTreeSet (Bor (List ℕ)) → List (List ℕ) → Type 0
+HasKeys seen keys = (q : Bor (List ℕ)) → (contains by_bytes seen q ≡ true) ↔ Contains keys q.now
+
+contains_same : (seen : BTreeSet (Bor (List ℕ))) (k q : Bor (List ℕ)) → k.now ≡ q.now → contains by_bytes seen k ≡ true → contains by_bytes seen q ≡ true
+contains_same seen k q same there = subst (λ (bytes : List ℕ). list_any (is_at (λ (y : Bor (List ℕ)). key_cmp bytes y.now)) seen.keys ≡ true) same there
+
+module _ (seen new : BTreeSet (Bor (List ℕ))) (keys : List (List ℕ)) (key : Bor (List ℕ)) (own : contains by_bytes new key ≡ true)
+    (others : (q : Bor (List ℕ)) → eq_by_cmp by_bytes key q ≡ false → contains by_bytes new q ≡ contains by_bytes seen q) (has : HasKeys seen keys) where
+  keys_with : HasKeys new (keys ++ key.now ∷ [])
+  keys_with q = elim (same_or_not key.now q.now) [
     | inl same ↦ (
-      (λ there. Contains-append_right keys (key ∷ []) q (subst (λ (k : List ℕ). Contains (k ∷ []) q) (sym same) (contains_here q []))),
-      (λ there. subst (λ (k : List ℕ). contains key_cmp new k ≡ true) same own),
+      (λ there. Contains-append_right keys (key.now ∷ []) q.now (subst (λ (k : List ℕ). Contains (k ∷ []) q.now) (sym same) (contains_here q.now []))),
+      (λ there. contains_same new key q same own),
     )
     | inr apart ↦ (
-      (λ there. Contains-append_left keys (key ∷ []) q ((has q).0 (sym (others q apart.0) ∙ there))),
-      (λ there. elim (Contains-append_cases keys (key ∷ []) q there) [
+      (λ there. Contains-append_left keys (key.now ∷ []) q.now ((has q).0 (sym (others q apart.0) ∙ there))),
+      (λ there. elim (Contains-append_cases keys (key.now ∷ []) q.now there) [
         | inl before ↦ others q apart.0 ∙ (has q).1 before
-        | inr last ↦ absurd (apart.1 (only key q last))
+        | inr last ↦ absurd (apart.1 (only key.now q.now last))
       ]),
     )
   ]
@@ -226,28 +244,23 @@ module _ (seen new : BTreeSet (List ℕ)) (keys : List (List ℕ)) (key : List �
       only k q (zero, within, is) = is
       only k q (suc n, within, is) = absurd (omega (arith, within))
 
-pub keys_on : (seen new : BTreeSet (List ℕ)) (l : List Change) (i : ℕ) (d : Change) → i < length l → contains key_cmp new (key_of (slice_index_or l i d)) ≡ true
-    → ((q : List ℕ) → eq_by_cmp key_cmp (key_of (slice_index_or l i d)) q ≡ false → contains key_cmp new q ≡ contains key_cmp seen q)
-    → HasKeys seen (map key_of (take i l)) → HasKeys new (map key_of (take (i + 1) l))
-keys_on seen new l i d within own others has =
-    subst (λ (ks : List (List ℕ)). HasKeys new ks) (sym (keys_more l i d within)) (keys_with seen new (map key_of (take i l)) (key_of (slice_index_or l i d)) own others has)
-
 -- of no change none is made twice
 pub once_none : IsTwice [] → ⊥
 once_none (before, later, key, is, there) = let long : 0 ≡ length (before ++ key ∷ later) = ap length is in let two = length-append before (key ∷ later) in omega (arith, long, two)
 
 -- ---- one key of the loop
-module _ (l : List Change) (i : ℕ) (d : Change) (within : i < length l) (key : List ℕ) (same : key ≡ key_of (slice_index_or l i d)) (seen : BTreeSet (List ℕ)) (has : HasKeys seen (map key_of (take i l))) where
-  pub found_twice : contains key_cmp seen key ≡ true → IsTwice (map key_of l)
+module _ (l : List Change) (i : ℕ) (d : Change) (within : i < length l) (key : Bor (List ℕ)) (same : key.now ≡ key_of (slice_index_or l i d)) (seen : BTreeSet (Bor (List ℕ))) (has : HasKeys seen (map key_of (take i l))) where
+  pub found_twice : contains by_bytes seen key ≡ true → IsTwice (map key_of l)
   found_twice there = twice_found l i d within (subst (λ (k : List ℕ). Contains (map key_of (take i l)) k) same ((has key).0 there))
 
-  pub still_once : contains key_cmp seen key ≡ false → (IsTwice (map key_of (take i l)) → ⊥) → IsTwice (map key_of (take (i + 1) l)) → ⊥
+  pub still_once : contains by_bytes seen key ≡ false → (IsTwice (map key_of (take i l)) → ⊥) → IsTwice (map key_of (take (i + 1) l)) → ⊥
   still_once new once = once_on l i d within once (λ there. false≢true (sym new ∙ (has key).1 (subst (λ (k : List ℕ). Contains (map key_of (take i l)) k) (sym same) there)))
 
-  pub one_key_more : (with_it : BTreeSet (List ℕ)) → contains key_cmp with_it key ≡ true → ((q : List ℕ) → eq_by_cmp key_cmp key q ≡ false → contains key_cmp with_it q ≡ contains key_cmp seen q)
+  pub one_key_more : (with_it : BTreeSet (Bor (List ℕ))) → contains by_bytes with_it key ≡ true → ((q : Bor (List ℕ)) → eq_by_cmp by_bytes key q ≡ false → contains by_bytes with_it q ≡ contains by_bytes seen q)
       → HasKeys with_it (map key_of (take (i + 1) l))
-  one_key_more with_it own others = keys_on seen with_it l i d within (subst (λ (k : List ℕ). contains key_cmp with_it k ≡ true) same own)
-      (subst (λ (k : List ℕ). (q : List ℕ) → eq_by_cmp key_cmp k q ≡ false → contains key_cmp with_it q ≡ contains key_cmp seen q) same others) has
+  one_key_more with_it own others =
+      subst (λ (ks : List (List ℕ)). HasKeys with_it ks) (ap (λ (k : List ℕ). map key_of (take i l) ++ k ∷ []) same ∙ sym (keys_more l i d within))
+      (keys_with seen with_it (map key_of (take i l)) key own others has)
 
 pub not_false : (b : Bool) → not b ≡ false → b ≡ true
 not_false true is = refl
@@ -257,20 +270,21 @@ pub not_true : (b : Bool) → not b ≡ true → b ≡ false
 not_true false is = refl
 not_true true is = absurd (let clash : false ≡ true = is in cc)
 
--- ---- what is left of a list
-drop_one : {A : Type 0} (l : List A) (i : ℕ) (d : A) → i < length l → drop i l ≡ slice_index_or l i d ∷ drop (suc i) l
-drop_one [] i d within = absurd (omega (arith, within))
-drop_one (x ∷ l) zero d within = refl
-drop_one (x ∷ l) (suc i) d within = drop_one l i d (omega (arith, within))
+-- ---- the keys of removes
+removed-append : (xs ys : List Change) → removed_keys (xs ++ ys) ≡ removed_keys xs ++ removed_keys ys
+removed-append [] ys = refl
+removed-append (Put key sets ∷ xs) ys = removed-append xs ys
+removed-append (Remove key ∷ xs) ys = ap (λ (keys : List (List ℕ)). key.now ∷ keys) (removed-append xs ys)
 
-pub drop_next : {A : Type 0} (l : List A) (i : ℕ) (d : A) → i < length l → drop i l ≡ slice_index_or l i d ∷ drop (i + 1) l
-drop_next l i d within = drop_one l i d within ∙ ap (λ (n : ℕ). slice_index_or l i d ∷ drop n l) (let e : suc i ≡ i + 1 = omega arith in e)
+-- one more change is looked at
+pub one_place_more : (xs : List Change) (i : ℕ) (d : Change) (before later : List (List ℕ)) → i < length xs
+    → before ≡ removed_keys (take i xs) → later ≡ before ++ removed_keys (slice_index_or xs i d ∷ [])
+    → later ≡ removed_keys (take (i + 1) xs)
+one_place_more xs i d before later within is added =
+    added ∙ ap (λ (keys : List (List ℕ)). keys ++ removed_keys (slice_index_or xs i d ∷ [])) is
+    ∙ sym (removed-append (take i xs) (slice_index_or xs i d ∷ [])) ∙ ap removed_keys (sym (take_more xs i d within))
 
-pub none_left : {A : Type 0} (l : List A) (i : ℕ) → length l ≤ i → drop i l ≡ []
-none_left [] zero past = refl
-none_left [] (suc i) past = refl
-none_left (x ∷ l) zero past = absurd (omega (arith, past))
-none_left (x ∷ l) (suc i) past = none_left l i (omega (arith, past))
+-- ---- results
 
 -- a result that is an error
 pub on_err : (Q : Type 0) (r : Result (Unit {0}) Refusal) → IsErr r → OnOk r Q

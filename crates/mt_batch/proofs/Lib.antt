@@ -2,3 +2,5 @@
 pub mod RunLemmas
 pub mod MakingLemmas
 pub mod ChangeLemmas
+pub mod RefusalLemmas
+pub mod CallLemmas

@@ -61,6 +61,7 @@ module _ (s m t : MachineView) (mark : Mark) (changes : List RowChange) (ahead :
             views = further.views ∙ on.views;
             built = further.built ∙ on.built;
             epoch = further.epoch ∙ on.epoch;
+            begun = let one = on.begun in let other = further.begun in let both = length-append changes more in omega (arith, one, other, both);
           },
         );
   }
@@ -73,7 +74,7 @@ module _ (s m t : MachineView) (mark : Mark) (changes : List RowChange) (ahead :
     pub put_on : (key : List ℕ) (sets : List (ℕ × List ℕ)) (reply : Reply) → AnswersPlainly m (Put key sets) reply t → IsAhead s mark (changes ++ made.Put key sets ∷ []) t
     put_on key sets reply answers = on_from (made.Put key sets ∷ []) keeps_on (λ g gst.
         let a = answers g gst in
-        let leaves : Leaves key sets (next_call m) g a.then = done_leaves key sets (next_call m) g pass_0 reply a.then a.ran in (
+        let leaves : Leaves key sets (next_call m) g 1 a.then = done_leaves key sets (next_call m) g pass_0 reply a.then a.ran in (
           a.then,
           a.stands,
           record {
@@ -83,6 +84,7 @@ module _ (s m t : MachineView) (mark : Mark) (changes : List RowChange) (ahead :
             views = a.plain.views ∙ append-nil (moment g).views;
             built = leaves.built;
             epoch = leaves.epoch;
+            begun = let is = leaves.begun in omega (arith, is);
           },
         ))
 
@@ -91,7 +93,7 @@ module _ (s m t : MachineView) (mark : Mark) (changes : List RowChange) (ahead :
     put_off key sets refusal refuses =
         subst (λ (cs : List RowChange). IsAhead s mark cs t) (append-nil changes) (on_from [] keeps_on (λ g gst.
         let r = refuses g gst in
-        let leaves : Leaves key sets (next_call m) g r.then = elim r.ran [
+        let leaves : Leaves key sets (next_call m) g 0 r.then = elim r.ran [
           | inl turned ↦ turned_leaves key sets (next_call m) g pass_0 refusal r.then turned
           | inr ran ↦ refused_leaves key sets (next_call m) g pass_0 refusal r.then ran
         ] in (
@@ -104,6 +106,7 @@ module _ (s m t : MachineView) (mark : Mark) (changes : List RowChange) (ahead :
             views = r.nothing.views;
             built = leaves.built;
             epoch = leaves.epoch;
+            begun = let is = leaves.begun in omega (arith, is);
           },
         )))
 
@@ -138,6 +141,10 @@ ok_of Q (Err refusal) result is holds so = subst (λ (r : Result (Unit {0}) Refu
 pub err_of : {P : Refusal → Type 0} (Q : Type 0) (done : Result Reply Refusal) (result : Result (Unit {0}) Refusal) → result ≡ without_reply done → IfErr done P → ((refusal : Refusal) → P refusal → Q) → OnErr result Q
 err_of Q (Ok reply) result is holds so = subst (λ (r : Result (Unit {0}) Refusal). OnErr r Q) (sym is) tt
 err_of Q (Err refusal) result is holds so = subst (λ (r : Result (Unit {0}) Refusal). OnErr r Q) (sym is) (so refusal holds)
+
+pub if_err : {P : Refusal → Type 0} (Q : Refusal → Type 0) (done : Result Reply Refusal) (result : Result (Unit {0}) Refusal) → result ≡ without_reply done → IfErr done P → ((refusal : Refusal) → P refusal → Q refusal) → IfErr result Q
+if_err Q (Ok reply) result is holds so = subst (λ (r : Result (Unit {0}) Refusal). IfErr r Q) (sym is) tt
+if_err Q (Err refusal) result is holds so = subst (λ (r : Result (Unit {0}) Refusal). IfErr r Q) (sym is) (so refusal holds)
 
 -- a clause of an error
 pub either_err : {A : Type 0} (Q : Type 0) (r : Result A Refusal) → Q → OnErr r Q

@@ -1,5 +1,5 @@
 -- A put that runs alone: it builds no view, and advances no epoch.
-use Rattle.std.proofs.Common.{◌≡◌, ◌+◌, ◌==◌, ℕ, Bool, List, [], ◌∷◌, ◌++◌, length, Option, Some, None, refl, sym, ap, subst, ◌∙◌, arith}
+use Rattle.std.proofs.Common.{◌≡◌, ◌≤◌, ◌+◌, ◌==◌, ℕ, Bool, List, [], ◌∷◌, ◌++◌, length, Option, Some, None, refl, sym, ap, subst, ◌∙◌, arith}
 use Rattle.std.specs.Prelude.{if◌then◌else◌}
 use Rattle.std.proofs.lemmas.Bool.{eq-eqb}
 use Rattle.std.proofs.lemmas.List.{append_assoc}
@@ -40,6 +40,7 @@ module _ (key : List ℕ) (sets : List (ℕ × List ℕ)) (number : CallNo) (bef
     pub asks : call.request ≡ request
     pub built : m.built ≡ (moment before).built
     pub epoch : m.epoch ≡ (moment before).epoch
+    pub begun : m.begun ≡ (moment before).begun + 1
 
   begins : (pass : PassNo) (note : ℕ) → (moment before).calls ≡ [] → IsOpen (moment (happening (Begin pass request) (Call number) note ∷ before))
   begins pass note none = record {
@@ -49,26 +50,28 @@ module _ (key : List ℕ) (sets : List (ℕ × List ℕ)) (number : CallNo) (bef
     asks = refl;
     built = refl;
     epoch = refl;
+    begun = refl;
   }
 
   module _ (h : History) (open_ : IsOpen (moment h)) where
     as_step : (outcome : Outcome) (opens : ℕ) → after_event (moment h) (Step number) outcome opens ≡ after_step (moment h) open_.call outcome opens
     as_step outcome opens = ap (λ (r : Option OpenCall). after_call_step (moment h) r outcome opens) (found_alone (moment h).calls open_.call number.0 open_.calls open_.numbered)
 
-    again : (new : OpenCall) (m : Moment) → new.number ≡ open_.call.number → new.request ≡ open_.call.request → m.calls ≡ replace_call new (moment h).calls → m.built ≡ (moment h).built → m.epoch ≡ (moment h).epoch → IsOpen m
-    again new m same asks calls built epoch = record {
+    again : (new : OpenCall) (m : Moment) → new.number ≡ open_.call.number → new.request ≡ open_.call.request → m.calls ≡ replace_call new (moment h).calls → m.built ≡ (moment h).built → m.epoch ≡ (moment h).epoch → m.begun ≡ (moment h).begun → IsOpen m
+    again new m same asks calls built epoch begun = record {
       call = new;
       calls = calls ∙ replaced_alone (moment h).calls open_.call new open_.calls same;
       numbered = same ∙ open_.numbered;
       asks = asks ∙ open_.asks;
       built = built ∙ open_.built;
       epoch = epoch ∙ open_.epoch;
+      begun = begun ∙ open_.begun;
     }
 
     steps_on : (outcome : Outcome) (opens : ℕ) → Continues outcome → IsOpen (moment (happening (Step number) outcome opens ∷ h))
-    steps_on Moved opens on = again (record open_.call { moves = open_.call.moves + 1 }) _ refl refl (ap (λ (m : Moment). m.calls) (as_step Moved opens)) (ap (λ (m : Moment). m.built) (as_step Moved opens)) (ap (λ (m : Moment). m.epoch) (as_step Moved opens))
-    steps_on Again opens on = again (record open_.call { moves = 0 }) _ refl refl (ap (λ (m : Moment). m.calls) (as_step Again opens)) (ap (λ (m : Moment). m.built) (as_step Again opens)) (ap (λ (m : Moment). m.epoch) (as_step Again opens))
-    steps_on (Commit n) opens on = again (record open_.call { committed = Some n; moves = 0 }) _ refl refl (ap (λ (m : Moment). m.calls) (as_step (Commit n) opens)) (ap (λ (m : Moment). m.built) (as_step (Commit n) opens)) (ap (λ (m : Moment). m.epoch) (as_step (Commit n) opens))
+    steps_on Moved opens on = again (record open_.call { moves = open_.call.moves + 1 }) _ refl refl (ap (λ (m : Moment). m.calls) (as_step Moved opens)) (ap (λ (m : Moment). m.built) (as_step Moved opens)) (ap (λ (m : Moment). m.epoch) (as_step Moved opens)) (ap (λ (m : Moment). m.begun) (as_step Moved opens))
+    steps_on Again opens on = again (record open_.call { moves = 0 }) _ refl refl (ap (λ (m : Moment). m.calls) (as_step Again opens)) (ap (λ (m : Moment). m.built) (as_step Again opens)) (ap (λ (m : Moment). m.epoch) (as_step Again opens)) (ap (λ (m : Moment). m.begun) (as_step Again opens))
+    steps_on (Commit n) opens on = again (record open_.call { committed = Some n; moves = 0 }) _ refl refl (ap (λ (m : Moment). m.calls) (as_step (Commit n) opens)) (ap (λ (m : Moment). m.built) (as_step (Commit n) opens)) (ap (λ (m : Moment). m.epoch) (as_step (Commit n) opens)) (ap (λ (m : Moment). m.begun) (as_step (Commit n) opens))
     steps_on _ opens on = absurd on
 
     -- its end
@@ -87,6 +90,12 @@ module _ (key : List ℕ) (sets : List (ℕ × List ℕ)) (number : CallNo) (bef
     refused_epoch : (refusal : Refusal) (opens : ℕ) → (moment (happening (Step number) (Refused refusal) opens ∷ h)).epoch ≡ (moment before).epoch
     refused_epoch refusal opens = ap (λ (m : Moment). m.epoch) (as_step (Refused refusal) opens) ∙ open_.epoch
 
+    done_begun : (reply : Reply) (opens : ℕ) → (moment (happening (Step number) (Done reply) opens ∷ h)).begun ≡ (moment before).begun + 1
+    done_begun reply opens = ap (λ (m : Moment). m.begun) (as_step (Done reply) opens) ∙ open_.begun
+
+    refused_begun : (refusal : Refusal) (opens : ℕ) → (moment (happening (Step number) (Refused refusal) opens ∷ h)).begun ≡ (moment before).begun + 1
+    refused_begun refusal opens = ap (λ (m : Moment). m.begun) (as_step (Refused refusal) opens) ∙ open_.begun
+
   steps_all : (past steps : History) → IsOpen (moment past) → AreStepsOf number steps → IsOpen (moment (steps ++ past))
   steps_all past [] open_ are = open_
   steps_all past (x ∷ steps) open_ are =
@@ -97,12 +106,13 @@ module _ (key : List ℕ) (sets : List (ℕ × List ℕ)) (number : CallNo) (bef
   open_at past run = subst (λ (h : History). IsOpen (moment h)) (sym run.is_past)
       (steps_all (happening (Begin run.pass request) (Call number) run.note ∷ before) run.steps (begins run.pass run.note run.nothing_open) run.are_steps)
 
-  -- ---- what a run leaves as it was
-  pub record Leaves (later : History) : Type 0 where
+  -- ---- what a run leaves as it was, and that so many calls more have begun
+  pub record Leaves (calls : ℕ) (later : History) : Type 0 where
     pub own : History
     pub block : later ≡ own ++ before
     pub built : (moment later).built ≡ (moment before).built
     pub epoch : (moment later).epoch ≡ (moment before).epoch
+    pub begun : (moment before).begun + calls ≤ (moment later).begun
 
   blocked : (past later : History) (last : Happening) → (run : RunsAlone request number before past) → later ≡ last ∷ past → (own : History) × (later ≡ own ++ before)
   blocked past later last run is = (
@@ -110,7 +120,7 @@ module _ (key : List ℕ) (sets : List (ℕ × List ℕ)) (number : CallNo) (bef
     is ∙ ap (λ (h : History). last ∷ h) (run.is_past ∙ sym (append_assoc run.steps (happening (Begin run.pass request) (Call number) run.note ∷ []) before)),
   )
 
-  pub done_leaves : (pass : PassNo) (reply : Reply) (later : History) → RunsThrough pass number request before (Done reply) later → Leaves later
+  pub done_leaves : (pass : PassNo) (reply : Reply) (later : History) → RunsThrough pass number request before (Done reply) later → Leaves 1 later
   done_leaves pass reply later ran =
       let open_ = open_at ran.past ran.run in
       let (own, block) = blocked ran.past later (happening (Step number) (Done reply) ran.note) ran.run ran.is_after in
@@ -119,9 +129,10 @@ module _ (key : List ℕ) (sets : List (ℕ × List ℕ)) (number : CallNo) (bef
         block = block;
         built = ap (λ (h : History). (moment h).built) ran.is_after ∙ done_built ran.past open_ reply ran.note;
         epoch = ap (λ (h : History). (moment h).epoch) ran.is_after ∙ done_epoch ran.past open_ reply ran.note;
+        begun = let is = ap (λ (h : History). (moment h).begun) ran.is_after ∙ done_begun ran.past open_ reply ran.note in omega (arith, is);
       }
 
-  pub refused_leaves : (pass : PassNo) (refusal : Refusal) (later : History) → RunsThrough pass number request before (Refused refusal) later → Leaves later
+  pub refused_leaves : (pass : PassNo) (refusal : Refusal) (later : History) → RunsThrough pass number request before (Refused refusal) later → Leaves 0 later
   refused_leaves pass refusal later ran =
       let open_ = open_at ran.past ran.run in
       let (own, block) = blocked ran.past later (happening (Step number) (Refused refusal) ran.note) ran.run ran.is_after in
@@ -130,12 +141,14 @@ module _ (key : List ℕ) (sets : List (ℕ × List ℕ)) (number : CallNo) (bef
         block = block;
         built = ap (λ (h : History). (moment h).built) ran.is_after ∙ refused_built ran.past open_ refusal ran.note;
         epoch = ap (λ (h : History). (moment h).epoch) ran.is_after ∙ refused_epoch ran.past open_ refusal ran.note;
+        begun = let is = ap (λ (h : History). (moment h).begun) ran.is_after ∙ refused_begun ran.past open_ refusal ran.note in omega (arith, is);
       }
 
-  pub turned_leaves : (pass : PassNo) (refusal : Refusal) (later : History) → IsTurnedAway pass request before refusal later → Leaves later
+  pub turned_leaves : (pass : PassNo) (refusal : Refusal) (later : History) → IsTurnedAway pass request before refusal later → Leaves 0 later
   turned_leaves pass refusal later is = record {
     own = happening (Begin pass request) (Refused refusal) 0 ∷ [];
     block = is;
     built = ap (λ (h : History). (moment h).built) is;
     epoch = ap (λ (h : History). (moment h).epoch) is;
+    begun = let same = ap (λ (h : History). (moment h).begun) is in omega (arith, same);
   }

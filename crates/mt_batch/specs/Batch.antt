@@ -1,13 +1,14 @@
 -- What a batch comes to.
-use Rattle.std.specs.Prelude.{ℕ, ◌≡◌, ◌≢◌, List, [], ◌∷◌, length, take, slice_get, Option, Some, None, nat_lt, ◌||◌, if◌then◌else◌}
+use Rattle.std.specs.Prelude.{ℕ, ◌≡◌, ◌≢◌, List, [], ◌∷◌, length, map, take, slice_get, Option, Some, None, nat_lt, ◌||◌, if◌then◌else◌}
 use Rattle.std.specs.Option.{option_map, option_or}
 use Rattle.std.specs.FinMap.{get}
 use Rattle.std.specs.List.{AllByRecursion}
 use Rattle.mt_types.specs.Limits.{key_fault, request_fault}
 use Rattle.mt_types.specs.Rows.{Rows, version_of}
 use Rattle.mt_types.specs.declared.refusal.Refusal.{Refusal}
+use Rattle.mt_types.specs.declared.refusal.Refusal.TheVariants.{ArenaFull, FeedFull, NoMemory, Spent}
 use Rattle.mt_promise.specs.History.{History, moment, rows}
-use Rattle.mt_index.specs.Marks.{GoesOnBy}
+use Rattle.mt_index.specs.Marks.{GoesOnByCalls}
 use Rattle.mt_index.specs.Stands.{MachineView, Stands}
 use Rattle.mt_batch.specs.declared.batch.Condition.{Condition}
 use Rattle.mt_batch.specs.declared.batch.Change.{Change}
@@ -17,7 +18,7 @@ use Rattle.mt_batch.specs.declared.batch.Batched.TheVariants as came
 use Rattle.mt_batch.specs.declared.batch.BatchError.{BatchError}
 use Rattle.mt_batch.specs.declared.batch.BatchError.TheVariants.{BadBatch, Refused}
 use Rattle.mt_batch.specs.declared.batch.TheConstants.{MAX_BATCH}
-use Rattle.mt_batch.specs.Changes.{made_of, numbers_of, request_of_change}
+use Rattle.mt_batch.specs.Changes.{IsTwice, key_of, made_of, numbers_of, request_of_change}
 
 -- ---- limits
 -- the first limit that a condition breaks
@@ -36,6 +37,19 @@ batch_fault C conditions changes =
     if nat_lt MAX_BATCH (length conditions) || nat_lt MAX_BATCH (length changes) then Some BadBatch
     else option_map Refused (option_or (conditions_fault conditions) (changes_fault C changes))
 
+-- what a put or a remove within its limits may be refused for
+abbrev pub MayLack : Refusal → Type 0
+MayLack NoMemory = Unit {0}
+MayLack ArenaFull = Unit {0}
+MayLack (FeedFull slowest) = Unit {0}
+MayLack Spent = Unit {0}
+MayLack _ = ⊥
+
+-- why a batch within its limits may be refused: it changes a key twice, or for what a change of it may be
+abbrev pub MayFail : List Change → BatchError → Type 0
+MayFail changes BadBatch = IsTwice (map key_of changes)
+MayFail changes (Refused refusal) = MayLack refusal
+
 -- ---- conditions
 abbrev pub Holds : Rows → Condition → Type 0
 Holds rows condition = version_of (get rows condition.key.now) ≡ condition.version
@@ -53,11 +67,12 @@ pub record IsUnmet (rows : Rows) (conditions : List Condition) (place found : �
   pub other : found ≢ condition.version
 
 -- ---- changes
--- all changes are made, as consecutive commits, and nothing else has happened; each has the number that the answer says
+-- all changes are made, as consecutive commits, each as by a call of three events, and nothing else has happened; each has the
+-- number that the answer says
 pub record HasMade (s : MachineView) (h : History) (changes : List Change) (made : Made) (t : MachineView) : Type 0 where
   pub ahead : History
   pub stands : Stands t ahead
-  pub goes : GoesOnBy h (made_of s.columns (moment h).commits changes) ahead
+  pub goes : GoesOnByCalls s.columns h (made_of s.columns (moment h).commits changes) ahead
   pub from : made.from ≡ length (moment h).commits
   pub to : made.to ≡ length (moment ahead).commits
   pub numbers : made.numbers.items ≡ numbers_of s.columns (moment h).commits changes

@@ -4,5 +4,6 @@
 pub mod batch;
 pub mod batching;
 mod making;
+pub mod places;
 mod planning;
 mod testing;

@@ -1,15 +1,16 @@
 //! The changes of a batch, made one after the other: the puts, and then the removes.
 
-ghost use Rattle.std.specs.Prelude.{◌≡◌, ◌++◌, ◌∷◌, IfOk, OnOk, OnErr, None, List, [], map};
+ghost use Rattle.std.specs.Prelude.{◌≡◌, ◌++◌, ◌∷◌, IfOk, IfErr, OnOk, OnErr, None, List, [], map};
 ghost use Rattle.std.specs.List.{AllByRecursion};
 ghost use Rattle.mt_types.specs.declared.row.Change.{Change as RowChange};
-ghost use Rattle.mt_undo.specs.Undoing.{IsPut};
+ghost use Rattle.mt_types.specs.Limits.{request_fault};
+ghost use Rattle.mt_promise.specs.History.{History};
 ghost use Rattle.mt_index.specs.Alone.{IsIdle};
 ghost use Rattle.mt_index.specs.Marks.{IsAhead};
-ghost use Rattle.mt_index.specs.Stands.{MachineView};
+ghost use Rattle.mt_index.specs.Stands.{MachineView, Stands};
 ghost use Rattle.mt_index.specs.declared.marks.Mark.{Mark};
-ghost use Rattle.mt_batch.specs.Batch.{changes_fault};
-ghost use Rattle.mt_batch.specs.Changes.{IsTwice, key_of, puts_of};
+ghost use Rattle.mt_batch.specs.Batch.{MayLack, changes_fault};
+ghost use Rattle.mt_batch.specs.Changes.{IsTwice, key_of, puts_of, request_of_change};
 ghost use Rattle.mt_batch.specs.Making.{HasGone, MakesAll, PutsAll, without_reply};
 
 use crate::batch::Change;
@@ -36,6 +37,8 @@ fn put_one(alloc: Global, machine: &mut Machine, change: &Change<'_>) -> Result<
         → IsAhead s mark (made ++ puts_of (change.now ∷ [])) machine.new) }
     ensures err { OnErr result ((s : MachineView) (mark : Mark) (made : List RowChange) → IsAhead s mark made machine.old
         → IsAhead s mark made machine.new) }
+    ensures lacks { IfErr result (λ refusal. request_fault machine.old.columns (request_of_change change.now) ≡ None
+        → (h : History) → Stands machine.old h → MayLack refusal) }
     ensures idle { IsIdle machine.new }
     ensures columns { machine.new.columns ≡ machine.old.columns }
 {
@@ -54,6 +57,8 @@ fn put_all(alloc: Global, machine: &mut Machine, changes: &[Change<'_>]) -> Resu
     requires { IsIdle machine.old }
     ensures puts { (s : MachineView) (mark : Mark) → IsAhead s mark [] machine.old
         → PutsAll s mark changes.now result machine.new }
+    ensures lacks { IfErr result (λ refusal. changes_fault machine.old.columns changes.now ≡ None
+        → (s : MachineView) (mark : Mark) → IsAhead s mark [] machine.old → MayLack refusal) }
     ensures idle { IsIdle machine.new }
     ensures columns { machine.new.columns ≡ machine.old.columns }
 {
@@ -78,6 +83,7 @@ pub(crate) fn make(
         → MakesAll s mark changes.now from numbers.items machine.new) }
     ensures err { OnErr result ((s : MachineView) (mark : Mark) → IsAhead s mark [] machine.old
         → HasGone s mark machine.new) }
+    ensures lacks { IfErr result MayLack }
     ensures idle { IsIdle machine.new }
 {
     put_all(alloc, machine, changes)?;

@@ -1,6 +1,6 @@
 //! The removes of a batch, prepared: the rows that they are to take away, and the number of each change's commit.
 
-ghost use Rattle.std.specs.Prelude.{◌≡◌, ◌+◌, ◌≤◌, IfOk, OnOk, None, length, List, [], ◌∷◌, ◌++◌};
+ghost use Rattle.std.specs.Prelude.{◌≡◌, ◌+◌, ◌≤◌, IfErr, IfOk, OnOk, None, length, List, [], ◌∷◌, ◌++◌};
 ghost use Rattle.mt_types.specs.Rows.{Rows as RowMap};
 ghost use Rattle.mt_types.specs.declared.limits.TheConstants.{MAX_KEY_BYTES};
 ghost use Rattle.mt_commit.specs.Log.{newest};
@@ -8,7 +8,7 @@ ghost use Rattle.mt_promise.specs.History.{History, moment, rows};
 ghost use Rattle.mt_index.specs.Alone.{IsQuiet};
 ghost use Rattle.mt_index.specs.Stands.{Stands};
 ghost use Rattle.mt_batch.specs.declared.batch.Change.{Change as ChangeView};
-ghost use Rattle.mt_batch.specs.Batch.{changes_fault};
+ghost use Rattle.mt_batch.specs.Batch.{MayLack, changes_fault};
 ghost use Rattle.mt_batch.specs.Changes.{key_of, numbers_from, taken_of};
 
 use crate::batch::Change;
@@ -31,14 +31,16 @@ pub(crate) struct Plan {
 }
 
 fn after(number: u64) -> Result<u64, Refusal>
-    ensures { IfOk result (λ next. next ≡ number + 1) }
+    ensures next { IfOk result (λ next. next ≡ number + 1) }
+    ensures lacks { IfErr result MayLack }
 {
     number.checked_add(1).ok_or(Refusal::Spent)
 }
 
 // A key and a copy of its row.
 fn taken(alloc: Global, key: &[u8], row: &Row) -> Result<(Key, Row), Refusal>
-    ensures { IfOk result (λ made. made ≡ (key.now, row.now)) }
+    ensures taken { IfOk result (λ made. made ≡ (key.now, row.now)) }
+    ensures lacks { IfErr result (λ refusal. length key.now ≤ MAX_KEY_BYTES → MayLack refusal) }
 {
     Ok((key_of(alloc, key)?, row.copy(alloc)?))
 }
@@ -50,6 +52,7 @@ impl Plan {
         ensures numbers { OnOk result (self.new.numbers.items ≡ self.old.numbers.items ++ number ∷ []) }
         ensures put { self.new.put ≡ self.old.put }
         ensures last { self.new.last ≡ self.old.last }
+        ensures lacks { IfErr result MayLack }
     {
         match self.numbers.push(number) {
             Ok(()) => Ok(()),
@@ -68,6 +71,7 @@ impl Plan {
             → self.new.numbers.items ++ numbers_from (rows machine.now.columns (moment h)) self.new.put self.new.last rest
             ≡ self.old.numbers.items ++ numbers_from (rows machine.now.columns (moment h)) self.old.put self.old.last
             (change.now ∷ rest)) }
+        ensures lacks { IfErr result MayLack }
     {
         let Change::Remove { key } = change else {
             self.put = after(self.put)?;
@@ -99,6 +103,7 @@ pub(crate) fn prepare(
     ensures numbers { IfOk result (λ plan. (h : History) → Stands machine.now h
         → plan.numbers.items ≡ numbers_from (rows machine.now.columns (moment h)) from (newest machine.now.log)
         changes.now) }
+    ensures lacks { IfErr result MayLack }
 {
     let mut plan = Plan {
         taken: Vec::new(alloc),

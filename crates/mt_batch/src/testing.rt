@@ -14,9 +14,7 @@ ghost use Rattle.mt_batch.specs.Changes.{IsTwice, key_of};
 use crate::batch::{Change, Condition};
 use mt_asked::limits::key_fault;
 use mt_index::machine::Machine;
-use mt_reads::key_of;
-use mt_types::key::Key;
-use mt_types::refusal::{NoMemory, Refusal};
+use mt_types::refusal::Refusal;
 use std::alloc::Global;
 use std::collections::BTreeSet;
 
@@ -46,11 +44,12 @@ pub(crate) fn changes_fault(columns: u8, changes: &[Change<'_>]) -> Option<Refus
 
 // Returns whether a key is changed twice.
 pub(crate) fn names_twice(alloc: Global, changes: &[Change<'_>]) -> Result<bool, Refusal>
-    ensures { IfOk result (λ twice. IsTrue twice ↔ IsTwice (map key_of changes.now)) }
+    ensures twice { IfOk result (λ twice. IsTrue twice ↔ IsTwice (map key_of changes.now)) }
+    ensures memory { IfErr result (λ refusal. refusal ≡ Refusal.NoMemory) }
 {
     let mut seen = BTreeSet::new(alloc);
     for change in changes {
-        match seen.insert(key_of(alloc, change.key())?) {
+        match seen.insert(change.key()) {
             Ok(true) => {}
             Ok(false) => return Ok(true),
             Err(_) => return Err(Refusal::NoMemory),

@@ -1,5 +1,5 @@
 -- A machine that is ahead of a mark: what it keeps since then, and that it stands once it has settled or gone back.
-use Rattle.std.proofs.Common.{◌≡◌, ◌<◌, ◌≤◌, ◌+◌, ◌==◌, ℕ, cond, List, [], ◌∷◌, ◌++◌, length, map, take, Some, refl, sym, ap, subst, ◌∙◌, arith, length-append}
+use Rattle.std.proofs.Common.{◌≡◌, ◌<◌, ◌≤◌, ◌+◌, ◌-◌, ◌==◌, ℕ, cond, List, [], ◌∷◌, ◌++◌, length, map, min, take, Some, refl, sym, ap, subst, ◌∙◌, arith, length-append}
 use Rattle.std.specs.Prelude.{All, Contains}
 use Rattle.std.specs.FinMap.{get, len}
 use Rattle.std.specs.List.{AllByRecursion}
@@ -8,7 +8,7 @@ use Rattle.std.proofs.lemmas.Bool.{eq-eqb}
 use Rattle.std.proofs.lemmas.List.{append-nil, take-append-le}
 use Rattle.std.proofs.lemmas.List.Elements.{All-contains, All-from_recursion}
 use Rattle.std.proofs.lemmas.List.Sums.{sum_by-cons}
-use Rattle.mt_types.specs.Numbers.{least}
+use Rattle.mt_types.specs.Numbers.{greatest_number, least}
 use Rattle.mt_types.specs.Rows.{after}
 use Rattle.mt_types.specs.declared.row.Change.{Change}
 use Rattle.mt_promise.specs.History.{History, OpenCall, StandingView, moment, rows}
@@ -19,12 +19,14 @@ use Rattle.mt_commit.proofs.CountLemmas.{counted_is_held}
 use Rattle.mt_arena.specs.Arena.{ArenaView}
 use Rattle.mt_steps.specs.Lone.{IsLoneTree}
 use Rattle.mt_undo.specs.Undoing.{CanGoBack, HaveGoneBack, HaveMade, IsPut}
+use Rattle.mt_view.specs.Views.{all_standing}
 use Rattle.mt_index.specs.declared.marks.Mark.{Mark}
 use Rattle.mt_index.specs.Alone.{IsIdle}
-use Rattle.mt_index.specs.Marks.{GoesOnBy, IsAhead}
+use Rattle.mt_index.specs.Marks.{GoesOnBy, GoesOnByCalls, IsAhead}
+use Rattle.mt_index.specs.Calls.{CallsView}
 use Rattle.mt_index.specs.Stands.{MachineView, Stands, HasBounds, holding}
 use Rattle.mt_index.proofs.LogStands.{LogAt, least_grows, trims}
-use Rattle.mt_index.proofs.MarkStands.{exact_where, has_made, held_by_views, idle_tree, moved_stands, none_open, none_reserved, views_reached}
+use Rattle.mt_index.proofs.MarkStands.{exact_where, has_made, held_by_views, idle_tree, moved_stands, none_open, none_reserved, reached_all, views_reached}
 
 -- ---- numbers that are held
 held_within : (bound : ℕ) (xs ys : List ℕ) → ((number : ℕ) → 0 < times_held number xs → 0 < times_held number ys) → All (λ n. n ≤ bound) ys → AllByRecursion (λ n. n ≤ bound) xs
@@ -130,6 +132,54 @@ module _ (s m : MachineView) (mark : Mark) (made : List Change) (ahead : IsAhead
         owned = ost.owned;
         reserved = ost.reserved;
       }
+
+  -- and as if each change was made by a call, of which nothing else is known
+  pub recounted_stands : (other : History) → Legal m.columns other → (moment other).calls ≡ [] → GoesOnBy h made other
+      → Stands (record m { log = trimmed (kept_as mark.keeping m.log); calls = record m.calls { begun = (moment other).begun } }) other
+  recounted_stands other legal none by =
+      let x : MachineView = record m { log = trimmed (kept_as mark.keeping m.log) } in
+      let xst : Stands x g = settled_stands g gst in
+      let commits : (moment other).commits ≡ (moment g).commits = by.commits ∙ sym on.commits in
+      let views : (moment other).views ≡ (moment g).views = by.views ∙ sym on.views in
+      let (lone, now) = idle_tree x g xst idle in
+      let same_held : held_from (moment g) ≡ held_from (moment other) =
+      ap (λ (cs : List Change). least (length cs) (holding (moment g))) (sym commits)
+      ∙ ap (least (length (moment other).commits)) (held_by_views (moment g) (moment other) none_now none (sym views)) in
+      moved_stands x g xst idle x.tree x.log other legal none lone now
+      (subst (λ (cs : List Change). HaveMade x.columns cs x.tree x.log) (sym commits) (has_made x g xst))
+      (xst.trimmed ∙ ap (λ (n : ℕ). min n (kept_after x.log (length (moment g).commits))) same_held
+      ∙ ap (λ (cs : List Change). min (held_from (moment other)) (kept_after x.log (length cs))) (sym commits))
+      (xst.counted ∙ ap (λ (cs : List Change). len (after x.columns cs)) (sym commits))
+      refl (none_reserved x g xst idle)
+      views (by.built ∙ sym on.built) (by.epoch ∙ sym on.epoch)
+      (exact_where x.columns (moment g) (moment other) x.views.views
+      (subst (λ (cs : List Change). AllByRecursion (λ (v : StandingView). v.at ≤ length cs) (all_standing x.views.views)) (sym commits) (reached_all x.columns (moment g) x.views.views xst.views.exact))
+      (λ at now before. ap (take at) commits)
+      xst.views.exact)
+      (λ key row is. xst.keys key row (ap (λ (cs : List Change). get (after x.columns cs) key) (sym commits) ∙ is))
+
+  -- so many calls had begun
+  pub begun_since : mark.begun + length made ≤ m.calls.begun
+  begun_since = let is = on.begun in let now = gst.begun in let before = st.begun in let marked = ap (λ (k : Mark). k.begun) ahead.marked in omega (arith, is, now, before, marked)
+
+  pub few_calls : m.calls.begun ≤ greatest_number → (moment h).begun + length made ≤ greatest_number
+  few_calls few = let is = on.begun in let now = gst.begun in omega (arith, is, now, few)
+
+  pub commits_since : newest m.log ≡ mark.commits + length made
+  commits_since = let more = newest_more in let marked = ap (λ (k : Mark). k.commits) ahead.marked in omega (arith, more, marked)
+
+  -- the machine that has settled
+  pub settled_as : (other : History) → GoesOnByCalls m.columns h made other → (number : ℕ) → number ≡ newest m.log → (log : LogView) → log ≡ trimmed (kept_as mark.keeping m.log)
+      → (calls : CallsView) → calls ≡ record m.calls { begun = mark.begun + (number - mark.commits) } → Stands (record m { log = log; calls = calls }) other
+  settled_as other by number is log is_log calls is_calls =
+      let marked = ap (λ (k : Mark). k.begun) ahead.marked in
+      let before = st.begun in
+      let since = commits_since in
+      let begun = by.begun in
+      let e : mark.begun + (number - mark.commits) ≡ (moment other).begun = omega (arith, marked, before, since, is, begun) in
+      subst (λ (l : LogView). Stands (record m { log = l; calls = calls }) other) (sym is_log)
+      (subst (λ (cs : CallsView). Stands (record m { log = trimmed (kept_as mark.keeping m.log); calls = cs }) other) (sym (is_calls ∙ ap (λ (n : ℕ). record m.calls { begun = n }) e))
+      (recounted_stands other by.legal by.closed by.on))
 
   pub settled_bounds : HasBounds s.log.capacity s.log.retention (trimmed (kept_as mark.keeping m.log))
   settled_bounds = (ahead.keeps.capacity, keeping_retention)

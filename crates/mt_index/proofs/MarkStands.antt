@@ -176,5 +176,5 @@ marked_ahead s (h, st) idle sound few = record {
   some = (h, st);
   columns = refl;
   keeps = record { base = refl; retention = refl; capacity = refl };
-  led = λ h st. (h, keeping_stands s h sound st, record { own = []; block = refl; commits = sym (append-nil (moment h).commits); views = refl; built = refl; epoch = refl });
+  led = λ h st. (h, keeping_stands s h sound st, record { own = []; block = refl; commits = sym (append-nil (moment h).commits); views = refl; built = refl; epoch = refl; begun = omega arith });
 }

@@ -1,5 +1,5 @@
 -- A machine from which rows are removed at once, each by a call alone: the history that it is then at.
-use Rattle.std.proofs.Common.{◌≡◌, ◌<◌, ◌≤◌, ◌+◌, ◌-◌, ℕ, List, [], ◌∷◌, ◌++◌, length, take, min, max, Option, Some, None, IsSome, refl, sym, ap, subst, ◌∙◌, inl, inr, arith, length-append}
+use Rattle.std.proofs.Common.{◌≡◌, ◌<◌, ◌≤◌, ◌+◌, ◌-◌, ◌*◌, ℕ, List, [], ◌∷◌, ◌++◌, length, take, min, max, Option, Some, None, IsSome, refl, sym, ap, subst, ◌∙◌, inl, inr, arith, length-append}
 use Rattle.std.specs.FinMap.{get, len}
 use Rattle.std.specs.List.{AllByRecursion}
 use Rattle.std.proofs.Math.Nat.{min-le_left}
@@ -40,6 +40,7 @@ pub record Goes (C : ℕ) (h : History) (taken : List Taken) : Type 0 where
   pub calls : (moment ahead).calls ≡ []
   pub begun : (moment ahead).begun ≡ (moment h).begun + length taken
   pub on : GoesOnBy h (drops taken) ahead
+  pub events : length ahead ≡ length h + 3 * length taken
 
 pub removes_go : (C : ℕ) (h : History) (taken : List Taken) → Legal C h → (moment h).calls ≡ [] → (moment h).begun + length taken ≤ greatest_number → AreThere (rows C (moment h)) taken → AreApart taken
     → AllByRecursion (λ (t : Taken). length t.0 ≤ MAX_KEY_BYTES) taken → Goes C h taken
@@ -48,7 +49,8 @@ removes_go C h [] legal none few there apart fit = record {
   legal = legal;
   calls = none;
   begun = (let e : (moment h).begun ≡ (moment h).begun + 0 = omega arith in e);
-  on = record { own = []; block = refl; commits = sym (append-nil (moment h).commits); views = refl; built = refl; epoch = refl };
+  on = record { own = []; block = refl; commits = sym (append-nil (moment h).commits); views = refl; built = refl; epoch = refl; begun = omega arith };
+  events = omega arith;
 }
 removes_go C h (t ∷ taken) legal none few there apart fit =
     let left : (moment h).begun < greatest_number = omega (arith, few) in
@@ -71,7 +73,9 @@ removes_go C h (t ∷ taken) legal none few there apart fit =
         views = rest.on.views ∙ on.views;
         built = rest.on.built ∙ on.built;
         epoch = rest.on.epoch ∙ on.epoch;
+        begun = let first = on.begun in let then_begun = rest.on.begun in omega (arith, first, then_begun);
       };
+      events = let more = rest.events in omega (arith, more);
     }
 
 -- ---- what has a row then had it before

@@ -1,7 +1,7 @@
 //! Marks: a machine on which no call is open keeps what it commits from a mark on, so that it can go back to it. And rows
 //! that are removed together, in a way that can't fail in the middle.
 
-ghost use Rattle.std.specs.Prelude.{◌≡◌, ◌≤◌, [], OnOk, OnErr, List, length};
+ghost use Rattle.std.specs.Prelude.{◌≡◌, ◌≤◌, ◌+◌, [], IfErr, OnOk, OnErr, List, length};
 ghost use Rattle.std.specs.List.{AllByRecursion};
 ghost use Rattle.mt_types.specs.Numbers.{greatest_number};
 ghost use Rattle.mt_types.specs.declared.limits.TheConstants.{MAX_KEY_BYTES};
@@ -10,7 +10,7 @@ ghost use Rattle.mt_promise.specs.History.{History, moment, rows};
 ghost use Rattle.mt_undo.specs.Undoing.{IsPut};
 ghost use Rattle.mt_undo.specs.Removing.{AreApart, AreThere, Taken, drops};
 ghost use Rattle.mt_index.specs.Alone.{IsIdle};
-ghost use Rattle.mt_index.specs.Marks.{GoesOnBy, IsAhead, KeepsAll};
+ghost use Rattle.mt_index.specs.Marks.{AreRefused, GoesOnBy, GoesOnByCalls, IsAhead, KeepsAll};
 ghost use Rattle.mt_index.specs.Stands.{HasBounds, MachineView, Stands};
 
 use crate::machine::Machine;
@@ -48,19 +48,26 @@ impl Machine {
         }
     }
 
-    /// Lets the changes since a mark be: the log keeps deltas as it did before. No call may be open. O(n) in the deltas that
-    /// it drops.
+    /// Lets the changes since a mark be: the log keeps deltas as it did before, and of the calls since then those count by which
+    /// a change was made. No call may be open. O(n) in the deltas that it drops.
     pub fn settle(&mut self, mark: Mark)
         requires idle { IsIdle self.old }
-        requires ahead { (s : MachineView) × (made : List ChangeView) × IsAhead s mark made self.old }
-        ensures stands { (h : History) → Stands self.old h → Stands self.new h }
+        requires ahead { (s : MachineView) × (made : List ChangeView) × IsAhead s mark made self.old
+            × ((h : History) → Stands s h → (moment h).begun + length made ≤ greatest_number
+            → (other : History) × GoesOnByCalls self.old.columns h made other) }
+        ensures stands { (s : MachineView) (made : List ChangeView) → IsAhead s mark made self.old
+            → (h other : History) → Stands s h → GoesOnByCalls self.old.columns h made other → Stands self.new other }
+        ensures few { (s : MachineView) (made : List ChangeView) → IsAhead s mark made self.old
+            → (h : History) → Stands s h → (moment h).begun + length made ≤ greatest_number }
         ensures idle { IsIdle self.new }
         ensures columns { self.new.columns ≡ self.old.columns }
         ensures bounds { (s : MachineView) (made : List ChangeView) → IsAhead s mark made self.old
             → HasBounds s.log.capacity s.log.retention self.new.log }
     {
-        let _sound = self.log.number();
+        let _few = self.calls.begun();
+        let made = self.log.number() - mark.commits;
         self.log.keep_as(mark.keeping);
+        self.calls.begin_after(mark.begun + made);
     }
 
     /// Goes back to a mark: the puts since then are undone, with their commits and their calls. The machine is then at
@@ -104,6 +111,7 @@ impl Machine {
         ensures ok { OnOk result ((h : History) → Stands self.old h
             → (ahead : History) × Stands self.new ahead × GoesOnBy h (drops taken.items) ahead) }
         ensures err { OnErr result (self.new ≡ self.old) }
+        ensures refused { IfErr result (AreRefused self.old (length taken.items)) }
         ensures idle { IsIdle self.new }
         ensures keeps { KeepsAll self.old self.new }
         ensures columns { self.new.columns ≡ self.old.columns }

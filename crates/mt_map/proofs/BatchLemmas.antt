@@ -1,11 +1,13 @@
--- Tidies that follow the removes of a batch, one after the other.
-use Rattle.std.proofs.Common.{List, [], ◌∷◌, subst}
-use Rattle.mt_batch.specs.declared.batch.Change.{Change}
-use Rattle.mt_batch.specs.declared.batch.Change.TheVariants.{Put, Remove}
-use Rattle.mt_batch.specs.Changes.{removed_keys}
+-- Tidies that follow a batch, one after the other.
+use Rattle.std.proofs.Common.{ℕ, List, ◌∷◌}
 use Rattle.mt_index.specs.Stands.{MachineView}
 use Rattle.mt_map.specs.Batches.{PurgesEach}
+use Rattle.mt_map.specs.Tidies.{PurgesIfEmptied}
 
-pub each_on : (s m t : MachineView) (change : Change) (rest : List Change) → PurgesEach s (removed_keys (change ∷ [])) m → PurgesEach m (removed_keys rest) t → PurgesEach s (removed_keys (change ∷ rest)) t
-each_on s m t (Put key sets) rest same others = subst (λ (x : MachineView). PurgesEach x (removed_keys rest) t) same others
-each_on s m t (Remove key) rest (x, first, same) others = (x, first, subst (λ (y : MachineView). PurgesEach y (removed_keys rest) t) same others)
+-- what is left of a list of places, and that all follow once these do
+abbrev pub AllFollow : MachineView → List (List ℕ) → MachineView → List (List ℕ) → Type 0
+AllFollow s keys m rest = (t : MachineView) → PurgesEach m rest t → PurgesEach s keys t
+
+pub follow_on : (s m n : MachineView) (keys : List (List ℕ)) (key : List ℕ) (rest : List (List ℕ))
+    → AllFollow s keys m (key ∷ rest) → PurgesIfEmptied m key n → AllFollow s keys n rest
+follow_on s m n keys key rest all purges t others = all t (n, purges, others)

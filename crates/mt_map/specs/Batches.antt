@@ -1,5 +1,5 @@
 -- What a batch of a map comes to.
-use Rattle.std.specs.Prelude.{ℕ, ◌≡◌, ◌⊎◌, Bool, MatchBool, List, [], ◌∷◌}
+use Rattle.std.specs.Prelude.{ℕ, ◌≡◌, Bool, List, [], ◌∷◌, if◌then◌else◌}
 use Rattle.mt_batch.specs.declared.batch.Batched.{Batched}
 use Rattle.mt_batch.specs.declared.batch.Batched.TheVariants.{Made, Unmet}
 use Rattle.mt_batch.specs.declared.batch.Change.{Change}
@@ -9,21 +9,21 @@ use Rattle.mt_batch.specs.Changes.{removed_keys}
 use Rattle.mt_index.specs.Stands.{MachineView}
 use Rattle.mt_map.specs.Tidies.{MapView, PurgesIfEmptied}
 
--- tidies follow at a key if its border is empty, or none do, if memory for a copy of the key is refused
-abbrev pub PurgesOrNot : MachineView → List ℕ → MachineView → Type 0
-PurgesOrNot s key t = PurgesIfEmptied s key t ⊎ (t ≡ s)
+-- the keys at which tidies are to follow: those whose rows are to be removed, if tidies follow removes
+abbrev pub places_of : Bool → List Change → List (List ℕ)
+places_of tidies changes = if tidies then removed_keys changes else []
 
--- at each of these keys, one after the other
+-- at each of these keys, one after the other, tidies follow if its border is empty
 abbrev pub PurgesEach : MachineView → List (List ℕ) → MachineView → Type 0
 PurgesEach s [] t = t ≡ s
-PurgesEach s (key ∷ keys) t = (m : MachineView) × PurgesOrNot s key m × PurgesEach m keys t
+PurgesEach s (key ∷ keys) t = (m : MachineView) × PurgesIfEmptied s key m × PurgesEach m keys t
 
--- they follow at each key that was to be removed, if the batch is made, and if tidies follow removes
-abbrev pub TidiesFollow : Bool → Batched → List Change → MachineView → MachineView → Type 0
-TidiesFollow tidies (Made made) changes s t = MatchBool tidies (PurgesEach s (removed_keys changes) t) (t ≡ s)
-TidiesFollow tidies (Unmet place found) changes s t = t ≡ s
+-- they follow if the batch is made
+abbrev pub PurgesAfter : Batched → MachineView → List (List ℕ) → MachineView → Type 0
+PurgesAfter (Made made) s keys t = PurgesEach s keys t
+PurgesAfter (Unmet place found) s keys t = t ≡ s
 
 -- WHAT A BATCH OF A MAP COMES TO, and then the tidies that follow
 abbrev pub MapBatches : MapView → List Condition → List Change → Batched → MapView → Type 0
 MapBatches s conditions changes came t = (m : MachineView) × ComesTo s.machine conditions changes came m
-    × TidiesFollow s.tidies came changes m t.machine
+    × PurgesAfter came m (places_of s.tidies changes) t.machine

@@ -1,63 +1,54 @@
-//! Batches of a map: several changes as one, and the tidies that follow its removes.
+//! Batches of a map: several changes as one, and the tidies that follow the removes.
 
-ghost use Rattle.std.specs.Prelude.{◌≡◌, ◌∷◌, [], IfOk, OnOk, OnErr, MatchOption, Err, map};
-ghost use Rattle.mt_batch.specs.Batch.{StaysThere, batch_fault};
-ghost use Rattle.mt_batch.specs.Changes.{IsTwice, key_of, removed_keys};
+ghost use Rattle.std.specs.Prelude.{ℕ, ◌≡◌, IfErr, IfOk, OnOk, OnErr, MatchOption, Err, None, map};
+ghost use Rattle.mt_batch.specs.Batch.{MayFail, MayLack, StaysThere, batch_fault, changes_fault};
+ghost use Rattle.mt_batch.specs.Changes.{IsTwice, key_of};
 ghost use Rattle.mt_index.specs.Alone.{IsIdle};
-ghost use Rattle.mt_map.specs.Batches.{MapBatches, PurgesEach, TidiesFollow};
+ghost use Rattle.mt_map.specs.Batches.{MapBatches, PurgesAfter, PurgesEach, places_of};
 
 use crate::map::Map;
 use crate::tidying::tidy_after;
 use mt_batch::batch::{BatchError, Batched, Change, Condition};
-use mt_batch::batching::batch;
+use mt_batch::batching::{batch, batch_fault};
+use mt_batch::places::removed_places;
 use mt_index::machine::Machine;
-use mt_reads::key_of;
+use mt_types::key::Key;
+use mt_types::refusal::Refusal;
 use std::alloc::Global;
 
-// Makes the tidies that follow a change, if it is a remove, and if memory for a copy of its key is there.
-fn tidy_if(alloc: Global, machine: &mut Machine, change: &Change<'_>)
+// Returns copies of the keys at which tidies are to follow: those whose rows are to be removed, or none.
+fn places_of(alloc: Global, tidies: bool, changes: &[Change<'_>]) -> Result<Vec<Key>, Refusal>
+    requires fit { (columns : ℕ) × (changes_fault columns changes.now ≡ None) }
+    ensures places { IfOk result (λ places. places.items ≡ places_of tidies changes.now) }
+    ensures lacks { IfErr result MayLack }
+{
+    if tidies {
+        removed_places(alloc, changes)
+    } else {
+        Ok(Vec::new(alloc))
+    }
+}
+
+// Makes the tidies that follow removes at these places.
+fn tidy_each(alloc: Global, machine: &mut Machine, places: Vec<Key>)
     requires { IsIdle machine.old }
-    ensures purges { PurgesEach machine.old (removed_keys (change.now ∷ [])) machine.new }
+    ensures purges { PurgesEach machine.old places.items machine.new }
     ensures idle { IsIdle machine.new }
 {
-    let Change::Remove { key } = change else {
-        return;
-    };
-    if let Ok(place) = key_of(alloc, key) {
+    for place in places {
         tidy_after(alloc, machine, place);
     }
 }
 
-// Makes the tidies that follow the removes among these changes.
-fn tidy_each(alloc: Global, machine: &mut Machine, changes: &[Change<'_>])
+// Makes the tidies that follow a batch at these places, if it is made.
+fn tidy_batch(alloc: Global, machine: &mut Machine, came: &Batched, places: Vec<Key>)
     requires { IsIdle machine.old }
-    ensures purges { PurgesEach machine.old (removed_keys changes.now) machine.new }
+    ensures follow { PurgesAfter came.now machine.old places.items machine.new }
     ensures idle { IsIdle machine.new }
 {
-    for change in changes {
-        tidy_if(alloc, machine, change);
+    if let Batched::Made(_) = came {
+        tidy_each(alloc, machine, places);
     }
-}
-
-// Makes the tidies that follow a batch, if it is made, and if tidies follow removes.
-fn tidy_batch(
-    alloc: Global,
-    machine: &mut Machine,
-    tidies: bool,
-    came: &Batched,
-    changes: &[Change<'_>],
-)
-    requires { IsIdle machine.old }
-    ensures follow { TidiesFollow tidies came.now changes.now machine.old machine.new }
-    ensures idle { IsIdle machine.new }
-{
-    let Batched::Made(_) = came else {
-        return;
-    };
-    if !tidies {
-        return;
-    }
-    tidy_each(alloc, machine, changes);
 }
 
 impl Map {
@@ -95,12 +86,19 @@ impl Map {
         ensures came { IfOk result (λ came. MapBatches self.old conditions.now changes.now came self.new) }
         ensures stays { OnErr result (StaysThere self.old.machine self.new.machine) }
         ensures fault { MatchOption (batch_fault self.old.machine.columns conditions.now changes.now)
-            (result ≡ Err BatchError.BadBatch → IsTwice (map key_of changes.now)) (λ error. result ≡ Err error) }
+            (IfErr result (MayFail changes.now)) (λ error. result ≡ Err error) }
         ensures once { OnOk result (IsTwice (map key_of changes.now) → ⊥) }
         ensures tidies { self.new.tidies ≡ self.old.tidies }
     {
+        if let Some(error) = batch_fault(self.machine.columns(), conditions, changes) {
+            return Err(error);
+        }
+        let places = match places_of(self.alloc, self.tidies, changes) {
+            Ok(places) => places,
+            Err(refusal) => return Err(BatchError::Refused(refusal)),
+        };
         let came = batch(self.alloc, &mut self.machine, conditions, changes)?;
-        tidy_batch(self.alloc, &mut self.machine, self.tidies, &came, changes);
+        tidy_batch(self.alloc, &mut self.machine, &came, places);
         Ok(came)
     }
 }

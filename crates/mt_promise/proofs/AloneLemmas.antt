@@ -353,6 +353,14 @@ plainly_refused C before h same (Tidy key) (OtherVersion other) may = absurd may
 plainly_refused C before h same (Build spec) (OtherVersion other) may = absurd may
 plainly_refused C before h same _ _ may = tt
 
+-- a call alone is refused for what may end it
+pub lone_refusal_may_end : (C : ℕ) (request : Request) (number : CallNo) (refusal : Refusal) (end : ℕ) (before past : History) → RunsAlone request number before past → Legal C (happening (Step number) (Refused refusal) end ∷ past)
+    → MayEnd C past (length before) request refusal
+lone_refusal_may_end C request number refusal end before past run legal =
+    let s = since C request number before past run legal.0 in
+    let may = may_step C request number before past s (happening (Step number) (Refused refusal) end) refl legal.1 in
+    subst (λ (q : Request). MayEnd C past (length before) q refusal) s.is_open.asks (subst (λ (n : ℕ). MayEnd C past n s.call.request refusal) s.is_open.began may.1)
+
 pub lone_refusals_do_nothing : LoneRefusalsDoNothing
 lone_refusals_do_nothing C request number refusal end before past run legal =
     let s = since C request number before past run legal.0 in
@@ -360,7 +368,7 @@ lone_refusals_do_nothing C request number refusal end before past run legal =
     let same = after_it C request number before past s x refl in
     let may = may_step C request number before past s x refl legal.1 in
     let (unchanged, all) = untouched C request before past s.call.committed (moment past).commits may.0 s.done in
-    let ends = subst (λ (q : Request). MayEnd C past (length before) q refusal) s.is_open.asks (subst (λ (n : ℕ). MayEnd C past n s.call.request refusal) s.is_open.began may.1) in
+    let ends = lone_refusal_may_end C request number refusal end before past run legal in
     record {
       plain = plainly_refused C before past all request refusal ends;
       commits = ap (λ (m : Moment). m.commits) same ∙ unchanged;

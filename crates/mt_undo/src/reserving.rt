@@ -1,6 +1,7 @@
 //! Room in a log for several deltas, or for none.
 
-ghost use Rattle.std.specs.Prelude.{◌≡◌, ◌+◌, ◌-◌, ◌≤◌, OnOk, OnErr};
+ghost use Rattle.std.specs.Prelude.{◌≡◌, ◌+◌, ◌-◌, ◌≤◌, IfErr, OnOk, OnErr};
+ghost use Rattle.mt_undo.specs.Reserving.{IsRoomRefused};
 
 use mt_commit::log::Log;
 use mt_types::refusal::Refusal;
@@ -23,6 +24,7 @@ fn give_back(log: &mut Log, count: usize)
 pub fn reserve_all(log: &mut Log, count: usize) -> Result<(), Refusal>
     ensures ok { OnOk result (log.new ≡ record log.old { reserved = log.old.reserved + count }) }
     ensures err { OnErr result (log.new ≡ log.old) }
+    ensures refused { IfErr result (IsRoomRefused log.old count) }
 {
     for made in 0..count {
         if let Err(refusal) = log.reserve() {

@@ -1,6 +1,6 @@
 -- What comes of batches that C passes, case by case.
 use Rattle.std.proofs.Common.{◌≡◌, ◌∙◌, ◌+◌, ◌<◌, ◌++◌, ◌∷◌, [], ℕ, List, Bool, get_or, take, true, false, refl, sym, ap, subst, inl, inr}
-use Rattle.std.specs.Prelude.{◌⊎◌, Option, Some, None, Result, Ok, Err, IfOk, OnOk, OnErr, MatchOption, nat_lt, ◌||◌, if◌then◌else◌, length, map}
+use Rattle.std.specs.Prelude.{◌⊎◌, Option, Some, None, Result, Ok, Err, IfErr, IfOk, OnOk, OnErr, MatchOption, nat_lt, ◌||◌, if◌then◌else◌, length, map}
 use Rattle.std.specs.Option.{option_map, option_or}
 use Rattle.std.proofs.lemmas.List.{map-append, take_more}
 use Rattle.mt_types.specs.declared.refusal.Refusal.TheVariants.{NoMemory}
@@ -10,7 +10,7 @@ use Rattle.mt_batch.specs.declared.batch.BatchError.TheVariants.{BadBatch, Refus
 use Rattle.mt_batch.specs.declared.batch.Change.{Change}
 use Rattle.mt_batch.specs.declared.batch.Condition.{Condition}
 use Rattle.mt_batch.specs.declared.batch.TheConstants.{MAX_BATCH}
-use Rattle.mt_batch.specs.Batch.{StaysThere, batch_fault, changes_fault, conditions_fault}
+use Rattle.mt_batch.specs.Batch.{MayFail, StaysThere, batch_fault, changes_fault, conditions_fault}
 use Rattle.mt_batch.specs.Changes.{IsTwice, key_of}
 use Rattle.mt_map.specs.Batches.{MapBatches}
 use Rattle.mt_map.specs.Tidies.{MapView}
@@ -46,24 +46,24 @@ pub ends_too_long : (s : MapView) (conditions : List Condition) (changes : List 
 ends_too_long s conditions changes many = record {
   made = tt;
   stays = λ h stands. stands;
-  fault = subst (λ (fault : Option BatchError). MatchOption fault (◌≡◌ {A = Result Batched BatchError} (Err BadBatch) (Err BadBatch) → IsTwice (map key_of changes))
+  fault = subst (λ (fault : Option BatchError). MatchOption fault (MayFail changes BadBatch)
       (λ error. (◌≡◌ {A = Result Batched BatchError} (Err BadBatch) (Err error)) ⊎ (◌≡◌ {A = Result Batched BatchError} (Err BadBatch) (Err (Refused NoMemory)))))
       (sym (too_many s.machine.columns conditions changes many)) (inl refl);
   once = tt;
   tidies = refl;
 }
 
-no_memory : (fault : Option BatchError) (T : Type 0) → MatchOption fault (◌≡◌ {A = Result Batched BatchError} (Err (Refused NoMemory)) (Err BadBatch) → T)
+no_memory : (fault : Option BatchError) (changes : List Change) → MatchOption fault (MayFail changes (Refused NoMemory))
     (λ error. (◌≡◌ {A = Result Batched BatchError} (Err (Refused NoMemory)) (Err error)) ⊎ (◌≡◌ {A = Result Batched BatchError} (Err (Refused NoMemory)) (Err (Refused NoMemory))))
-no_memory None T = λ clash. let not : ◌≡◌ {A = Result Batched BatchError} (Err (Refused NoMemory)) (Err BadBatch) = clash in cc
-no_memory (Some error) T = inr refl
+no_memory None changes = tt
+no_memory (Some error) changes = inr refl
 
 pub ends_unmade : (s : MapView) (conditions : List Condition) (changes : List Change)
     → BatchEnds s conditions changes (Err (Refused NoMemory)) s
 ends_unmade s conditions changes = record {
   made = tt;
   stays = λ h stands. stands;
-  fault = no_memory (batch_fault s.machine.columns conditions changes) (IsTwice (map key_of changes));
+  fault = no_memory (batch_fault s.machine.columns conditions changes) changes;
   once = tt;
   tidies = refl;
 }
@@ -75,12 +75,12 @@ weaker (Some error) T came is = inl is
 
 pub ends_as_map : (s t : MapView) (conditions : List Condition) (changes : List Change) (came : Result Batched BatchError)
     → IfOk came (λ batched. MapBatches s conditions changes batched t) → OnErr came (StaysThere s.machine t.machine)
-    → MatchOption (batch_fault s.machine.columns conditions changes) (came ≡ Err BadBatch → IsTwice (map key_of changes)) (λ error. came ≡ Err error)
+    → MatchOption (batch_fault s.machine.columns conditions changes) (IfErr came (MayFail changes)) (λ error. came ≡ Err error)
     → OnOk came (IsTwice (map key_of changes) → ⊥) → t.tidies ≡ s.tidies → BatchEnds s conditions changes came t
 ends_as_map s t conditions changes came made stays fault once tidies = record {
   made = made;
   stays = stays;
-  fault = weaker (batch_fault s.machine.columns conditions changes) (came ≡ Err BadBatch → IsTwice (map key_of changes)) came fault;
+  fault = weaker (batch_fault s.machine.columns conditions changes) (IfErr came (MayFail changes)) came fault;
   once = once;
   tidies = tidies;
 }

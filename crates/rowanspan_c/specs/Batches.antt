@@ -1,5 +1,5 @@
 -- What a batch does with what a handle holds, and what it reports.
-use Rattle.std.specs.Prelude.{ℕ, ◌≡◌, ◌⊎◌, List, ◌++◌, length, min, take, drop, if◌then◌else◌, map, Result, Ok, Err, Option, Some, None, IfOk, OnOk, OnErr, MatchOption}
+use Rattle.std.specs.Prelude.{ℕ, ◌≡◌, ◌⊎◌, List, ◌++◌, length, min, take, drop, if◌then◌else◌, map, Result, Ok, Err, Option, Some, None, IfErr, IfOk, OnOk, OnErr, MatchOption}
 use Rattle.mt_types.specs.declared.refusal.Refusal.TheVariants.{NoMemory}
 use Rattle.mt_batch.specs.declared.batch.Batched.{Batched}
 use Rattle.mt_batch.specs.declared.batch.Batched.TheVariants.{Made, Unmet}
@@ -8,7 +8,7 @@ use Rattle.mt_batch.specs.declared.batch.BatchError.TheVariants.{BadBatch, Refus
 use Rattle.mt_batch.specs.declared.batch.Change.{Change}
 use Rattle.mt_batch.specs.declared.batch.Change.TheVariants.{Put, Remove}
 use Rattle.mt_batch.specs.declared.batch.Condition.{Condition}
-use Rattle.mt_batch.specs.Batch.{StaysThere, batch_fault}
+use Rattle.mt_batch.specs.Batch.{MayFail, StaysThere, batch_fault}
 use Rattle.mt_batch.specs.Changes.{IsTwice, key_of}
 use Rattle.mt_map.specs.Batches.{MapBatches}
 use Rattle.mt_map.specs.Tidies.{MapView}
@@ -26,8 +26,7 @@ pub record BatchEnds (s : MapView) (conditions : List Condition) (changes : List
     (came : Result Batched BatchError) (t : MapView) : Type 0 where
   pub made : IfOk came (λ batched. MapBatches s conditions changes batched t)
   pub stays : OnErr came (StaysThere s.machine t.machine)
-  pub fault : MatchOption (batch_fault s.machine.columns conditions changes)
-      (came ≡ Err BadBatch → IsTwice (map key_of changes))
+  pub fault : MatchOption (batch_fault s.machine.columns conditions changes) (IfErr came (MayFail changes))
       (λ error. (came ≡ Err error) ⊎ (came ≡ Err (Refused NoMemory)))
   pub once : OnOk came (IsTwice (map key_of changes) → ⊥)
   pub tidies : t.tidies ≡ s.tidies

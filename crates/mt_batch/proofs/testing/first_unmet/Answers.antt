@@ -1,7 +1,8 @@
 use Rattle.std.proofs.Common.{sym, ◌∙◌, arith}
 use Rattle.mt_promise.specs.History.{moment, rows}
 use Rattle.mt_batch.specs.Batch.{Holds}
-use Rattle.mt_batch.proofs.ChangeLemmas.{all_more, all_whole, condition_fits, index_there}
+use Rattle.std.proofs.lemmas.Option.{slice_get-get_or}
+use Rattle.mt_batch.proofs.ChangeLemmas.{all_more, all_whole, condition_fits}
 use Rattle.mt_batch.proofs.testing.first_unmet.Goals as goal
 
 pub loop-place-init : goal.loop-place-init
@@ -9,13 +10,13 @@ loop-place-init c h st = tt
 
 pub version_at-found-requires-clause-fits : goal.version_at-found-requires-clause-fits
 version_at-found-requires-clause-fits c =
-    condition_fits c.args.conditions.now c.loop-place.place _ c.requires.fit (index_there c.args.conditions.now c.loop-place.place _ c.loop-place-test.true)
+    condition_fits c.args.conditions.now c.loop-place.place _ c.requires.fit (slice_get-get_or c.args.conditions.now c.loop-place.place _ c.loop-place-test.true)
 
 pub returns-then-found-condition-clause-unmet : goal.returns-then-found-condition-clause-unmet
 returns-then-found-condition-clause-unmet c h st = record {
   met = c.loop-place.invariant h st;
   condition = _;
-  there = index_there c.args.conditions.now c.loop-place.place _ c.loop-place-test.true;
+  there = slice_get-get_or c.args.conditions.now c.loop-place.place _ c.loop-place-test.true;
   has = c.version_at-found.ensures h st;
   other = c.if-found-condition.true;
 }

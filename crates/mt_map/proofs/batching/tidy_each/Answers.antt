@@ -1,30 +1,31 @@
-use Rattle.std.proofs.Common.{◌+◌, List, drop, sym, subst, refl, arith}
-use Rattle.mt_batch.specs.declared.batch.Change.{Change}
-use Rattle.mt_batch.specs.Changes.{removed_keys}
-use Rattle.mt_batch.proofs.ChangeLemmas.{drop_next, none_left}
-use Rattle.mt_map.specs.Batches.{PurgesEach}
-use Rattle.mt_map.proofs.BatchLemmas.{each_on}
+use Rattle.std.proofs.Common.{ℕ, List, [], ◌≡◌, refl, subst, arith}
+use Rattle.std.proofs.lemmas.List.{nil_from_length}
+use Rattle.mt_map.proofs.BatchLemmas.{AllFollow, follow_on}
 use Rattle.mt_map.proofs.batching.tidy_each.Goals as goal
 
-pub loop-change-init : goal.loop-change-init
-loop-change-init c = record { idle = c.requires; rest = λ t all. all }
+pub loop-place-init : goal.loop-place-init
+loop-place-init c =
+    let e : c.args.places.items ≡ c.into_iter-place-iterator.result.rest.items = search in
+    record {
+      idle = c.requires;
+      all = subst (λ (ks : List (List ℕ)). AllFollow c.args.machine.now c.args.places.items c.args.machine.now ks) e (λ t others. others);
+    }
 
-pub tidy_if-requires : goal.tidy_if-requires
-tidy_if-requires c = c.loop-change.invariant.idle
+pub tidy_after-requires : goal.tidy_after-requires
+tidy_after-requires c = c.loop-place.invariant.idle
 
-pub loop-change-preserved : goal.loop-change-preserved
-loop-change-preserved c = record {
-  idle = c.tidy_if.ensures.idle;
-  rest = λ t others.
-      c.loop-change.invariant.rest t
-      (subst (λ (cs : List Change). PurgesEach c.loop-change.machine (removed_keys cs) t) (sym (drop_next c.args.changes.now c.loop-change.change-index _ c.loop-change-test.true))
-      (each_on c.loop-change.machine c.tidy_if.new.machine t _ (drop (c.loop-change.change-index + 1) c.args.changes.now) c.tidy_if.ensures.purges others));
+pub loop-place-preserved : goal.loop-place-preserved
+loop-place-preserved c = record {
+  idle = c.tidy_after.ensures.idle;
+  all = follow_on c.args.machine.now c.loop-place.machine c.tidy_after.new.machine c.args.places.items c.in-Some.place c.next.new.self.rest.items
+      (subst (λ (ks : List (List ℕ)). AllFollow c.args.machine.now c.args.places.items c.loop-place.machine ks) c.in-Some.ensures.steps.0 c.loop-place.invariant.all)
+      c.tidy_after.ensures.purges;
 }
 
-pub returns-clause-purges : goal.returns-clause-purges
-returns-clause-purges c =
-    c.loop-change.invariant.rest c.loop-change.machine
-    (subst (λ (cs : List Change). PurgesEach c.loop-change.machine (removed_keys cs) c.loop-change.machine) (sym (none_left c.args.changes.now c.loop-change.change-index (let past = c.loop-change-test.false in omega (arith, past)))) refl)
-
-pub returns-clause-idle : goal.returns-clause-idle
-returns-clause-idle c = c.loop-change.invariant.idle
+pub returns : goal.returns
+returns c = record {
+  purges =
+      let e : c.loop-place.place-iterator.rest.items ≡ [] = nil_from_length c.loop-place.place-iterator.rest.items (let none = c.in-None.ensures.steps.0 in let many = c.loop-place.place-iterator.rest.ok.0 in omega (arith, none, many)) in
+      subst (λ (ks : List (List ℕ)). AllFollow c.args.machine.now c.args.places.items c.loop-place.machine ks) e c.loop-place.invariant.all c.loop-place.machine refl;
+  idle = c.loop-place.invariant.idle;
+}

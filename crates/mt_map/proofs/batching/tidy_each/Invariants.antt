@@ -1,13 +1,10 @@
-use Rattle.std.proofs.Common.{drop}
-use Rattle.mt_batch.specs.Changes.{removed_keys}
 use Rattle.mt_index.specs.Alone.{IsIdle}
-use Rattle.mt_index.specs.Stands.{MachineView}
-use Rattle.mt_map.specs.Batches.{PurgesEach}
+use Rattle.mt_map.proofs.BatchLemmas.{AllFollow}
 use Rattle.mt_map.proofs.batching.tidy_each.Given as goal
 
--- once those follow that are left, all follow
-abbrev pub invariant-loop-change : goal.invariant-loop-change
-invariant-loop-change l = record {
+-- once tidies follow at the places that are left, they have followed at all
+abbrev pub invariant-loop-place : goal.invariant-loop-place
+invariant-loop-place l = record {
   idle : IsIdle l.machine;
-  rest : (t : MachineView) → PurgesEach l.machine (removed_keys (drop l.change-index l.changes)) t → PurgesEach l.fn.machine (removed_keys l.changes) t;
+  all : AllFollow l.fn.machine l.fn.places.items l.machine l.place-iterator.rest.items;
 }
