@@ -5,11 +5,31 @@ use crate::error::Error;
 use crate::index::Index;
 use crate::passed::{BatchChange, BatchCondition, ColumnSet};
 use crate::shared::SharedIndex;
+use std::ops::Range;
 
 /// The most conditions of a batch, and the most changes.
 pub const MAX_BATCH: usize = 1000;
 
-type Sets = Vec<(u8, Vec<u8>)>;
+// Bytes that are set: in which column, and where they are among those of the changes.
+#[derive(Clone, Debug, PartialEq, Eq)]
+struct Set {
+    column: u8,
+    bytes: Range<usize>,
+}
+
+// Where a key is among the bytes of the changes, and where its sets are; or none, if its row is removed.
+#[derive(Clone, Debug, PartialEq, Eq)]
+struct Change {
+    key: Range<usize>,
+    sets: Option<Range<usize>>,
+}
+
+// Appends a copy of some bytes, and returns where it is.
+fn append(to: &mut Vec<u8>, bytes: &[u8]) -> Range<usize> {
+    let from = to.len();
+    to.extend_from_slice(bytes);
+    from..to.len()
+}
 
 /// Changes that [`Index::batch`] makes as one, if conditions hold. It has copies of the keys and columns, and may be
 /// made more than once. Each method adds a condition or a change: up to 1000 conditions and 1000 changes, and no two
@@ -33,9 +53,14 @@ type Sets = Vec<(u8, Vec<u8>)>;
 #[derive(Clone, Debug, Default, PartialEq, Eq)]
 #[must_use]
 pub struct Batch {
-    conditions: Vec<(Vec<u8>, u64)>,
-    // a key, and the columns that are set, or none if its row is removed
-    changes: Vec<(Vec<u8>, Option<Sets>)>,
+    // where the key of a condition is, and the version
+    conditions: Vec<(Range<usize>, u64)>,
+    // the keys of all conditions
+    condition_keys: Vec<u8>,
+    changes: Vec<Change>,
+    sets: Vec<Set>,
+    // the keys of all changes, and the bytes that they set
+    bytes: Vec<u8>,
 }
 
 impl Batch {
@@ -63,7 +88,8 @@ impl Batch {
     /// # Ok::<(), Error>(())
     /// ```
     pub fn require(mut self, key: impl AsRef<[u8]>, version: u64) -> Batch {
-        self.conditions.push((key.as_ref().to_vec(), version));
+        let key = append(&mut self.condition_keys, key.as_ref());
+        self.conditions.push((key, version));
         self
     }
 
@@ -95,11 +121,17 @@ impl Batch {
     /// # Ok::<(), Error>(())
     /// ```
     pub fn put(mut self, key: impl AsRef<[u8]>, sets: &[(u8, &[u8])]) -> Batch {
-        let sets = sets
-            .iter()
-            .map(|(column, bytes)| (*column, bytes.to_vec()))
-            .collect();
-        self.changes.push((key.as_ref().to_vec(), Some(sets)));
+        let key = append(&mut self.bytes, key.as_ref());
+        let from = self.sets.len();
+        for (column, bytes) in sets {
+            let bytes = append(&mut self.bytes, bytes);
+            self.sets.push(Set {
+                column: *column,
+                bytes,
+            });
+        }
+        let sets = Some(from..self.sets.len());
+        self.changes.push(Change { key, sets });
         self
     }
 
@@ -115,7 +147,8 @@ impl Batch {
     /// # Ok::<(), Error>(())
     /// ```
     pub fn remove(mut self, key: impl AsRef<[u8]>) -> Batch {
-        self.changes.push((key.as_ref().to_vec(), None));
+        let key = append(&mut self.bytes, key.as_ref());
+        self.changes.push(Change { key, sets: None });
         self
     }
 }
@@ -162,12 +195,6 @@ impl Batched {
     }
 }
 
-fn column_sets(sets: &[(u8, Vec<u8>)]) -> Vec<ColumnSet<'_>> {
-    sets.iter()
-        .map(|(column, bytes)| ColumnSet::new(*column, bytes))
-        .collect()
-}
-
 impl Index {
     /// Makes the changes of a batch as one, if all of its conditions hold, as consecutive commits: first the puts in
     /// their order, and then the removes in theirs. If a condition doesn't hold, or a change is refused, also for
@@ -208,18 +235,20 @@ impl Index {
         let conditions: Vec<_> = batch
             .conditions
             .iter()
-            .map(|(key, version)| BatchCondition::new(key, *version))
+            .map(|(key, version)| BatchCondition::new(&batch.condition_keys[key.clone()], *version))
             .collect();
-        let sets: Vec<_> = batch
-            .changes
+        let columns: Vec<_> = batch
+            .sets
             .iter()
-            .map(|(_, sets)| sets.as_deref().map(column_sets))
+            .map(|set| ColumnSet::new(set.column, &batch.bytes[set.bytes.clone()]))
             .collect();
         let changes: Vec<_> = batch
             .changes
             .iter()
-            .zip(&sets)
-            .map(|((key, _), sets)| BatchChange::new(key, sets.as_deref()))
+            .map(|change| {
+                let sets = change.sets.clone().map(|sets| &columns[sets]);
+                BatchChange::new(&batch.bytes[change.key.clone()], sets)
+            })
             .collect();
         let (status, written) = self.library.batch(&conditions, &changes);
         match status {
